@@ -1,0 +1,17 @@
+pub mod Lists
+pub mod Numbers
+pub mod ScalarStrict
+pub mod ShortStrict
+pub mod CanonStrict
+pub mod OneFront
+pub mod CanonOne
+pub mod Decode
+pub mod DecodeSound
+pub mod DecodeComplete
+pub mod Decides
+pub mod ScalarFront
+pub mod Shortest
+pub mod Bounded
+pub mod Big
+pub mod Rows
+pub mod RawAgrees

@@ -1,0 +1,13 @@
+pub mod Codes
+pub mod Item
+pub mod Value
+pub mod Wire
+pub mod Canon
+pub mod Raw
+pub mod Sizes
+pub mod Shapes
+pub mod Typing
+pub mod OneValue
+pub mod Faults
+pub mod Refusals
+pub mod Laws

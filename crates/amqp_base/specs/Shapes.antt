@@ -1,0 +1,9 @@
+-- What is written or read part by part.
+use Rattle.std.specs.Prelude.{List}
+use Rattle.amqp_base.specs.declared.shape.Shape.{Shape}
+use Rattle.amqp_base.specs.Item.{Item, list, array, items_of}
+
+-- the item that has these parts
+unfoldable pub whole : Shape → List Item → Item
+whole Shape.List xs = list (items_of xs)
+whole Shape.Array xs = array (items_of xs)

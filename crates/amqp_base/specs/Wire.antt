@@ -1,0 +1,82 @@
+-- Which bytes spell which item.
+use Rattle.std.specs.Prelude.{◌≡◌, ℕ, ◌+◌, ◌-◌, ◌≤◌, List, [], ◌∷◌, ◌++◌, length, take, Some}
+use Rattle.amqp_base.specs.declared.format_code.EncodingCodes.{EncodingCodes}
+use Rattle.amqp_base.specs.declared.format_code.EncodingCodes.TheVariants.{List0}
+use Rattle.amqp_base.specs.declared.format_code.Category.{Category}
+use Rattle.amqp_base.specs.declared.format_code.Category.TheVariants.{Fixed, Variable, Compound, Array}
+use Rattle.amqp_base.specs.Codes.{Kind, row, code_of}
+use Rattle.amqp_base.specs.Item.{Scalar, Descriptor, descriptor_item, Item, scalar, list, map, array, described, Items, none, more, Pairs, count, in_turn}
+use Rattle.amqp_base.specs.Value.{number, payload}
+
+-- What a reader takes, and what an encoder may write: there each size is the number of the bytes behind it.
+pub data Rules : Type 0 where
+  lenient strict : Rules
+
+-- The constructor that data stands under: none yet, a primitive code, or a descriptor and a primitive code.
+pub data Constructor : Type 0 where
+  bare : Constructor
+  under : EncodingCodes → Constructor
+  under_pair : Descriptor → EncodingCodes → Constructor
+
+-- Behind a size z stand a count k, w bytes wide, and n bytes.
+abbrev pub FitsList : Rules → ℕ → ℕ → ℕ → ℕ → Type 0
+FitsList lenient w z k n = (w ≤ z) × (k ≤ 65536)
+FitsList strict w z k n = z ≡ w + n
+
+abbrev pub FitsArray : Rules → ℕ → ℕ → ℕ → ℕ → Type 0
+FitsArray lenient w z k n = (w + n ≤ z) × (k ≤ 65536) × (k ≤ z)
+FitsArray strict w z k n = z ≡ w + n
+
+-- an empty array takes as many bytes as its size says, whatever they are, and its count at least
+abbrev pub FitsEmpty : Rules → ℕ → ℕ → ℕ → Type 0
+FitsEmpty lenient w z n = n ≡ z - w
+FitsEmpty strict w z n = z ≡ w + n
+
+-- the data of an item without parts, under a code of this category
+pub data ScalarData (e : EncodingCodes) : Category → List ℕ → Scalar → Type 0 where
+  fixed : {n : ℕ} {b : List ℕ} {v : Scalar} → length b ≡ n → payload e b ≡ Some v → ScalarData e (Fixed n) b v
+  variable : {w : ℕ} (l b : List ℕ) {v : Scalar} → length l ≡ w → number l ≡ length b → payload e b ≡ Some v → ScalarData e (Variable w) (l ++ b) v
+
+-- an item without parts, with its own code
+pub data ScalarText : List ℕ → Scalar → Type 0 where
+  code_and_data : {x : ℕ} {e : EncodingCodes} {b : List ℕ} {v : Scalar} → code_of x ≡ Some e → ScalarData e (row e).category b v → ScalarText (x ∷ b) v
+
+abbrev pub DescriptorText : List ℕ → Descriptor → Type 0
+DescriptorText a d = ScalarText a (descriptor_item d)
+
+-- the bytes of an array's element constructor
+pub data Spells : List ℕ → Constructor → Type 0 where
+  primitive : {x : ℕ} {e : EncodingCodes} → code_of x ≡ Some e → Spells (x ∷ []) (under e)
+  pair : (a : List ℕ) (x : ℕ) {d : Descriptor} {e : EncodingCodes} → DescriptorText a d → code_of x ≡ Some e → Spells (0 ∷ a ++ x ∷ []) (under_pair d e)
+
+mutual
+  -- the bytes spell the item under the constructor
+  pub data Wire (r : Rules) : Constructor → List ℕ → Item → Type 0 where
+    of_code : {x : ℕ} {e : EncodingCodes} {b : List ℕ} {i : Item} → code_of x ≡ Some e → Wire r (under e) b i → Wire r bare (x ∷ b) i
+    of_described : (a b : List ℕ) {d : Descriptor} {v : Item} → DescriptorText a d → Wire r bare b v → Wire r bare (0 ∷ a ++ b) (described d v)
+    of_data : {e : EncodingCodes} {b : List ℕ} {i : Item} → Data r e (row e).kind (row e).category b i → Wire r (under e) b i
+    of_pair : {d : Descriptor} {e : EncodingCodes} {b : List ℕ} {v : Item} → Wire r (under e) b v → Wire r (under_pair d e) b (described d v)
+
+  -- the bytes are data of the item under a code of this kind and category
+  pub data Data (r : Rules) : EncodingCodes → Kind → Category → List ℕ → Item → Type 0 where
+    of_fixed : {e : EncodingCodes} {k : Kind} {n : ℕ} {b : List ℕ} {v : Scalar} → ScalarData e (Fixed n) b v → Data r e k (Fixed n) b (scalar v)
+    of_variable : {e : EncodingCodes} {k : Kind} {w : ℕ} {b : List ℕ} {v : Scalar} → ScalarData e (Variable w) b v → Data r e k (Variable w) b (scalar v)
+    list0 : Data r List0 Kind.list (Fixed 0) [] (list none)
+    of_list : {e : EncodingCodes} {w : ℕ} (z k b : List ℕ) {is : Items} → length z ≡ w → length k ≡ w → number k ≡ count is
+        → Parts r bare b is → FitsList r w (number z) (number k) (length b) → Data r e Kind.list (Compound w) (z ++ (k ++ b)) (list is)
+    of_map : {e : EncodingCodes} {w : ℕ} (z k b : List ℕ) {ps : Pairs} → length z ≡ w → length k ≡ w → number k ≡ count (in_turn ps)
+        → Parts r bare b (in_turn ps) → FitsList r w (number z) (number k) (length b) → Data r e Kind.map (Compound w) (z ++ (k ++ b)) (map ps)
+    of_array : {e : EncodingCodes} {w : ℕ} (z k m b : List ℕ) {c : Constructor} {i : Item} {is : Items} → length z ≡ w → length k ≡ w → number k ≡ count (more i is)
+        → Spells m c → Parts r c b (more i is) → FitsArray r w (number z) (number k) (length m + length b) → Data r e Kind.array (Array w) (z ++ (k ++ (m ++ b))) (array (more i is))
+    empty_array : {e : EncodingCodes} {w : ℕ} (z k b : List ℕ) → length z ≡ w → length k ≡ w → number k ≡ 0
+        → FitsEmpty r w (number z) (length b) → Data r e Kind.array (Array w) (z ++ (k ++ b)) (array none)
+
+  -- the bytes are those of the items, one after the other
+  pub data Parts (r : Rules) : Constructor → List ℕ → Items → Type 0 where
+    no_part : {c : Constructor} → Parts r c [] none
+    part : {c : Constructor} (a b : List ℕ) {i : Item} {is : Items} → Wire r c a i → Parts r c b is → Parts r c (a ++ b) (more i is)
+
+-- the first n bytes of s are there, and spell the item
+pub record Front (r : Rules) (c : Constructor) (s : List ℕ) (i : Item) (n : ℕ) : Type 0 where
+  pub within : n ≤ length s
+  pub spelled : Wire r c (take n s) i

@@ -1,0 +1,187 @@
+//! Sources and sinks of bytes, and how often they failed.
+
+ghost use Rattle.std.specs.Prelude.{◌≡◌, ◌<◌, ◌≤◌, ℕ, Bool, true, false, length, IfOk, IsTrue};
+ghost use Rattle.std.specs.Io.{ReadsAtMost};
+ghost use Rattle.std.specs.Io.KnownBytes.{WriteAppends, ReadConsumes, IsAtEnd};
+ghost use Rattle.amqp_base.specs.Faults.{Counts};
+
+use crate::Count;
+use std::io;
+use std::io::{Read, Write};
+
+/// How many faults a value has answered, for contracts alone.
+pub trait FaultCount {
+    ghost faults: { Self → ℕ };
+
+    /// Whether want of memory may go uncounted.
+    ghost grows: { Self → Bool };
+}
+
+/// A reader, by the one call that the codec makes.
+pub trait Source: Read + FaultCount + Drop {
+    /// Whether 0 bytes for a buffer that isn't empty come only at the end.
+    ghost is_honest: { Self → Bool };
+
+    /// Reads some bytes into the front of `buf` and answers how many. A fault raises the count of faults by 1.
+    fn read_some(&mut self, buf: &mut [u8]) -> Result<usize, io::ErrorKind>
+        ensures len { length buf.new ≡ length buf.old }
+        ensures bound { IfOk result (λ n. n ≤ length buf.new) }
+        ensures bytes { ReadConsumes (Self.remaining self.old) (Self.remaining self.new) result buf.new }
+        ensures counts { Counts (Self.grows self.old) (Self.faults self.old) (Self.faults self.new) result }
+        ensures end { IsTrue (is_honest self.old) → IfOk result (λ n. n ≡ 0 → 0 < length buf.old → IsAtEnd (Self.remaining self.old)) }
+        ensures honest { is_honest self.new ≡ is_honest self.old }
+        ensures grows { Self.grows self.new ≡ Self.grows self.old };
+}
+
+/// A writer, by the one call that the codec makes.
+pub trait Sink: Write + FaultCount + Drop {
+    /// Writes some bytes of the front of `bytes`, at least one where there is one, and answers how many. A fault
+    /// raises the count of faults by 1.
+    fn write_some(&mut self, bytes: &[u8]) -> Result<usize, io::ErrorKind>
+        ensures bound { IfOk result (λ n. n ≤ length bytes.now) }
+        ensures some { IfOk result (λ n. 0 < length bytes.now → 0 < n) }
+        ensures bytes { WriteAppends (Self.contents self.old) (Self.contents self.new) result bytes.now }
+        ensures counts { Counts (Self.grows self.old) (Self.faults self.old) (Self.faults self.new) result }
+        ensures grows { Self.grows self.new ≡ Self.grows self.old };
+}
+
+impl FaultCount for Vec<u8> {
+    ghost faults = { λ _. 0 };
+
+    ghost grows = { λ _. true };
+}
+
+impl Sink for Vec<u8> {
+    #[inline(always)]
+    fn write_some(&mut self, bytes: &[u8]) -> Result<usize, io::ErrorKind> {
+        match self.extend_from_slice(bytes) {
+            Ok(()) => Ok(bytes.len()),
+            Err(_) => Err(io::ErrorKind::OutOfMemory),
+        }
+    }
+}
+
+impl FaultCount for &[u8] {
+    ghost faults = { λ _. 0 };
+
+    ghost grows = { λ _. false };
+}
+
+impl Source for &[u8] {
+    ghost is_honest = { λ _. true };
+
+    fn read_some(&mut self, buf: &mut [u8]) -> Result<usize, io::ErrorKind> {
+        let n = buf.len().min(self.len());
+        let (front, rest) = self.split_at(n);
+        let (head, _) = buf.split_at_mut(n);
+        head.copy_from_slice(front);
+        *self = rest;
+        Ok(n)
+    }
+}
+
+impl<T: FaultCount> FaultCount for &mut T {
+    ghost faults = { λ t. T.faults t.now };
+
+    ghost grows = { λ t. T.grows t.now };
+}
+
+impl<S: Source> Source for &mut S {
+    ghost is_honest = { λ s. S.is_honest s.now };
+
+    fn read_some(&mut self, buf: &mut [u8]) -> Result<usize, io::ErrorKind> {
+        (**self).read_some(buf)
+    }
+}
+
+impl<W: Sink> Sink for &mut W {
+    fn write_some(&mut self, bytes: &[u8]) -> Result<usize, io::ErrorKind> {
+        (**self).write_some(bytes)
+    }
+}
+
+/// Any reader or writer, with its faults counted by a counter that takes no bytes. It isn't claimed honest.
+#[derive(Drop)]
+pub struct Counted<T> {
+    inner: T,
+    faults: Count,
+}
+
+impl<T> Counted<T> {
+    /// Counts the faults of `inner` from here on.
+    pub fn new(inner: T) -> Counted<T>
+        ensures inner { result.inner ≡ inner }
+        ensures faults { result.faults.n ≡ 0 }
+    {
+        Counted {
+            inner,
+            faults: Count::new(),
+        }
+    }
+
+    /// The reader or writer.
+    pub fn into_inner(self) -> T
+        ensures { result ≡ self.inner }
+    {
+        let Counted { inner, faults: _ } = self;
+        inner
+    }
+}
+
+impl<T> FaultCount for Counted<T> {
+    ghost faults = { λ c. c.faults.n };
+
+    ghost grows = { λ _. false };
+}
+
+impl<T: Read> Read for Counted<T> {
+    ghost remaining = { λ c. T.remaining c.inner };
+
+    fn read(&mut self, buf: &mut [u8]) -> io::Result<usize> {
+        self.inner.read(buf)
+    }
+}
+
+impl<T: Read + Drop> Source for Counted<T> {
+    ghost is_honest = { λ _. false };
+
+    fn read_some(&mut self, buf: &mut [u8]) -> Result<usize, io::ErrorKind> {
+        match self.inner.read(buf) {
+            Ok(n) => Ok(n),
+            Err(e) => {
+                self.faults.tick();
+                Err(e.kind())
+            }
+        }
+    }
+}
+
+impl<T: Write> Write for Counted<T> {
+    ghost contents = { λ c. T.contents c.inner };
+
+    fn write(&mut self, bytes: &[u8]) -> io::Result<usize> {
+        self.inner.write(bytes)
+    }
+
+    fn flush(&mut self) -> io::Result<()> {
+        self.inner.flush()
+    }
+}
+
+impl<T: Write + Drop> Sink for Counted<T> {
+    fn write_some(&mut self, bytes: &[u8]) -> Result<usize, io::ErrorKind> {
+        match self.inner.write(bytes) {
+            Ok(n) => {
+                if n == 0 && !bytes.is_empty() {
+                    self.faults.tick();
+                    return Err(io::ErrorKind::WriteZero);
+                }
+                Ok(n)
+            }
+            Err(e) => {
+                self.faults.tick();
+                Err(e.kind())
+            }
+        }
+    }
+}

@@ -1,0 +1,196 @@
+//! The format codes of AMQP 1.0 (part 1, sections 1.2 and 1.6).
+
+ghost use Rattle.std.specs.Prelude.{◌≡◌, Ok, Err};
+ghost use Rattle.amqp_base.specs.Codes.{row, CodeOf, CategoryOf};
+
+use crate::Error;
+use std::convert::TryFrom;
+use std::fmt;
+
+/// The format codes, each with its byte: the described constructor and the 39 primitive ones.
+#[derive(Debug, Clone, Copy, PartialEq, Eq)]
+pub enum EncodingCodes {
+    DescribedType = 0x00,
+    Null = 0x40,
+    Boolean = 0x56,
+    BooleanTrue = 0x41,
+    BooleanFalse = 0x42,
+    Ubyte = 0x50,
+    Ushort = 0x60,
+    Uint = 0x70,
+    SmallUint = 0x52,
+    Uint0 = 0x43,
+    Ulong = 0x80,
+    SmallUlong = 0x53,
+    Ulong0 = 0x44,
+    Byte = 0x51,
+    Short = 0x61,
+    Int = 0x71,
+    SmallInt = 0x54,
+    Long = 0x81,
+    SmallLong = 0x55,
+    Float = 0x72,
+    Double = 0x82,
+    Decimal32 = 0x74,
+    Decimal64 = 0x84,
+    Decimal128 = 0x94,
+    Char = 0x73,
+    Timestamp = 0x83,
+    Uuid = 0x98,
+    Vbin8 = 0xa0,
+    Vbin32 = 0xb0,
+    Str8 = 0xa1,
+    Str32 = 0xb1,
+    Sym8 = 0xa3,
+    Sym32 = 0xb3,
+    List0 = 0x45,
+    List8 = 0xc0,
+    List32 = 0xd0,
+    Map8 = 0xc1,
+    Map32 = 0xd1,
+    Array8 = 0xe0,
+    Array32 = 0xf0,
+}
+
+/// What stands behind a code, by width in bytes (part 1, section 1.2).
+#[derive(Debug, Clone, Copy, PartialEq, Eq)]
+pub enum Category {
+    /// So many bytes of data.
+    Fixed(usize),
+    /// A length of so many bytes, then as many bytes as it says.
+    Variable(usize),
+    /// A size and a count of so many bytes each, then items with constructors of their own.
+    Compound(usize),
+    /// A size and a count of so many bytes each, one element constructor, then the data of each element.
+    Array(usize),
+}
+
+/// The described constructor has no category: a descriptor and a value stand behind it.
+#[derive(Debug, Clone, Copy, PartialEq, Eq)]
+pub struct IsDescribed;
+
+impl EncodingCodes {
+    /// The code's byte.
+    #[inline(always)]
+    #[tactic(auto, unfolding(crate::specs::Codes::row))]
+    pub fn byte(self) -> u8
+        ensures { result ≡ (row self).byte }
+    {
+        self as u8
+    }
+}
+
+impl TryFrom<u8> for EncodingCodes {
+    type Error = Error;
+
+    ghost try_from_gives = { CodeOf };
+
+    /// The code of a byte, or `InvalidFormatCode`.
+    #[inline(always)]
+    #[tactic(auto, unfolding(crate::specs::Codes::code_of, crate::specs::Codes::row))]
+    fn try_from(byte: u8) -> Result<EncodingCodes, Error> {
+        match byte {
+            0x00 => Ok(EncodingCodes::DescribedType),
+            0x40 => Ok(EncodingCodes::Null),
+            0x56 => Ok(EncodingCodes::Boolean),
+            0x41 => Ok(EncodingCodes::BooleanTrue),
+            0x42 => Ok(EncodingCodes::BooleanFalse),
+            0x50 => Ok(EncodingCodes::Ubyte),
+            0x60 => Ok(EncodingCodes::Ushort),
+            0x70 => Ok(EncodingCodes::Uint),
+            0x52 => Ok(EncodingCodes::SmallUint),
+            0x43 => Ok(EncodingCodes::Uint0),
+            0x80 => Ok(EncodingCodes::Ulong),
+            0x53 => Ok(EncodingCodes::SmallUlong),
+            0x44 => Ok(EncodingCodes::Ulong0),
+            0x51 => Ok(EncodingCodes::Byte),
+            0x61 => Ok(EncodingCodes::Short),
+            0x71 => Ok(EncodingCodes::Int),
+            0x54 => Ok(EncodingCodes::SmallInt),
+            0x81 => Ok(EncodingCodes::Long),
+            0x55 => Ok(EncodingCodes::SmallLong),
+            0x72 => Ok(EncodingCodes::Float),
+            0x82 => Ok(EncodingCodes::Double),
+            0x74 => Ok(EncodingCodes::Decimal32),
+            0x84 => Ok(EncodingCodes::Decimal64),
+            0x94 => Ok(EncodingCodes::Decimal128),
+            0x73 => Ok(EncodingCodes::Char),
+            0x83 => Ok(EncodingCodes::Timestamp),
+            0x98 => Ok(EncodingCodes::Uuid),
+            0xa0 => Ok(EncodingCodes::Vbin8),
+            0xb0 => Ok(EncodingCodes::Vbin32),
+            0xa1 => Ok(EncodingCodes::Str8),
+            0xb1 => Ok(EncodingCodes::Str32),
+            0xa3 => Ok(EncodingCodes::Sym8),
+            0xb3 => Ok(EncodingCodes::Sym32),
+            0x45 => Ok(EncodingCodes::List0),
+            0xc0 => Ok(EncodingCodes::List8),
+            0xd0 => Ok(EncodingCodes::List32),
+            0xc1 => Ok(EncodingCodes::Map8),
+            0xd1 => Ok(EncodingCodes::Map32),
+            0xe0 => Ok(EncodingCodes::Array8),
+            0xf0 => Ok(EncodingCodes::Array32),
+            _ => Err(Error::InvalidFormatCode),
+        }
+    }
+}
+
+impl TryFrom<EncodingCodes> for Category {
+    type Error = IsDescribed;
+
+    ghost try_from_gives = { CategoryOf };
+
+    /// What stands behind a primitive code.
+    #[tactic(auto, unfolding(crate::specs::Codes::row))]
+    fn try_from(code: EncodingCodes) -> Result<Category, IsDescribed> {
+        match code {
+            EncodingCodes::DescribedType => Err(IsDescribed),
+            EncodingCodes::Null => Ok(Category::Fixed(0)),
+            EncodingCodes::Boolean => Ok(Category::Fixed(1)),
+            EncodingCodes::BooleanTrue => Ok(Category::Fixed(0)),
+            EncodingCodes::BooleanFalse => Ok(Category::Fixed(0)),
+            EncodingCodes::Ubyte => Ok(Category::Fixed(1)),
+            EncodingCodes::Ushort => Ok(Category::Fixed(2)),
+            EncodingCodes::Uint => Ok(Category::Fixed(4)),
+            EncodingCodes::SmallUint => Ok(Category::Fixed(1)),
+            EncodingCodes::Uint0 => Ok(Category::Fixed(0)),
+            EncodingCodes::Ulong => Ok(Category::Fixed(8)),
+            EncodingCodes::SmallUlong => Ok(Category::Fixed(1)),
+            EncodingCodes::Ulong0 => Ok(Category::Fixed(0)),
+            EncodingCodes::Byte => Ok(Category::Fixed(1)),
+            EncodingCodes::Short => Ok(Category::Fixed(2)),
+            EncodingCodes::Int => Ok(Category::Fixed(4)),
+            EncodingCodes::SmallInt => Ok(Category::Fixed(1)),
+            EncodingCodes::Long => Ok(Category::Fixed(8)),
+            EncodingCodes::SmallLong => Ok(Category::Fixed(1)),
+            EncodingCodes::Float => Ok(Category::Fixed(4)),
+            EncodingCodes::Double => Ok(Category::Fixed(8)),
+            EncodingCodes::Decimal32 => Ok(Category::Fixed(4)),
+            EncodingCodes::Decimal64 => Ok(Category::Fixed(8)),
+            EncodingCodes::Decimal128 => Ok(Category::Fixed(16)),
+            EncodingCodes::Char => Ok(Category::Fixed(4)),
+            EncodingCodes::Timestamp => Ok(Category::Fixed(8)),
+            EncodingCodes::Uuid => Ok(Category::Fixed(16)),
+            EncodingCodes::Vbin8 => Ok(Category::Variable(1)),
+            EncodingCodes::Vbin32 => Ok(Category::Variable(4)),
+            EncodingCodes::Str8 => Ok(Category::Variable(1)),
+            EncodingCodes::Str32 => Ok(Category::Variable(4)),
+            EncodingCodes::Sym8 => Ok(Category::Variable(1)),
+            EncodingCodes::Sym32 => Ok(Category::Variable(4)),
+            EncodingCodes::List0 => Ok(Category::Fixed(0)),
+            EncodingCodes::List8 => Ok(Category::Compound(1)),
+            EncodingCodes::List32 => Ok(Category::Compound(4)),
+            EncodingCodes::Map8 => Ok(Category::Compound(1)),
+            EncodingCodes::Map32 => Ok(Category::Compound(4)),
+            EncodingCodes::Array8 => Ok(Category::Array(1)),
+            EncodingCodes::Array32 => Ok(Category::Array(4)),
+        }
+    }
+}
+
+impl fmt::Display for EncodingCodes {
+    /// The name, `:0x` and the byte in lower hexadecimal without leading zeros.
+    fn fmt<W: fmt::Write>(&self, f: &mut fmt::Formatter<W>) -> fmt::Result {
+        write!(f, "{:?}:0x{:x}", self, self.byte())
+    }
+}
