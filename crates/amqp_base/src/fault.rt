@@ -1,6 +1,7 @@
 //! Sources and sinks of bytes, and how often they failed.
 
-ghost use Rattle.std.specs.Prelude.{◌≡◌, ◌<◌, ◌≤◌, ℕ, Bool, true, false, length, IfOk, IsTrue};
+ghost use Rattle.std.specs.Prelude.{◌≡◌, ◌<◌, ◌≤◌, ℕ, Bool, true, false, List, [], ◌∷◌, length, IfOk, IsTrue};
+ghost use Rattle.std.specs.Borrow.{GName};
 ghost use Rattle.std.specs.Io.{ReadsAtMost};
 ghost use Rattle.std.specs.Io.KnownBytes.{WriteAppends, ReadConsumes, IsAtEnd};
 ghost use Rattle.amqp_base.specs.Faults.{Counts};
@@ -22,6 +23,9 @@ pub trait Source: Read + FaultCount + Drop {
     /// Whether 0 bytes for a buffer that isn't empty come only at the end.
     ghost is_honest: { Self → Bool };
 
+    /// The references through which it is lent, outermost first.
+    ghost origin: { Self → List GName };
+
     /// Reads some bytes into the front of `buf` and answers how many. A fault raises the count of faults by 1.
     fn read_some(&mut self, buf: &mut [u8]) -> Result<usize, io::ErrorKind>
         ensures len { length buf.new ≡ length buf.old }
@@ -30,6 +34,7 @@ pub trait Source: Read + FaultCount + Drop {
         ensures counts { Counts (Self.grows self.old) (Self.faults self.old) (Self.faults self.new) result }
         ensures end { IsTrue (is_honest self.old) → IfOk result (λ n. n ≡ 0 → 0 < length buf.old → IsAtEnd (Self.remaining self.old)) }
         ensures honest { is_honest self.new ≡ is_honest self.old }
+        ensures origin { origin self.new ≡ origin self.old }
         ensures grows { Self.grows self.new ≡ Self.grows self.old };
 }
 
@@ -70,6 +75,8 @@ impl FaultCount for &[u8] {
 impl Source for &[u8] {
     ghost is_honest = { λ _. true };
 
+    ghost origin = { λ _. [] };
+
     fn read_some(&mut self, buf: &mut [u8]) -> Result<usize, io::ErrorKind> {
         let n = buf.len().min(self.len());
         let (front, rest) = self.split_at(n);
@@ -88,6 +95,8 @@ impl<T: FaultCount> FaultCount for &mut T {
 
 impl<S: Source> Source for &mut S {
     ghost is_honest = { λ s. S.is_honest s.now };
+
+    ghost origin = { λ s. s.ghost_name ∷ S.origin s.now };
 
     fn read_some(&mut self, buf: &mut [u8]) -> Result<usize, io::ErrorKind> {
         (**self).read_some(buf)
@@ -144,6 +153,8 @@ impl<T: Read> Read for Counted<T> {
 
 impl<T: Read + Drop> Source for Counted<T> {
     ghost is_honest = { λ _. false };
+
+    ghost origin = { λ _. [] };
 
     fn read_some(&mut self, buf: &mut [u8]) -> Result<usize, io::ErrorKind> {
         match self.inner.read(buf) {
