@@ -1,0 +1,39 @@
+-- What a reader is to its callers.
+use Rattle.std.specs.Prelude.{◌≡◌, ℕ, ◌+◌, ◌-◌, ◌≤◌, Bool, List, length, Option}
+use Rattle.std.specs.Borrow.{GName}
+use Rattle.std.specs.Io.KnownBytes.{Consumes, Keeps}
+
+pub record Reading : Type 0 where
+  -- the bytes to come, where the source tells them
+  pub to_come : Option (List ℕ)
+  -- how many bytes were consumed
+  pub taken : ℕ
+  -- how many of the bytes to come were received from the source already
+  pub ahead : ℕ
+  -- how many faults the source has answered
+  pub faults : ℕ
+  -- 0 bytes for a buffer that isn't empty come only at the source's end
+  pub honest : Bool
+  -- the references through which the source is lent
+  pub origin : List GName
+
+-- what every call keeps
+pub record Steady (old new : Reading) : Type 0 where
+  pub honest : new.honest ≡ old.honest
+  pub origin : new.origin ≡ old.origin
+  pub faults : old.faults ≤ new.faults
+  pub taken : old.taken ≤ new.taken
+
+-- nothing was consumed, and no received byte was lost
+pub record Stays (old new : Reading) : Type 0 where
+  pub to_come : Keeps old.to_come new.to_come
+  pub taken : new.taken ≡ old.taken
+  pub ahead : old.ahead ≤ new.ahead
+  pub steady : Steady old new
+
+-- these bytes were consumed, and nothing behind them was received
+pub record Takes (old new : Reading) (bytes : List ℕ) : Type 0 where
+  pub to_come : Consumes old.to_come new.to_come bytes
+  pub taken : new.taken ≡ old.taken + length bytes
+  pub ahead : new.ahead ≡ old.ahead - length bytes
+  pub steady : Steady old new

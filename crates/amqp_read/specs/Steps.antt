@@ -1,0 +1,42 @@
+-- What the calls of a reader answer.
+use Rattle.std.specs.Prelude.{◌≡◌, ◌⊎◌, ℕ, ◌+◌, ◌^◌, ◌<◌, ◌≤◌, max, Bool, IsTrue, List, length, take, Option, None, Some, ⊤}
+use Rattle.std.specs.Io.KnownBytes.{IsAtEnd}
+use Rattle.std.specs.declared.io.ErrorKind.TheVariants.{UnexpectedEof, Other}
+use Rattle.amqp_base.specs.declared.error.Error.{Error}
+use Rattle.amqp_base.specs.declared.error.Error.TheVariants.{Io, OutOfMemory}
+use Rattle.amqp_read.specs.Reading.{Reading, Stays}
+
+-- known bytes begin with these
+abbrev pub StartsWith : Option (List ℕ) → List ℕ → Type 0
+StartsWith None b = ⊤
+StartsWith (Some s) b = take (length b) s ≡ b
+
+-- fewer than n known bytes are to come
+abbrev pub ShortOf : ℕ → Option (List ℕ) → Type 0
+ShortOf n None = ⊤
+ShortOf n (Some s) = length s < n
+
+-- no byte is to come, where the source is honest
+abbrev pub Ended : Reading → Type 0
+Ended r = IsTrue r.honest → IsAtEnd r.to_come
+
+-- fewer than n bytes are to come, where the source is honest
+abbrev pub IsShort : ℕ → Reading → Type 0
+IsShort n r = IsTrue r.honest → ShortOf n r.to_come
+
+-- want of memory, where the call may grow; or a fault of the source, where the reader buffers
+abbrev pub Fails : Bool → Bool → Reading → Reading → Error → Type 0
+Fails grows buffers old new e = ((e ≡ OutOfMemory) × IsTrue grows) ⊎ ((old.faults < new.faults) × IsTrue buffers)
+
+-- n more bytes can't be counted; a reader over a slice always can
+abbrev pub PassesCount : Bool → ℕ → Reading → Error → Type 0
+PassesCount buffers n old e = (e ≡ Io Other) × IsTrue buffers × (2 ^ 64 ≤ old.taken + n)
+
+-- why n bytes were not consumed
+abbrev pub NotTaken : Bool → Bool → ℕ → Reading → Reading → Error → Type 0
+NotTaken grows buffers n old new e = ((e ≡ Io UnexpectedEof) × IsShort n old) ⊎ (Fails grows buffers old new e ⊎ PassesCount buffers n old e)
+
+-- a look: nothing was consumed, and no byte behind the n that were looked at was received
+pub record Looked (n : ℕ) (old new : Reading) : Type 0 where
+  pub stays : Stays old new
+  pub ahead : new.ahead ≤ max old.ahead n

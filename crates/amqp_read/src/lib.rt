@@ -1,0 +1,8 @@
+//! Readers: a list of bytes to come, a position, and bytes that were received ahead.
+#![tactic(auto)]
+
+mod read;
+mod slice_reader;
+
+pub use read::{Read, read_const_bytes};
+pub use slice_reader::SliceReader;

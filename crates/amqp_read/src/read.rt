@@ -1,0 +1,68 @@
+//! What every reader does.
+
+ghost use Rattle.std.specs.Prelude.{◌≡◌, ◌≢◌, ◌⊎◌, ◌+◌, ◌<◌, ◌≤◌, ℕ, Bool, true, IsTrue, List, [], ◌∷◌, length, OnOk, OnErr, IfOk, IfErr, MatchOption};
+ghost use Rattle.amqp_read.specs.Reading.{Reading, Stays, Takes};
+ghost use Rattle.amqp_read.specs.Steps.{StartsWith, Ended, IsShort, Fails, NotTaken, Looked};
+
+use amqp_base::Error;
+use std::alloc::Global;
+
+pub(crate) mod sealed {
+    /// Only this crate's readers are readers.
+    pub trait Sealed {}
+}
+
+/// Bytes to come, a position, and bytes that were received ahead. A refused call changes nothing that a caller sees:
+/// the position stays, and no received byte is lost.
+pub trait Read: sealed::Sealed + Drop {
+    ghost reading: { Self → Reading };
+
+    /// Whether bytes are received from a source, which may fail, into a buffer, which may find no memory.
+    ghost buffers: { Bool };
+
+    /// The next byte, which stays; `None` at the end.
+    fn peek(&mut self) -> Result<Option<u8>, Error>
+        ensures ok { IfOk result (λ o. MatchOption o (Ended (reading self.old)) (λ b. StartsWith (reading self.old).to_come (b ∷ []))) }
+        ensures looked { Looked 1 (reading self.old) (reading self.new) }
+        ensures why { IfErr result (λ e. Fails buffers buffers (reading self.old) (reading self.new) e) };
+
+    /// How many bytes were consumed; peeked bytes don't count.
+    fn bytes_consumed(&self) -> usize
+        ensures { result ≡ (reading self.now).taken };
+
+    /// Consumes the next byte; `None` at the end.
+    fn next(&mut self) -> Result<Option<u8>, Error>
+        ensures ok { IfOk result (λ o. MatchOption o (Stays (reading self.old) (reading self.new) × Ended (reading self.old)) (λ b. Takes (reading self.old) (reading self.new) (b ∷ []))) }
+        ensures err { OnErr result (Stays (reading self.old) (reading self.new)) }
+        ensures why { IfErr result (λ e. NotTaken buffers buffers 1 (reading self.old) (reading self.new) e) };
+
+    /// Fills `buf` with the next bytes; `Io(UnexpectedEof)` where fewer are to come. A refusal leaves `buf` as it was.
+    fn read_exact(&mut self, buf: &mut [u8]) -> Result<(), Error>
+        ensures len { length buf.new ≡ length buf.old }
+        ensures ok { OnOk result (Takes (reading self.old) (reading self.new) buf.new) }
+        ensures err { OnErr result (Stays (reading self.old) (reading self.new) × (buf.new ≡ buf.old)) }
+        ensures why { IfErr result (λ e. NotTaken buffers buffers (length buf.old) (reading self.old) (reading self.new) e) };
+
+    /// The next `n` bytes, which stay; `None` where fewer are to come.
+    fn peek_bytes(&mut self, n: usize) -> Result<Option<&[u8]>, Error>
+        ensures ok { IfOk result (λ o. MatchOption o (IsShort n (reading self.old)) (λ b. (length b.now ≡ n) × StartsWith (reading self.old).to_come b.now)) };
+
+    /// Consumes the next `n` bytes; `Io(UnexpectedEof)` where fewer are to come. Memory is asked for only after the
+    /// bytes are there.
+    fn read_bytes(&mut self, alloc: Global, n: usize) -> Result<Vec<u8>, Error>
+        ensures ok { IfOk result (λ v. (length v.items ≡ n) × Takes (reading self.old) (reading self.new) v.items) }
+        ensures err { OnErr result (Stays (reading self.old) (reading self.new)) }
+        ensures why { IfErr result (λ e. NotTaken true buffers n (reading self.old) (reading self.new) e) };
+}
+
+/// Consumes the next `N` bytes; `Io(UnexpectedEof)` where fewer are to come.
+#[inline(always)]
+pub fn read_const_bytes<R: Read, const N: usize>(reader: &mut R) -> Result<[u8; N], Error>
+    ensures ok { IfOk result (λ b. (length b ≡ N) × Takes (R.reading reader.old) (R.reading reader.new) b) }
+    ensures err { OnErr result (Stays (R.reading reader.old) (R.reading reader.new)) }
+    ensures why { IfErr result (λ e. NotTaken R.buffers R.buffers N (R.reading reader.old) (R.reading reader.new) e) }
+{
+    let mut bytes = [0; N];
+    reader.read_exact(&mut bytes)?;
+    Ok(bytes)
+}

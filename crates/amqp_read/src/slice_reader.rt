@@ -1,0 +1,123 @@
+//! A reader over bytes in memory.
+
+ghost use Rattle.std.specs.Prelude.{◌≡◌, ◌<◌, ◌≤◌, ◌+◌, ◌^◌, ℕ, Bool, true, false, List, [], ◌∷◌, length, IfOk, IfErr, MatchOption, Some};
+ghost use Rattle.std.specs.declared.io.ErrorKind.TheVariants.{UnexpectedEof};
+ghost use Rattle.amqp_base.specs.declared.error.Error.TheVariants.{Io};
+ghost use Rattle.amqp_read.specs.Reading.{Reading, Takes};
+ghost use Rattle.amqp_read.specs.Steps.{ShortOf, StartsWith};
+
+use crate::Read;
+use crate::read::sealed::Sealed;
+use amqp_base::Error;
+use std::alloc::Global;
+use std::io::ErrorKind;
+use std::marker::Model;
+
+/// Reads bytes in memory. All of them count as to come, none as received.
+#[derive(Drop)]
+pub struct SliceReader<'s> {
+    rest: &'s [u8],
+    taken: usize,
+}
+
+impl<'s> Model for SliceReader<'s> {
+    ghost use Rattle.std.specs.Prelude.{ℕ, ◌<◌, ◌+◌, ◌^◌, length, true, [], Some};
+    ghost use Rattle.amqp_read.specs.Reading.{Reading};
+
+    ghost Value = { Reading };
+
+    ghost view = { λ r. record { to_come = Some r.rest.now; taken = r.taken; ahead = 0; faults = 0; honest = true; origin = [] } };
+
+    ghost invariant = { λ r. r.taken + length r.rest.now < 2 ^ 64 };
+}
+
+impl<'s> SliceReader<'s> {
+    /// Reads from the first byte of `slice` on.
+    pub fn new(slice: &'s [u8]) -> SliceReader<'s>
+        ensures { result ≡ record { to_come = Some slice.now; taken = 0; ahead = 0; faults = 0; honest = true; origin = [] } }
+    {
+        SliceReader {
+            rest: slice,
+            taken: 0,
+        }
+    }
+
+    /// Consumes the next `n` bytes and lends them for as long as the slice lives; `Io(UnexpectedEof)` where fewer are
+    /// to come, which changes nothing.
+    #[inline(always)]
+    pub fn get_byte_slice(&mut self, n: usize) -> Result<&'s [u8], Error>
+        ensures ok { IfOk result (λ s. (length s.now ≡ n) × Takes self.old self.new s.now) }
+        ensures err { IfErr result (λ e. (e ≡ Io UnexpectedEof) × ShortOf n self.old.to_come × (self.new ≡ self.old)) }
+    {
+        if n > self.rest.len() {
+            return Err(Error::Io(ErrorKind::UnexpectedEof));
+        }
+        let (front, rest) = self.rest.split_at(n);
+        self.rest = rest;
+        self.taken += n;
+        Ok(front)
+    }
+}
+
+impl<'s> Sealed for SliceReader<'s> {}
+
+impl<'s> Read for SliceReader<'s> {
+    ghost reading = { λ r. r };
+
+    ghost buffers = { false };
+
+    #[inline(always)]
+    fn peek(&mut self) -> Result<Option<u8>, Error> {
+        Ok(self.rest.first().copied())
+    }
+
+    #[inline(always)]
+    fn bytes_consumed(&self) -> usize {
+        self.taken
+    }
+
+    #[inline(always)]
+    fn next(&mut self) -> Result<Option<u8>, Error> {
+        match self.rest {
+            [] => Ok(None),
+            [b, rest @ ..] => {
+                let b = *b;
+                self.rest = rest;
+                self.taken += 1;
+                Ok(Some(b))
+            }
+        }
+    }
+
+    #[inline(always)]
+    fn read_exact(&mut self, buf: &mut [u8]) -> Result<(), Error> {
+        let bytes = self.get_byte_slice(buf.len())?;
+        buf.copy_from_slice(bytes);
+        Ok(())
+    }
+
+    #[inline(always)]
+    fn peek_bytes(&mut self, n: usize) -> Result<Option<&[u8]>, Error> {
+        Ok(front(self, n))
+    }
+
+    #[inline(always)]
+    fn read_bytes(&mut self, alloc: Global, n: usize) -> Result<Vec<u8>, Error> {
+        if n > self.rest.len() {
+            return Err(Error::Io(ErrorKind::UnexpectedEof));
+        }
+        let (front, rest) = self.rest.split_at(n);
+        let bytes = Vec::from_slice(alloc, front)?;
+        self.rest = rest;
+        self.taken += n;
+        Ok(bytes)
+    }
+}
+
+/// The next `n` bytes, where there are so many.
+#[inline(always)]
+fn front<'a>(reader: &'a SliceReader<'_>, n: usize) -> Option<&'a [u8]>
+    ensures { MatchOption result (ShortOf n reader.now.to_come) (λ b. (length b.now ≡ n) × StartsWith reader.now.to_come b.now) }
+{
+    reader.rest.get(..n)
+}
