@@ -15,3 +15,4 @@ pub mod Bounded
 pub mod Big
 pub mod Rows
 pub mod RawAgrees
+pub mod Kinds

@@ -1,5 +1,5 @@
 -- The format codes: each has one byte, one kind, one category and one width.
-use Rattle.std.specs.Prelude.{◌≡◌, ℕ, ◌==◌, cond, List, [], ◌∷◌, Option, Some, None, Result, Ok, Err}
+use Rattle.std.specs.Prelude.{◌≡◌, ℕ, ◌==◌, Bool, cond, List, [], ◌∷◌, Option, Some, None, Result, Ok, Err}
 use Rattle.amqp_base.specs.declared.format_code.EncodingCodes.{EncodingCodes}
 use Rattle.amqp_base.specs.declared.format_code.EncodingCodes.TheVariants.{DescribedType, Null, Boolean, BooleanTrue, BooleanFalse, Ubyte, Ushort, Uint, SmallUint, Uint0, Ulong, SmallUlong, Ulong0, Byte, Short, Int, SmallInt, Long, SmallLong, Float, Double, Decimal32, Decimal64, Decimal128, Char, Timestamp, Uuid, Vbin8, Vbin32, Str8, Str32, Sym8, Sym32, List0, List8, List32, Map8, Map32, Array8, Array32}
 use Rattle.amqp_base.specs.declared.format_code.Category.{Category}
@@ -116,3 +116,34 @@ CodeOf b (Err e) = (e ≡ InvalidFormatCode) × ((d : EncodingCodes) → (row d)
 abbrev pub CategoryOf : EncodingCodes → Result Category IsDescribed → Type 0
 CategoryOf e (Ok c) = ((row e).category ≡ c) × (e ≡ DescribedType → ⊥)
 CategoryOf e (Err d) = e ≡ DescribedType
+
+-- the place of a kind among the kinds, by which kinds are told apart
+unfoldable pub place : Kind → ℕ
+place Kind.described = 0
+place Kind.null = 1
+place Kind.boolean = 2
+place Kind.ubyte = 3
+place Kind.ushort = 4
+place Kind.uint = 5
+place Kind.ulong = 6
+place Kind.byte = 7
+place Kind.short = 8
+place Kind.int = 9
+place Kind.long = 10
+place Kind.float = 11
+place Kind.double = 12
+place Kind.decimal32 = 13
+place Kind.decimal64 = 14
+place Kind.decimal128 = 15
+place Kind.char = 16
+place Kind.timestamp = 17
+place Kind.uuid = 18
+place Kind.binary = 19
+place Kind.string = 20
+place Kind.symbol = 21
+place Kind.list = 22
+place Kind.map = 23
+place Kind.array = 24
+
+unfoldable pub same_kind : Kind → Kind → Bool
+same_kind a b = place a == place b

@@ -1,5 +1,7 @@
 -- Which item a value is written as, which items a type takes, and which value each of them is read as.
 use Rattle.std.specs.Prelude.{ℕ, Bool, true, false, ◌&&◌, List, [], ◌∷◌}
+use Rattle.amqp_base.specs.Codes.{Kind, same_kind}
+use Rattle.amqp_base.specs.Canon.{kind_of}
 use Rattle.amqp_base.specs.declared.shape.Setting.{Setting}
 use Rattle.amqp_base.specs.declared.shape.Setting.TheVariants.{Plain, Symbol, DescribedList, DescribedMap, DescribedBasic}
 use Rattle.amqp_base.specs.Item.{Scalar, uint, int, string, symbol, Item, scalar, list, Items, none, more}
@@ -16,29 +18,10 @@ text_item bytes DescribedBasic = scalar (string bytes)
 abbrev pub OneValue : {T : Type 0} → (Item → T → Type 0) → (T → T → Type 0) → Type 0
 OneValue {T} means same = (i : Item) (v w : T) → means i v → means i w → same v w
 
-abbrev pub is_uint_scalar : Scalar → Bool
-is_uint_scalar (uint n) = true
-is_uint_scalar v = false
-
-abbrev pub is_uint : Item → Bool
-is_uint (scalar v) = is_uint_scalar v
-is_uint i = false
-
-abbrev pub is_int_scalar : Scalar → Bool
-is_int_scalar (int n) = true
-is_int_scalar v = false
-
-abbrev pub is_int : Item → Bool
-is_int (scalar v) = is_int_scalar v
-is_int i = false
-
-abbrev pub is_string_scalar : Scalar → Bool
-is_string_scalar (string b) = true
-is_string_scalar v = false
-
-abbrev pub is_string : Item → Bool
-is_string (scalar v) = is_string_scalar v
-is_string i = false
+-- an item without parts, of this kind
+abbrev pub is_of : Kind → Item → Bool
+is_of k (scalar v) = same_kind (kind_of v) k
+is_of k i = false
 
 -- every part is taken
 abbrev pub all_taken : (Item → Bool) → Items → Bool

@@ -38,12 +38,13 @@ pub trait Typed: Drop {
 impl Typed for u32 {
     ghost use Rattle.std.specs.Prelude.{refl};
     ghost use Rattle.amqp_base.specs.Item.{scalar, uint};
-    ghost use Rattle.amqp_base.specs.Typing.{is_uint};
+    ghost use Rattle.amqp_base.specs.Codes.{Kind};
+    ghost use Rattle.amqp_base.specs.Typing.{is_of};
     ghost use Rattle.amqp_base.specs.OneValue.{one_uint};
 
     ghost item = { λ v _. scalar (uint v) };
 
-    ghost takes = { is_uint };
+    ghost takes = { is_of Kind.uint };
 
     ghost means = { λ i v. i ≡ scalar (uint v) };
 
@@ -61,12 +62,13 @@ impl Typed for u32 {
 impl Typed for i32 {
     ghost use Rattle.std.specs.Prelude.{refl};
     ghost use Rattle.amqp_base.specs.Item.{scalar, int};
-    ghost use Rattle.amqp_base.specs.Typing.{is_int};
+    ghost use Rattle.amqp_base.specs.Codes.{Kind};
+    ghost use Rattle.amqp_base.specs.Typing.{is_of};
     ghost use Rattle.amqp_base.specs.OneValue.{one_int};
 
     ghost item = { λ v _. scalar (int v) };
 
-    ghost takes = { is_int };
+    ghost takes = { is_of Kind.int };
 
     ghost means = { λ i v. i ≡ scalar (int v) };
 
@@ -84,12 +86,13 @@ impl Typed for i32 {
 impl Typed for String {
     ghost use Rattle.std.specs.Prelude.{refl};
     ghost use Rattle.amqp_base.specs.Item.{scalar, string};
-    ghost use Rattle.amqp_base.specs.Typing.{is_string, text_item};
+    ghost use Rattle.amqp_base.specs.Typing.{is_of, text_item};
+    ghost use Rattle.amqp_base.specs.Codes.{Kind};
     ghost use Rattle.amqp_base.specs.OneValue.{one_string};
 
     ghost item = { λ v setting. text_item (string_bytes v) setting };
 
-    ghost takes = { is_string };
+    ghost takes = { is_of Kind.string };
 
     ghost means = { λ i v. i ≡ scalar (string (string_bytes v)) };
 

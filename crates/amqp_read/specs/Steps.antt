@@ -28,9 +28,14 @@ IsShort n r = IsTrue r.honest → ShortOf n r.to_come
 abbrev pub Fails : Bool → Bool → Reading → Reading → Error → Type 0
 Fails grows buffers old new e = ((e ≡ OutOfMemory) × IsTrue grows) ⊎ ((old.faults < new.faults) × IsTrue buffers)
 
--- n more bytes can't be counted; a reader over a slice always can
+-- n bytes are to come, where that is known
+abbrev pub HasBytes : ℕ → Option (List ℕ) → Type 0
+HasBytes n None = ⊤
+HasBytes n (Some s) = n ≤ length s
+
+-- n more bytes are there but can't be counted; a reader over a slice always can
 abbrev pub PassesCount : Bool → ℕ → Reading → Error → Type 0
-PassesCount buffers n old e = (e ≡ Io Other) × IsTrue buffers × (2 ^ 64 ≤ old.taken + n)
+PassesCount buffers n old e = (e ≡ Io Other) × IsTrue buffers × (2 ^ 64 ≤ old.taken + n) × HasBytes n old.to_come
 
 -- why n bytes were not consumed
 abbrev pub NotTaken : Bool → Bool → ℕ → Reading → Reading → Error → Type 0
