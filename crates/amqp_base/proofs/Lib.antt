@@ -15,4 +15,4 @@ pub mod Bounded
 pub mod Big
 pub mod Rows
 pub mod RawAgrees
-pub mod Kinds
+pub mod KindPlaces

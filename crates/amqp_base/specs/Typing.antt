@@ -4,7 +4,7 @@ use Rattle.amqp_base.specs.Codes.{Kind, same_kind}
 use Rattle.amqp_base.specs.Canon.{kind_of}
 use Rattle.amqp_base.specs.declared.shape.Setting.{Setting}
 use Rattle.amqp_base.specs.declared.shape.Setting.TheVariants.{Plain, Symbol, DescribedList, DescribedMap, DescribedBasic}
-use Rattle.amqp_base.specs.Item.{Scalar, uint, int, string, symbol, Item, scalar, list, Items, none, more}
+use Rattle.amqp_base.specs.Item.{string, symbol, Item, scalar, list, Items, none, more}
 
 -- a text: a symbol under the symbol setting, else a string
 abbrev pub text_item : List ℕ → Setting → Item
