@@ -16,3 +16,4 @@ pub mod Big
 pub mod Rows
 pub mod RawAgrees
 pub mod KindPlaces
+pub mod CodeAgain

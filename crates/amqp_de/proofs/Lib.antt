@@ -1,0 +1,10 @@
+pub mod Readings
+pub mod Begun
+pub mod Data
+pub mod Answered
+pub mod Fixed
+pub mod KindCodes
+pub mod Sized
+pub mod Headers
+pub mod Opening
+pub mod Sequence

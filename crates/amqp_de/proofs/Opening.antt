@@ -1,0 +1,133 @@
+-- Opening a list.
+use Rattle.std.proofs.Common.{◌≡◌, ℕ, ◌+◌, ◌*◌, ◌<◌, ◌≤◌, min, Bool, true, List, ◌++◌, length, Option, Some, Ok, Err, refl, sym, subst, ◌∙◌, arith, inl, inr, ◌⊎◌, append_assoc, IsTrue}
+use Rattle.amqp_base.specs.declared.error.Error.{Error}
+use Rattle.amqp_base.specs.declared.format_code.EncodingCodes.{EncodingCodes}
+use Rattle.amqp_base.specs.Item.{Item, scalar, list, map, array, described, Items}
+use Rattle.amqp_base.specs.Wire.{Constructor, bare, under, under_pair, Wire, lenient}
+use Rattle.amqp_base.specs.Refusals.{IsDevice}
+use Rattle.amqp_read.specs.Reading.{Reading}
+use Rattle.amqp_de.specs.Decoding.{Decoding, stands_under}
+use Rattle.amqp_de.specs.Law.{Excused, free}
+use Rattle.amqp_de.specs.Parse.{Parsed, byte_under, behind_byte, item_at, list_data}
+use Rattle.amqp_de.specs.Steps.{Begins, BeginsNot, IsDescribed, Rejects, ParsesAs}
+use Rattle.amqp_de.specs.Access.{Listing, HasParts, shared_by, cost, OpensData, Opens, OpensExactly, OpensNot}
+use Rattle.amqp_de.proofs.Readings.{steady_then, takes_then, excused_before, excused_more}
+use Rattle.amqp_de.proofs.Answered.{byte_stands, not_refused}
+use Rattle.amqp_de.proofs.Data.{behind_code}
+use Rattle.amqp_de.proofs.Headers.{list_parses}
+
+has_bare : (i : Item) (is : Items) → HasParts i is → IsDescribed i → ⊥
+has_bare (list is) js p d = d
+has_bare (array is) js p d = p
+has_bare (scalar v) js p d = p
+has_bare (map ps) js p d = p
+has_bare (described d v) js p q = p
+
+nothing_left : (c : Constructor) (n : ℕ) → n ≡ 0 → cost c n ≡ 0
+nothing_left bare n h = refl
+nothing_left (under f) n h = h
+nothing_left (under_pair x f) n h = omega (arith, h)
+
+-- the state of an access whose data follow
+abbrev pub listing_of : Decoding → Reading → Constructor → ℕ → ℕ → Option ℕ → Listing
+listing_of mid r c begun left limit = record {
+  state = record { reading = r; answers = mid.answers; inherited = c; described = mid.described; begun = begun };
+  left = left;
+  answers = true;
+  outer = mid.inherited;
+  limit = limit;
+}
+
+pub opens : (old mid : Decoding) (r : Reading) (x : ℕ) (c : Constructor) (begun left : ℕ) (limit : Option ℕ) → begun ≡ mid.begun + shared_by c → IsTrue old.answers → Begins old mid x → OpensData x mid.reading r c left limit → Opens old (listing_of mid r c begun left limit)
+opens old mid r x c begun left limit n-is a b d = record {
+  text = b.text ++ d.text;
+  step = takes_then old.reading mid.reading r b.text d.text b.step d.step;
+  whole = λ t is p n fits.
+      let w = d.whole t is p n fits in
+      (w.0, rw (append_assoc b.text d.text t) (b.whole d.code (d.text ++ t) w.0 d.code_is w.1), w.2, rw (b.counts d.code w.0 d.code_is) (omega (arith, n-is, b.begun, w.3)));
+  only = λ t rest i is p w at.
+      let o = b.only t rest i (has_bare i is p) w at in
+      let same : o.0 ≡ d.code = some_is (sym o.2 ∙ d.code_is) in
+      d.only o.1 rest i is p (subst (λ (z : EncodingCodes). Wire lenient (under z) o.1 i) same o.3) o.4;
+  answered = a;
+  outer = b.inherited;
+  described = b.described;
+  closed = b.closed;
+  answers = refl;
+  starts = d.starts;
+  spent = spent d.paid;
+}
+  where
+    some_is : {e f : EncodingCodes} → Some e ≡ Some f → e ≡ f
+    some_is h = cc
+
+    spent : (left ≡ 0) ⊎ (shared_by c + cost c left + 3 ≤ 16384 * length d.text)
+        → begun + 16384 * old.reading.taken + cost c left + min 2 (2 * left) ≤ old.begun + 16384 * r.taken + free (stands_under old)
+    spent (inl z) = omega (arith, n-is, b.begun, b.room, b.step.taken, d.step.taken, d.shares z, nothing_left c left z, z)
+    spent (inr p) = omega (arith, n-is, b.begun, b.room, b.step.taken, d.step.taken, p)
+
+parsed_list : (c : Constructor) (s : List ℕ) (b : ℕ) (rest : List ℕ) (z : Parsed ℕ) → byte_under c s ≡ Ok (b, rest) → behind_byte list_data b rest ≡ z → item_at list_data c s ≡ z
+parsed_list c s b rest z p q = rw p q
+
+no_list : (c : Constructor) (s : List ℕ) (e : Error) → byte_under c s ≡ Err e → item_at list_data c s ≡ Err e
+no_list c s e p = rw p refl
+
+pub opens_exactly : (old mid : Decoding) (r : Reading) (x : ℕ) (c : Constructor) (begun left : ℕ) (limit : Option ℕ) → Begins old mid x → ParsesAs (behind_byte list_data x) mid.reading r left → OpensExactly list_data old (listing_of mid r c begun left limit)
+opens_exactly old mid r x c begun left limit b d = record {
+  exact = λ s at.
+      let o = b.exact s at in
+      let p = d.exact o.0 o.1 in
+      (p.0, p.1, parsed_list (stands_under old) s x o.0 _ o.2 p.2);
+}
+
+refused_list : {buffers : Bool} (old new : Decoding) (e : Error) → BeginsNot buffers old new e → Rejects true buffers (item_at list_data (stands_under old)) old.reading new.reading e
+refused_list {buffers = buffers} old new e n = record { why = λ s at h. tell s (n.rejects.why s at h); steady = n.rejects.steady; device = n.rejects.device }
+  where
+    tell : (s : List ℕ) → (byte_under (stands_under old) s ≡ Err e) ⊎ Excused buffers buffers old.reading new.reading e → (item_at list_data (stands_under old) s ≡ Err e) ⊎ Excused true buffers old.reading new.reading e
+    tell s (inl p) = inl (no_list (stands_under old) s e p)
+    tell s (inr y) = inr (excused_more old.reading new.reading e (λ _. refl) y)
+
+pub opens_no_item : (buffers : Bool) (old new : Decoding) (e : Error) → IsTrue old.answers → BeginsNot buffers old new e → OpensNot list_data buffers old new e
+opens_no_item buffers old new e a n = record {
+  unanswered = λ c. absurd cc (a, c);
+  rejects = λ _. refused_list old new e n;
+  why = λ t rest i is p w at h _.
+      let s = byte_stands (stands_under old) t rest i (has_bare i is p) w in
+      excused_more old.reading new.reading e (λ _. refl) (not_refused old.reading new.reading _ s.0 e s.1 (n.rejects.why (t ++ rest) at h));
+  steady = n.rejects.steady;
+  device = n.rejects.device;
+  closed = n.closed;
+  few = n.few;
+}
+
+-- the state where the data were refused
+abbrev pub refused_data : Decoding → Reading → Decoding
+refused_data mid r = record { reading = r; answers = mid.answers; inherited = mid.inherited; described = mid.described; begun = mid.begun }
+
+pub opens_no_list : (buffers : Bool) (old mid : Decoding) (r : Reading) (x : ℕ) (e : Error) → IsTrue old.answers → Begins old mid x → Rejects buffers buffers (behind_byte list_data x) mid.reading r e → OpensNot list_data buffers old (refused_data mid r) e
+opens_no_list buffers old mid r x e a b n = record {
+  unanswered = λ c. absurd cc (a, c);
+  rejects = λ _. record {
+    why = λ s at h. let o = b.exact s at in tell s o.0 o.2 (n.why o.0 o.1 (b.step.steady.honest ∙ h));
+    steady = steady_then old.reading mid.reading r b.step.steady n.steady;
+    device = device;
+  };
+  why = λ t rest i is p w at h _.
+      let o = b.only t rest i (has_bare i is p) w at in
+      let q = list_parses o.0 o.1 rest i is p o.3 in
+      more (excused_before old.reading mid.reading r b.text e b.step (not_refused mid.reading r _ q.0 e (behind_code list_data x o.0 (o.1 ++ rest) o.2 ∙ q.1) (n.why (o.1 ++ rest) o.4 (b.step.steady.honest ∙ h))));
+  steady = steady_then old.reading mid.reading r b.step.steady n.steady;
+  device = device;
+  closed = b.closed;
+  few = omega (arith, b.begun);
+}
+  where
+    more : Excused buffers buffers old.reading r e → Excused true buffers old.reading r e
+    more y = excused_more old.reading r e (λ _. refl) y
+
+    device : IsDevice e → old.reading.faults < r.faults
+    device d = let f = b.step.steady.faults in let g = n.device d in omega (arith, f, g)
+
+    tell : (s rest : List ℕ) → byte_under (stands_under old) s ≡ Ok (x, rest) → (behind_byte list_data x rest ≡ Err e) ⊎ Excused buffers buffers mid.reading r e → (item_at list_data (stands_under old) s ≡ Err e) ⊎ Excused true buffers old.reading r e
+    tell s rest o (inl p) = inl (parsed_list (stands_under old) s x rest (Err e) o p)
+    tell s rest o (inr y) = inr (more (excused_before old.reading mid.reading r b.text e b.step y))

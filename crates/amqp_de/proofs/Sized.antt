@@ -1,0 +1,105 @@
+-- A length, and the payload behind it.
+use Rattle.std.proofs.Common.{◌≡◌, ℕ, Bool, true, false, if◌then◌else◌, List, ◌++◌, length, Option, Some, None, Result, Ok, Err, refl, sym, ap, subst, ◌∙◌, inl, inr, ◌⊎◌, append_assoc}
+use Rattle.std.specs.Prelude.{IfOk, IfErr, OnErr, IsUtf8}
+use Rattle.std.proofs.lemmas.Str.{IsUtf8-from_is_utf8, is_utf8-from_IsUtf8}
+use Rattle.std.specs.Str.{is_utf8}
+use Rattle.amqp_base.specs.declared.error.Error.{Error}
+use Rattle.amqp_base.specs.declared.error.Error.TheVariants.{InvalidUtf8Encoding}
+use Rattle.amqp_base.specs.declared.format_code.EncodingCodes.{EncodingCodes}
+use Rattle.amqp_base.specs.declared.format_code.EncodingCodes.TheVariants.{Str8, Str32}
+use Rattle.amqp_base.specs.declared.format_code.Category.{Category}
+use Rattle.amqp_base.specs.declared.format_code.Category.TheVariants.{Variable}
+use Rattle.amqp_base.specs.Codes.{Kind, row, code_of}
+use Rattle.amqp_base.specs.Item.{Scalar, scalar, string}
+use Rattle.amqp_base.specs.Value.{number, payload, read}
+use Rattle.amqp_base.specs.Wire.{lenient, of_data, Data, of_variable, variable}
+use Rattle.amqp_base.specs.Refusals.{IsDevice}
+use Rattle.amqp_base.proofs.KindPlaces.{kind_same}
+use Rattle.amqp_read.specs.Reading.{Reading, Stays}
+use Rattle.amqp_read.specs.Steps.{NotTaken}
+use Rattle.amqp_de.specs.Parse.{Parsed, ◌>>=◌, bytes_at, sized_at, utf8, text_at, valued, value_or_refusal, data_at, behind_byte}
+use Rattle.amqp_de.specs.Steps.{IsData, Rejects, Number, Payload, Text}
+use Rattle.amqp_de.specs.Law.{Excused}
+use Rattle.amqp_de.proofs.Readings.{unread_rejects, rejects_then, rejects_after}
+use Rattle.amqp_de.proofs.Data.{bytes_there, bytes_short, behind_code}
+
+-- the length is there
+pub length_there : (w : ℕ) (l s : List ℕ) → length l ≡ w → sized_at w (l ++ s) ≡ bytes_at (number l) s
+length_there w l s h = rw (bytes_there w l s h) refl
+
+payload_refused : (buffers : Bool) (w n : ℕ) (old mid new : Reading) (e : Error) → Number w n old mid → Stays mid new → NotTaken true buffers n mid new e → Rejects true buffers (sized_at w) old new e
+payload_refused buffers w n old mid new e d s u =
+    rejects_then (sized_at w) (bytes_at n) old mid new d.digits e d.step (λ t h. length_there w d.digits t d.len ∙ ap (λ (m : ℕ). bytes_at m t) d.value ∙ h)
+    (unread_rejects (bytes_at n) n mid new e (bytes_short n) (record { stays = s; why = u }))
+
+pub payload_err : {V : Type 0} (buffers : Bool) (w n : ℕ) (old mid new : Reading) (r : Result V Error) → Number w n old mid → OnErr r (Stays mid new) → IfErr r (λ e. NotTaken true buffers n mid new e) → IfErr r (λ e. Rejects true buffers (sized_at w) old new e)
+payload_err buffers w n old mid new (Ok v) d s u = tt
+payload_err buffers w n old mid new (Err e) d s u = payload_refused buffers w n old mid new e d s u
+
+not_utf8 : (b : List ℕ) → (IsUtf8 b → ⊥) → is_utf8 b ≡ false
+not_utf8 b n = tell (is_utf8 b) refl
+  where
+    tell : (t : Bool) → is_utf8 b ≡ t → is_utf8 b ≡ false
+    tell true h = absurd (n (IsUtf8-from_is_utf8 b h))
+    tell false h = h
+
+bad_text : (w : ℕ) (l b s : List ℕ) → length l ≡ w → number l ≡ length b → is_utf8 b ≡ false → text_at w ((l ++ b) ++ s) ≡ Err InvalidUtf8Encoding
+bad_text w l b s h n u = rw (append_assoc l b s, length_there w l (b ++ s) h, n, bytes_there (length b) b s refl, u) refl
+
+no_device : IsDevice InvalidUtf8Encoding → ⊥
+no_device d = d
+
+pub text_refused : (buffers : Bool) (w : ℕ) (b : List ℕ) (old new : Reading) → Payload w b old new → (IsUtf8 b → ⊥) → Rejects true buffers (text_at w) old new InvalidUtf8Encoding
+text_refused buffers w b old new p n = rejects_after (text_at w) old new (p.digits ++ b) InvalidUtf8Encoding p.step no_device (λ s. bad_text w p.digits b s p.len p.value (not_utf8 b n))
+
+pub text_of : (w : ℕ) (b t : List ℕ) (old new : Reading) → Payload w b old new → t ≡ b → IsUtf8 t → Text w t old new
+text_of w b t old new p h u = record { payload = rw h p; utf8 = is_utf8-from_IsUtf8 t u }
+
+-- a code's data are a text
+pub string_is : (x : ℕ) (e : EncodingCodes) (w : ℕ) (b : List ℕ) (old new : Reading) → code_of x ≡ Some e → (row e).category ≡ Variable w → payload e b ≡ (if is_utf8 b then Some (string b) else None) → Text w b old new → IsData x (scalar (string b)) old new
+string_is x e w b old new c k p t = record {
+  code = e;
+  code_is = c;
+  text = t.payload.digits ++ b;
+  spelled = of_data (subst (λ (z : Category). Data lenient e (row e).kind z (t.payload.digits ++ b) (scalar (string b))) (sym k) (of_variable (variable t.payload.digits b t.payload.len t.payload.value (p ∙ rw t.utf8 refl))));
+  step = t.payload.step;
+}
+
+pub string_ok : {V : Type 0} (view : V → List ℕ) (x : ℕ) (e : EncodingCodes) (w : ℕ) (r : Result V Error) (old new : Reading) → code_of x ≡ Some e → (row e).category ≡ Variable w → ((b : List ℕ) → payload e b ≡ (if is_utf8 b then Some (string b) else None))
+    → IfOk r (λ v. Text w (view v) old new) → IfOk r (λ v. IsData x (scalar (string (view v))) old new)
+string_ok view x e w (Ok v) old new c k p t = string_is x e w (view v) old new c k (p (view v)) t
+string_ok view x e w (Err f) old new c k p t = tt
+
+-- what is refused as a text is refused as the code's data
+refused_parse : (e : EncodingCodes) (p : Parsed (List ℕ)) (err : Error) → ((b : List ℕ × List ℕ) → utf8 b ≡ Err err → valued e b ≡ Err err) → (p >>= utf8) ≡ Err err → (p >>= valued e) ≡ Err err
+refused_parse e (Ok b) err f h = f b h
+refused_parse e (Err x) err f h = let q : x ≡ err = cc in ap Err q
+
+text_data : (e : EncodingCodes) (w : ℕ) (s : List ℕ) (err : Error) → (row e).kind ≡ Kind.string → (row e).category ≡ Variable w → ((b : List ℕ × List ℕ) → utf8 b ≡ Err err → valued e b ≡ Err err) → text_at w s ≡ Err err → data_at Kind.string e s ≡ Err err
+unfolding data_at
+text_data e w s err k c f h = rw (kind_same (row e).kind Kind.string k, c) (refused_parse e (sized_at w s) err f h)
+
+pub string_err : {V : Type 0} (buffers : Bool) (x : ℕ) (e : EncodingCodes) (w : ℕ) (r : Result V Error) (old new : Reading) → code_of x ≡ Some e → (row e).kind ≡ Kind.string → (row e).category ≡ Variable w
+    → ((err : Error) (b : List ℕ × List ℕ) → utf8 b ≡ Err err → valued e b ≡ Err err)
+    → IfErr r (λ err. Rejects true buffers (text_at w) old new err) → IfErr r (λ err. Rejects true buffers (behind_byte (data_at Kind.string) x) old new err)
+string_err buffers x e w (Ok v) old new c k l f t = tt
+string_err buffers x e w (Err err) old new c k l f t = record { why = λ s at h. tell s (t.why s at h); steady = t.steady; device = t.device }
+  where
+    tell : (s : List ℕ) → (text_at w s ≡ Err err) ⊎ Excused true buffers old new err → (behind_byte (data_at Kind.string) x s ≡ Err err) ⊎ Excused true buffers old new err
+    tell s (inl p) = inl (behind_code (data_at Kind.string) x e s c ∙ text_data e w s err k l (f err) p)
+    tell s (inr y) = inr y
+
+refused_as : (err : Error) (b : List ℕ × List ℕ) → (if false then Ok b else Err InvalidUtf8Encoding) ≡ Err err → InvalidUtf8Encoding ≡ err
+refused_as err b h = cc
+
+refused_text : (t : Bool) (err : Error) (b : List ℕ × List ℕ) (o : Option Scalar) → o ≡ (if t then Some (string b.0) else None) → (if t then Ok b else Err InvalidUtf8Encoding) ≡ Err err → value_or_refusal InvalidUtf8Encoding o b.1 ≡ Err err
+refused_text true err b o p h = absurd cc
+refused_text false err b o p h = rw p (ap Err (refused_as err b h))
+
+pub valued_8 : (err : Error) (b : List ℕ × List ℕ) → utf8 b ≡ Err err → valued Str8 b ≡ Err err
+unfolding row payload read
+valued_8 err b h = refused_text (is_utf8 b.0) err b (payload Str8 b.0) refl h
+
+pub valued_32 : (err : Error) (b : List ℕ × List ℕ) → utf8 b ≡ Err err → valued Str32 b ≡ Err err
+unfolding row payload read
+valued_32 err b h = refused_text (is_utf8 b.0) err b (payload Str32 b.0) refl h

@@ -1,0 +1,154 @@
+-- An access to the parts of an item, and what its calls give.
+use Rattle.std.specs.Prelude.{◌≡◌, ℕ, suc, ◌+◌, ◌*◌, ◌^◌, ◌≤◌, ◌<◌, min, Bool, true, false, List, ◌++◌, length, ◌⊎◌, IsTrue, Option, Some, None, Result, Ok, Err}
+use Rattle.amqp_base.specs.declared.format_code.EncodingCodes.{EncodingCodes}
+use Rattle.amqp_base.specs.Item.{Item, scalar, list, map, array, described, Items, none, more, count, items}
+use Rattle.amqp_base.specs.Value.{number}
+use Rattle.amqp_base.specs.Codes.{code_of}
+use Rattle.amqp_base.specs.Wire.{Constructor, bare, under, under_pair, Wire, lenient, Parts}
+use Rattle.amqp_base.specs.Laws.{items_under}
+use Rattle.amqp_base.specs.Refusals.{IsDevice}
+use Rattle.amqp_base.specs.declared.error.Error.{Error}
+use Rattle.amqp_base.specs.declared.error.Error.TheVariants.{InvalidValue, SequenceLengthMismatch}
+use Rattle.amqp_read.specs.Reading.{Reading, Takes, Steady}
+use Rattle.amqp_de.specs.Decoding.{Decoding, stands_under, ready}
+use Rattle.amqp_de.specs.Law.{Front, Excused, Spent, free, refused_free}
+use Rattle.amqp_de.specs.Parse.{Parsed, item_at}
+use Rattle.amqp_de.specs.Steps.{Rejects}
+
+-- an open access
+pub record Listing : Type 0 where
+  -- its deserializer, whose inherited constructor is that of the parts
+  pub state : Decoding
+  -- how many parts are left
+  pub left : ℕ
+  -- its calls are answered
+  pub answers : Bool
+  -- the constructor that was inherited before it was opened
+  pub outer : Constructor
+  -- the position at which the parts must have ended
+  pub limit : Option ℕ
+
+abbrev pub Within : Option ℕ → ℕ → Type 0
+Within None t = Unit {0}
+Within (Some m) t = t ≤ m
+
+-- the item is a list of these parts
+abbrev pub HasParts : Item → Items → Type 0
+HasParts (list is) js = is ≡ js
+HasParts (array is) js = ⊥
+HasParts (scalar v) js = ⊥
+HasParts (map ps) js = ⊥
+HasParts (described d v) js = ⊥
+
+-- how many items the parts are, under their constructor
+abbrev pub items_of_all : Constructor → Items → ℕ
+items_of_all c none = 0
+items_of_all c (more i is) = items_under c i + items_of_all c is
+
+-- the descriptor that the parts share
+abbrev pub shared_by : Constructor → ℕ
+shared_by bare = 0
+shared_by (under e) = 0
+shared_by (under_pair d e) = 1
+
+-- how many items n parts without bytes begin
+abbrev pub cost : Constructor → ℕ → ℕ
+cost bare n = 0
+cost (under e) n = n
+cost (under_pair d e) n = 2 * n
+
+-- data of a code were begun, whose parts follow
+pub record OpensData (byte : ℕ) (old new : Reading) (c : Constructor) (left : ℕ) (limit : Option ℕ) : Type 0 where
+  pub code : EncodingCodes
+  pub code_is : code_of byte ≡ Some code
+  pub text : List ℕ
+  pub step : Takes old new text
+  -- the parts behind it make data of the code
+  pub whole : (b : List ℕ) (is : Items) → Parts lenient c b is → count is ≡ left → Within limit (new.taken + length b)
+      → (i : Item) × Wire lenient (under code) (text ++ b) i × HasParts i is × (items i ≡ 1 + (shared_by c + items_of_all c is))
+  -- and data of the code at the front have their parts behind it
+  pub only : (t rest : List ℕ) (i : Item) (is : Items) → HasParts i is → Wire lenient (under code) t i → old.to_come ≡ Some (t ++ rest)
+      → (b : List ℕ) × Parts lenient c b is × (count is ≡ left) × Within limit (new.taken + length b) × (new.to_come ≡ Some (b ++ rest))
+  -- its bytes pay for parts that have none
+  pub paid : (left ≡ 0) ⊎ (shared_by c + cost c left + 3 ≤ 16384 * length text)
+  pub starts : Within limit new.taken
+  pub shares : (left ≡ 0) → shared_by c ≡ 0
+
+-- an item with parts was begun
+pub record Opens (old : Decoding) (l : Listing) : Type 0 where
+  pub text : List ℕ
+  pub step : Takes old.reading l.state.reading text
+  pub whole : (b : List ℕ) (is : Items) → Parts lenient l.state.inherited b is → count is ≡ l.left → Within l.limit (l.state.reading.taken + length b)
+      → (i : Item) × Wire lenient (stands_under old) (text ++ b) i × HasParts i is × (old.begun + items_under (stands_under old) i ≡ l.state.begun + items_of_all l.state.inherited is)
+  pub only : (t rest : List ℕ) (i : Item) (is : Items) → HasParts i is → Wire lenient (stands_under old) t i → old.reading.to_come ≡ Some (t ++ rest)
+      → (b : List ℕ) × Parts lenient l.state.inherited b is × (count is ≡ l.left) × Within l.limit (l.state.reading.taken + length b) × (l.state.reading.to_come ≡ Some (b ++ rest))
+  pub answered : IsTrue old.answers
+  pub outer : l.outer ≡ old.inherited
+  pub described : l.state.described ≡ false
+  pub closed : l.state.answers ≡ false
+  pub answers : IsTrue l.answers
+  pub starts : Within l.limit l.state.reading.taken
+  pub spent : l.state.begun + 16384 * old.reading.taken + cost l.state.inherited l.left + min 2 (2 * l.left) ≤ old.begun + 16384 * l.state.reading.taken + free (stands_under old)
+
+-- the number of parts is what the bytes say
+pub record OpensExactly (parse : EncodingCodes → List ℕ → Parsed ℕ) (old : Decoding) (l : Listing) : Type 0 where
+  pub exact : (s : List ℕ) → old.reading.to_come ≡ Some s → (rest : List ℕ) × (l.state.reading.to_come ≡ Some rest) × (item_at parse (stands_under old) s ≡ Ok (l.left, rest))
+
+-- no item with parts was begun
+pub record OpensNot (parse : EncodingCodes → List ℕ → Parsed ℕ) (buffers : Bool) (old new : Decoding) (err : Error) : Type 0 where
+  -- a call that isn't answered changes nothing
+  pub unanswered : old.answers ≡ false → (err ≡ InvalidValue) × (new ≡ old)
+  pub rejects : IsTrue old.answers → Rejects true buffers (item_at parse (stands_under old)) old.reading new.reading err
+  pub why : (t rest : List ℕ) (i : Item) (is : Items) → HasParts i is → Wire lenient (stands_under old) t i → old.reading.to_come ≡ Some (t ++ rest) → IsTrue old.reading.honest → IsTrue old.answers → Excused true buffers old.reading new.reading err
+  pub steady : Steady old.reading new.reading
+  pub device : IsDevice err → old.reading.faults < new.reading.faults
+  pub closed : new.answers ≡ false
+  pub few : new.begun ≤ old.begun + 1
+
+-- the next part
+pub record Part (takes : Item → Bool) (means : Item → Type 0) (old new : Listing) : Type 0 where
+  pub front : Front takes means (ready old.state) (ready new.state)
+  pub within : Within old.limit new.state.reading.taken
+  pub spent : Spent (free (stands_under old.state)) (ready old.state) (ready new.state)
+  pub left : old.left ≡ suc new.left
+  pub answers : IsTrue new.answers
+
+-- a part that is refused
+pub record NoPart (takes : Item → Bool) (grows buffers : Bool) (old new : Listing) (err : Error) : Type 0 where
+  pub unanswered : old.answers ≡ false → (err ≡ InvalidValue) × (new ≡ old)
+  pub closed : new.answers ≡ false
+  pub steady : Steady old.state.reading new.state.reading
+  pub device : IsDevice err → old.state.reading.faults < new.state.reading.faults
+  pub spent : IsTrue old.answers → Spent (refused_free (stands_under old.state)) (ready old.state) (ready new.state)
+  pub some_left : IsTrue old.answers → 0 < old.left
+  pub why : (i : Item) (text rest : List ℕ) → Wire lenient (stands_under old.state) text i → IsTrue (takes i) → old.state.reading.to_come ≡ Some (text ++ rest) → Within old.limit (old.state.reading.taken + length text)
+      → IsTrue old.state.reading.honest → IsTrue old.answers → Excused grows buffers old.state.reading new.state.reading err
+
+-- the next part, or none where none is left
+abbrev pub Next : {T : Type 0} → (Item → Bool) → (Item → T → Type 0) → Bool → Bool → Listing → Result (Option T) Error → Listing → Type 0
+Next takes means grows buffers old (Ok None) new = (old.left ≡ 0) × (new ≡ old) × IsTrue old.answers
+Next takes means grows buffers old (Ok (Some v)) new = Part takes (λ i. means i v) old new × IsTrue old.answers
+Next takes means grows buffers old (Err e) new = NoPart takes grows buffers old new e
+
+-- the deserializer behind an access that ended
+abbrev pub ended : Listing → Decoding
+ended l = record { reading = l.state.reading; answers = true; inherited = l.outer; described = l.state.described; begun = l.state.begun }
+
+-- the end of an access: all parts were read, or a refusal, after which no call is answered
+abbrev pub Ends : Listing → Result (Unit {0}) Error → Decoding → Type 0
+Ends l (Ok u) new = IsTrue l.answers × (l.left ≡ 0) × (new ≡ ended l)
+Ends l (Err e) new = (new.answers ≡ false) × (new.reading ≡ l.state.reading) × (new.begun ≡ l.state.begun) × (((l.answers ≡ false) × (e ≡ InvalidValue)) ⊎ (IsTrue l.answers × (l.left ≡ 0 → ⊥) × (e ≡ SequenceLengthMismatch)))
+
+-- w bytes of size and w of count were consumed, which keep the rule of every header
+pub record Header (w : ℕ) (is_array : Bool) (z k : ℕ) (old new : Reading) : Type 0 where
+  pub zs : List ℕ
+  pub ks : List ℕ
+  pub len_z : length zs ≡ w
+  pub len_k : length ks ≡ w
+  pub size : number zs ≡ z
+  pub count : number ks ≡ k
+  pub step : Takes old new (zs ++ ks)
+  pub few : k ≤ 65536
+  pub fits : IsTrue is_array → k ≤ z
+  pub small : k < 256 ^ w
+  pub wide : (w ≤ z) ⊎ (IsTrue is_array × (k ≡ 0))

@@ -1,0 +1,67 @@
+-- The law of reading that every type keeps.
+use Rattle.std.specs.Prelude.{◌≡◌, ℕ, ◌+◌, ◌*◌, ◌^◌, ◌<◌, ◌≤◌, Bool, false, IsTrue, List, ◌++◌, length, Option, Some, None, ⊤}
+use Rattle.std.specs.declared.io.ErrorKind.TheVariants.{Other}
+use Rattle.amqp_base.specs.declared.error.Error.{Error}
+use Rattle.amqp_base.specs.declared.error.Error.TheVariants.{Io, OutOfMemory}
+use Rattle.amqp_base.specs.Item.{Item}
+use Rattle.amqp_base.specs.Wire.{Wire, lenient, Constructor, bare, under, under_pair}
+use Rattle.amqp_base.specs.Laws.{items_under}
+use Rattle.amqp_base.specs.Refusals.{IsDevice}
+use Rattle.amqp_read.specs.Reading.{Reading, Takes, Steady}
+use Rattle.amqp_de.specs.Decoding.{Decoding, stands_under}
+
+-- A front of the bytes to come spells an item that the type takes, and means the value. Just this front was consumed,
+-- nothing behind it was received, and just its items were begun.
+pub record Front (takes : Item → Bool) (means : Item → Type 0) (old new : Decoding) : Type 0 where
+  pub item : Item
+  pub text : List ℕ
+  pub spelled : Wire lenient (stands_under old) text item
+  pub taken : IsTrue (takes item)
+  pub value : means item
+  pub step : Takes old.reading new.reading text
+  pub answers : IsTrue new.answers
+  pub inherited : new.inherited ≡ old.inherited
+  pub described : new.described ≡ false
+  pub begun : new.begun ≡ old.begun + items_under (stands_under old) item
+
+-- the reader's bytes can't all be counted
+abbrev pub Overfull : ℕ → Option (List ℕ) → Type 0
+Overfull n None = ⊤
+Overfull n (Some s) = 2 ^ 64 ≤ n + length s
+
+-- a refusal that the bytes do not call for
+pub data Excused (grows buffers : Bool) (old new : Reading) (e : Error) : Type 0 where
+  no_memory : e ≡ OutOfMemory → IsTrue grows → Excused grows buffers old new e
+  faulted : old.faults < new.faults → IsTrue buffers → Excused grows buffers old new e
+  uncounted : e ≡ Io Other → IsTrue buffers → Overfull old.taken old.to_come → Excused grows buffers old new e
+
+-- how many items an item without bytes may begin
+abbrev pub free : Constructor → ℕ
+free bare = 0
+free (under e) = 1
+free (under_pair d e) = 2
+
+-- and one that is refused
+abbrev pub refused_free : Constructor → ℕ
+refused_free bare = 1
+refused_free (under e) = 1
+refused_free (under_pair d e) = 2
+
+-- for each byte that was consumed 16,384 items were begun at most, and so many more
+pub record Spent (more : ℕ) (old new : Decoding) : Type 0 where
+  pub most : new.begun + 16384 * old.reading.taken ≤ old.begun + 16384 * new.reading.taken + more
+
+-- What a type answers with a value: where calls are answered, that value's front was consumed.
+pub record Found (takes : Item → Bool) (means : Item → Type 0) (old new : Decoding) : Type 0 where
+  pub front : IsTrue old.answers → Front takes means old new
+  pub spent : IsTrue old.answers → Spent (free (stands_under old)) old new
+  pub steady : Steady old.reading new.reading
+
+-- What a type answers with a refusal: where calls are answered and an item that it takes stands at the front, there is
+-- an excuse. A device's fault was counted.
+pub record Missed (takes : Item → Bool) (grows buffers : Bool) (old new : Decoding) (e : Error) : Type 0 where
+  pub why : IsTrue old.answers → (i : Item) (text rest : List ℕ) → Wire lenient (stands_under old) text i → IsTrue (takes i) → old.reading.to_come ≡ Some (text ++ rest) → IsTrue old.reading.honest
+      → Excused grows buffers old.reading new.reading e
+  pub spent : IsTrue old.answers → Spent (refused_free (stands_under old)) old new
+  pub steady : Steady old.reading new.reading
+  pub device : IsDevice e → old.reading.faults < new.reading.faults

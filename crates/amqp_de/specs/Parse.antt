@@ -1,0 +1,129 @@
+-- What stands at the front of the bytes, or the first rule that they break.
+use Rattle.std.specs.Prelude.{ℕ, zero, suc, Bool, true, false, ◌&&◌, nat_lt, if◌then◌else◌, List, [], ◌∷◌, length, take, drop, Option, Some, None, Result, Ok, Err}
+use Rattle.std.specs.Str.{is_utf8}
+use Rattle.std.specs.declared.io.ErrorKind.TheVariants.{UnexpectedEof}
+use Rattle.amqp_base.specs.declared.error.Error.{Error}
+use Rattle.amqp_base.specs.declared.error.Error.TheVariants.{Io, InvalidFormatCode, InvalidValue, InvalidUtf8Encoding, InvalidLength}
+use Rattle.amqp_base.specs.declared.format_code.EncodingCodes.{EncodingCodes}
+use Rattle.amqp_base.specs.declared.format_code.EncodingCodes.TheVariants.{DescribedType, List0, List8, List32}
+use Rattle.amqp_base.specs.declared.format_code.Category.{Category}
+use Rattle.amqp_base.specs.declared.format_code.Category.TheVariants.{Fixed, Variable, Compound, Array}
+use Rattle.amqp_base.specs.Codes.{Kind, row, code_of, same_kind}
+use Rattle.amqp_base.specs.Item.{Scalar}
+use Rattle.amqp_base.specs.Value.{number, payload}
+use Rattle.amqp_base.specs.Wire.{Constructor, bare, under, under_pair}
+
+-- what stands there and the bytes behind it, or a refusal
+abbrev pub Parsed : Type 0 → Type 0
+Parsed A = Result (A × List ℕ) Error
+
+infixl 10 ◌>>=◌
+abbrev pub ◌>>=◌ : {A B : Type 0} → Parsed A → (A × List ℕ → Parsed B) → Parsed B
+(Ok x) >>= f = f x
+(Err e) >>= f = Err e
+
+abbrev pub byte_at : List ℕ → Parsed ℕ
+byte_at [] = Err (Io UnexpectedEof)
+byte_at (b ∷ bs) = Ok (b, bs)
+
+-- n bytes
+abbrev pub bytes_at : ℕ → List ℕ → Parsed (List ℕ)
+bytes_at n s = if nat_lt (length s) n then Err (Io UnexpectedEof) else Ok (take n s, drop n s)
+
+-- a number of w bytes
+abbrev pub number_at : ℕ → List ℕ → Parsed ℕ
+number_at w s = bytes_at w s >>= λ b. Ok (number b.0, b.1)
+
+-- w bytes of length, and as many bytes
+abbrev pub sized_at : ℕ → List ℕ → Parsed (List ℕ)
+sized_at w s = number_at w s >>= λ n. bytes_at n.0 n.1
+
+abbrev pub utf8 : List ℕ × List ℕ → Parsed (List ℕ)
+utf8 b = if is_utf8 b.0 then Ok b else Err InvalidUtf8Encoding
+
+-- and those are UTF-8
+abbrev pub text_at : ℕ → List ℕ → Parsed (List ℕ)
+text_at w s = sized_at w s >>= utf8
+
+-- what bytes that are no payload of their kind are refused as
+abbrev pub bad_payload : Kind → Error
+bad_payload Kind.boolean = InvalidValue
+bad_payload Kind.char = InvalidValue
+bad_payload _ = InvalidUtf8Encoding
+
+abbrev pub value_or_refusal : Error → Option Scalar → List ℕ → Parsed Scalar
+value_or_refusal e (Some v) s = Ok (v, s)
+value_or_refusal e None s = Err e
+
+-- the value of a payload
+abbrev pub valued : EncodingCodes → List ℕ × List ℕ → Parsed Scalar
+valued e b = value_or_refusal (bad_payload (row e).kind) (payload e b.0) b.1
+
+-- the payload is there before it is looked at
+abbrev pub by_category : EncodingCodes → Category → List ℕ → Parsed Scalar
+by_category e (Fixed n) s = bytes_at n s >>= valued e
+by_category e (Variable w) s = sized_at w s >>= valued e
+by_category e (Compound w) s = Err InvalidFormatCode
+by_category e (Array w) s = Err InvalidFormatCode
+
+-- the data of an item without parts, of a kind
+unfoldable pub data_at : Kind → EncodingCodes → List ℕ → Parsed Scalar
+data_at k e s = if same_kind (row e).kind k then by_category e (row e).category s else Err InvalidFormatCode
+
+-- the code of a byte, the described constructor's too
+abbrev pub code_or_refusal : Option EncodingCodes → Result EncodingCodes Error
+code_or_refusal (Some e) = Ok e
+code_or_refusal None = Err InvalidFormatCode
+
+unfoldable pub any_code : ℕ → Result EncodingCodes Error
+any_code zero = Ok DescribedType
+any_code (suc n) = code_or_refusal (code_of (suc n))
+
+-- the byte of the code that is looked at: the inherited one, else the next byte
+abbrev pub byte_under : Constructor → List ℕ → Parsed ℕ
+byte_under bare s = byte_at s
+byte_under (under e) s = Ok ((row e).byte, s)
+byte_under (under_pair d e) s = Ok (0, s)
+
+abbrev pub with_rest : {A : Type 0} → List ℕ → Result A Error → Parsed A
+with_rest s (Ok x) = Ok (x, s)
+with_rest s (Err e) = Err e
+
+abbrev pub behind_byte : {A : Type 0} → (EncodingCodes → List ℕ → Parsed A) → ℕ → List ℕ → Parsed A
+behind_byte data_of b s = with_rest s (any_code b) >>= λ e. data_of e.0 e.1
+
+-- an item by its code, whose data follow
+abbrev pub item_at : {A : Type 0} → (EncodingCodes → List ℕ → Parsed A) → Constructor → List ℕ → Parsed A
+item_at data_of c s = byte_under c s >>= λ b. behind_byte data_of b.0 b.1
+
+-- the code that is looked at
+abbrev pub code_at : Constructor → List ℕ → Parsed EncodingCodes
+code_at c s = item_at (λ e t. Ok (e, t)) c s
+
+-- what must have room for its count: all but an array without elements
+abbrev pub not_empty : Bool → ℕ → Bool
+not_empty true zero = false
+not_empty true (suc n) = true
+not_empty false n = true
+
+-- The rule of every header, in this order: the count is not above the cap; in an array it is not above the size; the
+-- size covers the count, save in an array without elements.
+abbrev pub header_rule : ℕ → Bool → ℕ → ℕ → List ℕ → Parsed (ℕ × ℕ)
+header_rule w is_array size count s =
+    if nat_lt 65536 count then Err InvalidValue
+    else (if is_array && nat_lt size count then Err InvalidValue
+    else (if nat_lt size w && not_empty is_array count then Err InvalidLength
+    else Ok ((size, count), s)))
+
+unfoldable pub header_at : ℕ → Bool → List ℕ → Parsed (ℕ × ℕ)
+header_at w is_array s = number_at w s >>= λ z. number_at w z.1 >>= λ k. header_rule w is_array z.0 k.0 k.1
+
+abbrev pub count_at : ℕ → List ℕ → Parsed ℕ
+count_at w s = header_at w false s >>= λ h. Ok (h.0.1, h.1)
+
+-- the data of a list up to its elements, of which there are so many
+unfoldable pub list_data : EncodingCodes → List ℕ → Parsed ℕ
+list_data List0 s = Ok (0, s)
+list_data List8 s = count_at 1 s
+list_data List32 s = count_at 4 s
+list_data _ s = Err InvalidFormatCode

@@ -1,0 +1,50 @@
+//! The trait of the types that are read.
+
+ghost use Rattle.std.specs.Prelude.{Bool, true, false, ◌||◌, IfOk, IfErr};
+ghost use Rattle.amqp_de.specs.Decoding.{Decoding};
+ghost use Rattle.amqp_de.specs.Law.{Found, Missed};
+
+use crate::Deserializer;
+use amqp_base::{Error, Typed};
+use amqp_read::Read;
+use std::alloc::Global;
+
+/// A type that is read from a reader.
+pub trait Deserialize<R: Read>: Typed + Sized {
+    /// Reads the value of the next item.
+    fn deserialize(alloc: Global, de: &mut Deserializer<R>) -> Result<Self, Error>
+        ensures ok { IfOk result (λ v. Found Self.takes (λ i. Self.means i v) de.old de.new) }
+        ensures err { IfErr result (λ e. Missed Self.takes (Self.grows || R.buffers) R.buffers de.old de.new e) };
+}
+
+impl<R: Read> Deserialize<R> for u32 {
+    #[inline(always)]
+    fn deserialize(_alloc: Global, de: &mut Deserializer<R>) -> Result<u32, Error> {
+        de.deserialize_u32()
+    }
+}
+
+impl<R: Read> Deserialize<R> for i32 {
+    #[inline(always)]
+    fn deserialize(_alloc: Global, de: &mut Deserializer<R>) -> Result<i32, Error> {
+        de.deserialize_i32()
+    }
+}
+
+impl<R: Read> Deserialize<R> for String {
+    fn deserialize(alloc: Global, de: &mut Deserializer<R>) -> Result<String, Error> {
+        de.deserialize_string(alloc)
+    }
+}
+
+impl<R: Read, T: Deserialize<R>> Deserialize<R> for Vec<T> {
+    fn deserialize(alloc: Global, de: &mut Deserializer<R>) -> Result<Vec<T>, Error> {
+        let mut access = de.deserialize_list()?;
+        let mut items = Vec::new(alloc);
+        'items: while let Some(item) = access.next_element(alloc)? {
+            items.push(item)?;
+        }
+        access.end()?;
+        Ok(items)
+    }
+}

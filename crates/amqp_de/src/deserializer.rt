@@ -1,0 +1,108 @@
+//! The deserializer: a reader, and where in an item it stands.
+
+ghost use Rattle.std.specs.Prelude.{◌≡◌, ◌<◌, ℕ, Bool, true, false, ◌||◌, IsTrue, IfOk, IfErr, IsOk, [], ◌∷◌};
+ghost use Rattle.amqp_base.specs.Wire.{bare};
+ghost use Rattle.amqp_base.specs.Refusals.{IsDevice};
+ghost use Rattle.amqp_base.specs.Codes.{row};
+ghost use Rattle.amqp_read.specs.Reading.{Reading, Takes, Stays, Steady};
+ghost use Rattle.amqp_de.specs.Decoding.{Decoding, stands_under};
+ghost use Rattle.amqp_de.specs.Law.{Found, Missed};
+ghost use Rattle.amqp_de.specs.Steps.{Begins, BeginsNot, Stops, Unread};
+ghost use Rattle.amqp_de.specs.Parse.{byte_under};
+
+use crate::constructor::Constructor;
+use amqp_base::{Count, Error};
+use amqp_read::Read;
+use std::io::ErrorKind;
+use std::marker::Model;
+
+/// Reads values from a reader, one after the other. After a refusal, and after an access that was dropped without its
+/// `end`, every call is refused as `InvalidValue`; `into_reader` still gives the reader.
+#[derive(Drop)]
+pub struct Deserializer<R: Read> {
+    pub(crate) reader: R,
+    pub(crate) answers: bool,
+    pub(crate) inherited: Constructor,
+    pub(crate) described: bool,
+    pub(crate) begun: Count,
+}
+
+impl<R: Read> Model for Deserializer<R> {
+    ghost use Rattle.amqp_de.specs.Decoding.{Decoding};
+    ghost use Rattle.amqp_de.specs.Places.{constructor_of};
+
+    ghost Value = { Decoding };
+
+    ghost view = { λ d. record { reading = R.reading d.reader; answers = d.answers; inherited = constructor_of d.inherited; described = d.described; begun = d.begun.n } };
+}
+
+impl<R: Read> Deserializer<R> {
+    /// Reads from where `reader` stands.
+    pub fn new(reader: R) -> Deserializer<R>
+        ensures { result ≡ record { reading = R.reading reader; answers = true; inherited = bare; described = false; begun = 0 } }
+    {
+        Deserializer {
+            reader,
+            answers: true,
+            inherited: Constructor::Bare,
+            described: false,
+            begun: Count::new(),
+        }
+    }
+
+    /// The reader, where it stands.
+    pub fn into_reader(self) -> R
+        ensures { R.reading result ≡ self.reading }
+    {
+        let Deserializer {
+            reader,
+            answers: _,
+            inherited: _,
+            described: _,
+            begun: _,
+        } = self;
+        reader
+    }
+
+    /// False: the format is binary.
+    pub fn is_human_readable(&self) -> bool
+        ensures { result ≡ false }
+    {
+        false
+    }
+
+    /// Begins the next item: the byte of its code, which is consumed where it isn't inherited.
+    #[inline(always)]
+    pub(crate) fn begin(&mut self) -> Result<u8, Error>
+        ensures ok { IfOk result (λ b. Begins self.old self.new b) }
+        ensures err { IfErr result (λ e. BeginsNot R.buffers self.old self.new e) }
+    {
+        self.answers = false;
+        self.begun.tick();
+        let described = self.described;
+        self.described = false;
+        match &self.inherited {
+            Constructor::Bare => byte(&mut self.reader),
+            Constructor::Under(code) => Ok(code.byte()),
+            Constructor::UnderPair(_, code) => {
+                if described {
+                    return Ok(code.byte());
+                }
+                Ok(0)
+            }
+        }
+    }
+}
+
+/// Consumes the next byte.
+#[inline(always)]
+pub(crate) fn byte<R: Read>(reader: &mut R) -> Result<u8, Error>
+    ensures ok { IfOk result (λ b. Takes (R.reading reader.old) (R.reading reader.new) (b ∷ [])) }
+    ensures err { IfErr result (λ e. Unread R.buffers R.buffers 1 (R.reading reader.old) (R.reading reader.new) e) }
+{
+    match reader.next() {
+        Ok(Some(byte)) => Ok(byte),
+        Ok(None) => Err(Error::Io(ErrorKind::UnexpectedEof)),
+        Err(e) => Err(e),
+    }
+}

@@ -1,0 +1,74 @@
+//! Sizes and counts in front of a body: the one place where they are read.
+
+ghost use Rattle.std.specs.Prelude.{◌≡◌, ◌⊎◌, ℕ, ◌∷◌, Bool, true, false, None, IfOk, IfErr};
+ghost use Rattle.amqp_base.specs.Wire.{bare};
+ghost use Rattle.amqp_de.specs.Access.{Header, OpensData};
+ghost use Rattle.amqp_de.specs.Parse.{header_at, behind_byte, list_data, count_at};
+ghost use Rattle.amqp_de.specs.Steps.{Rejects, ParsesAs};
+
+use crate::payloads::number;
+use amqp_base::Error;
+use amqp_read::Read;
+
+/// The most elements of a list or an array, and keys and values of a map.
+const MOST: u32 = 65_536;
+
+/// The size and the count, which keep the rule of every header.
+#[inline(always)]
+pub(crate) fn header<R: Read>(
+    reader: &mut R,
+    width: u32,
+    is_array: bool,
+) -> Result<(u32, u32), Error>
+    requires { (width ≡ 1) ⊎ (width ≡ 4) }
+    ensures ok { IfOk result (λ h. Header width is_array h.0 h.1 (R.reading reader.old) (R.reading reader.new)) }
+    ensures err { IfErr result (λ e. Rejects R.buffers R.buffers (header_at width is_array) (R.reading reader.old) (R.reading reader.new) e) }
+{
+    let size = match number(reader, width) {
+        Ok(size) => size,
+        Err(e) => return Err(e),
+    };
+    let count = match number(reader, width) {
+        Ok(count) => count,
+        Err(e) => return Err(e),
+    };
+    if count > MOST {
+        return Err(Error::InvalidValue);
+    }
+    if is_array {
+        if count > size {
+            return Err(Error::InvalidValue);
+        }
+        if count > 0 {
+            if size < width {
+                return Err(Error::InvalidLength);
+            }
+        }
+        return Ok((size, count));
+    }
+    if size < width {
+        return Err(Error::InvalidLength);
+    }
+    Ok((size, count))
+}
+
+/// The data of a list up to its elements: how many there are.
+#[inline(always)]
+pub(crate) fn list_count<R: Read>(reader: &mut R, code: u8) -> Result<u32, Error>
+    ensures ok { IfOk result (λ n. OpensData code (R.reading reader.old) (R.reading reader.new) bare n None) }
+    ensures exact { IfOk result (λ n. ParsesAs (behind_byte list_data code) (R.reading reader.old) (R.reading reader.new) n) }
+    ensures err { IfErr result (λ e. Rejects R.buffers R.buffers (behind_byte list_data code) (R.reading reader.old) (R.reading reader.new) e) }
+{
+    match code {
+        0x45 => Ok(0),
+        0xc0 => match header(reader, 1, false) {
+            Ok((_, count)) => Ok(count),
+            Err(e) => Err(e),
+        },
+        0xd0 => match header(reader, 4, false) {
+            Ok((_, count)) => Ok(count),
+            Err(e) => Err(e),
+        },
+        _ => Err(Error::InvalidFormatCode),
+    }
+}

@@ -1,0 +1,183 @@
+//! The parts of a list, one at a time.
+
+ghost use Rattle.std.specs.Prelude.{◌≡◌, ℕ, ◌+◌, Bool, true, false, ◌||◌, None, IsTrue, OnOk, IfOk, IfErr};
+ghost use Rattle.std.specs.Borrow.{sem, RestsIfErr};
+ghost use Rattle.amqp_base.specs.Wire.{bare};
+ghost use Rattle.amqp_de.specs.Access.{Listing, Within, Next, Ends, Opens, OpensExactly, OpensNot};
+ghost use Rattle.amqp_de.specs.Decoding.{Decoding};
+ghost use Rattle.amqp_de.specs.Parse.{list_data};
+ghost use Rattle.amqp_de.specs.Places.{constructor_of, limit_of};
+ghost use Rattle.amqp_de.specs.Seq.{listing};
+ghost use Rattle.amqp_de.specs.contracts.deserializer.Deserializer.{the_row};
+
+use crate::constructor::{Constructor, Limit};
+use crate::header::list_count;
+use crate::{Deserialize, Deserializer};
+use amqp_base::Error;
+use amqp_read::Read;
+use std::alloc::Global;
+use std::mem;
+
+/// The elements of a list, one at a time. Its deserializer answers nothing until `end` succeeded.
+pub struct ListAccess<'a, R: Read, B = Beyond> {
+    pub(crate) de: &'a mut Deserializer<R>,
+    pub(crate) left: u32,
+    pub(crate) answers: bool,
+    pub(crate) beyond: B,
+}
+
+impl<R: Read, B: Drop> Drop for ListAccess<'_, R, B> {
+    fn drop(self)
+        ensures { self.exit.0.now ≡ self.entry.de.now }
+    {
+        let ListAccess {
+            de: _,
+            left: _,
+            answers: _,
+            beyond: _,
+        } = self;
+    }
+}
+
+/// What was inherited before, and where the parts must have ended.
+#[derive(Drop)]
+pub struct Beyond {
+    pub(crate) outer: Constructor,
+    pub(crate) limit: Option<Limit>,
+}
+
+/// How many parts there are, and what stands beyond them.
+#[derive(Drop)]
+pub(crate) struct Opened {
+    pub(crate) left: u32,
+    pub(crate) beyond: Beyond,
+}
+
+#[inline(always)]
+fn is_within(consumed: usize, limit: &Option<Limit>) -> bool
+    ensures yes { IsTrue result → Within (limit_of limit.now) consumed }
+    ensures no { result ≡ false → Within (limit_of limit.now) consumed → ⊥ }
+{
+    match limit {
+        None => true,
+        Some(limit) => consumed.saturating_sub(limit.start) <= limit.room as usize,
+    }
+}
+
+impl<R: Read> Deserializer<R> {
+    #[inline(always)]
+    fn set_answers(&mut self, answers: bool)
+        ensures { self.new ≡ record { reading = self.old.reading; answers = answers; inherited = self.old.inherited; described = self.old.described; begun = self.old.begun } }
+    {
+        self.answers = answers;
+    }
+
+    #[inline(always)]
+    fn bytes_consumed(&self) -> usize
+        ensures { result ≡ self.now.reading.taken }
+    {
+        self.reader.bytes_consumed()
+    }
+
+    /// Begins a list: its header is consumed.
+    #[inline(always)]
+    fn open_list(&mut self) -> Result<Opened, Error>
+        ensures ok { IfOk result (λ o. Opens self.old (record { state = self.new; left = o.left; answers = true; outer = constructor_of o.beyond.outer; limit = limit_of o.beyond.limit })) }
+        ensures exact { IfOk result (λ o. OpensExactly list_data self.old (record { state = self.new; left = o.left; answers = true; outer = constructor_of o.beyond.outer; limit = limit_of o.beyond.limit })) }
+        ensures err { IfErr result (λ e. OpensNot list_data R.buffers self.old self.new e) }
+    {
+        if !self.answers {
+            return Err(Error::InvalidValue);
+        }
+        match self.begin() {
+            Ok(code) => match list_count(&mut self.reader, code) {
+                Ok(left) => Ok(Opened {
+                    left,
+                    beyond: Beyond {
+                        outer: mem::replace(&mut self.inherited, Constructor::Bare),
+                        limit: None,
+                    },
+                }),
+                Err(e) => Err(e),
+            },
+            Err(e) => Err(e),
+        }
+    }
+
+    pub(crate) fn deserialize_list(&mut self) -> Result<ListAccess<'_, R>, Error>
+        ensures* refused { sem 𝓛 (RestsIfErr (the_row R.row R.Read) self.entry (λ a. a.de.ghost_name) result (λ last. IfErr result (λ e. OpensNot list_data R.buffers self.old last e))) }
+        ensures same_reference { IfOk result (λ a. a.de.ghost_name ≡ self.entry.ghost_name) }
+        ensures opened { IfOk result (λ a. Opens self.old (listing a)) }
+        ensures exact { IfOk result (λ a. OpensExactly list_data self.old (listing a)) }
+    {
+        let opened = self.open_list()?;
+        Ok(ListAccess {
+            de: self,
+            left: opened.left,
+            answers: true,
+            beyond: opened.beyond,
+        })
+    }
+}
+
+impl<'a, R: Read> ListAccess<'a, R> {
+    /// The next element; `None` where all were read. A refusal by the element's type, or one of this call
+    /// (`InvalidValue` where the element ends behind its array), ends the deserializer.
+    #[inline(always)]
+    pub fn next_element<T: Deserialize<R>>(&mut self, alloc: Global) -> Result<Option<T>, Error>
+        ensures same_reference { self.new.de.ghost_name ≡ self.old.de.ghost_name }
+        ensures kept_outer { constructor_of self.new.beyond.outer ≡ constructor_of self.old.beyond.outer }
+        ensures kept_limit { limit_of self.new.beyond.limit ≡ limit_of self.old.beyond.limit }
+        ensures closed { self.old.de.now.answers ≡ false → self.new.de.now.answers ≡ false }
+        ensures next { Next T.takes T.means (T.grows || R.buffers) R.buffers (listing self.old) result (listing self.new) }
+    {
+        if !self.answers {
+            return Err(Error::InvalidValue);
+        }
+        if self.left == 0 {
+            return Ok(None);
+        }
+        self.answers = false;
+        self.de.set_answers(true);
+        let item = T::deserialize(alloc, self.de);
+        self.de.set_answers(false);
+        let item = match item {
+            Ok(item) => item,
+            Err(e) => return Err(e),
+        };
+        let consumed = self.de.bytes_consumed();
+        let within = is_within(consumed, &self.beyond.limit);
+        if !within {
+            return Err(Error::InvalidValue);
+        }
+        self.answers = true;
+        self.left -= 1;
+        Ok(Some(item))
+    }
+
+    /// Ends the list: the deserializer answers again. `SequenceLengthMismatch` where elements were left unread,
+    /// `InvalidValue` after a refusal; then the deserializer is ended too.
+    #[inline(always)]
+    pub fn end(self) -> Result<(), Error>
+        ensures { Ends (listing self.entry) result self.exit.0.now }
+    {
+        let ListAccess {
+            de,
+            left,
+            answers,
+            beyond,
+        } = self;
+        if !answers {
+            de.answers = false;
+            return Err(Error::InvalidValue);
+        }
+        if left > 0 {
+            de.answers = false;
+            return Err(Error::SequenceLengthMismatch);
+        }
+        let Beyond { outer, limit: _ } = beyond;
+        de.inherited = outer;
+        de.answers = true;
+        Ok(())
+    }
+}

@@ -1,0 +1,105 @@
+//! Lengths, and the bytes behind them.
+
+ghost use Rattle.std.specs.Prelude.{◌≡◌, ◌⊎◌, ℕ, true, ◌||◌, IsTrue, IfOk, IfErr, string_bytes};
+ghost use Rattle.amqp_base.specs.Codes.{Kind};
+ghost use Rattle.amqp_base.specs.Item.{scalar, string};
+ghost use Rattle.amqp_base.specs.Typing.{is_of};
+ghost use Rattle.amqp_de.specs.Decoding.{stands_under};
+ghost use Rattle.amqp_de.specs.Law.{Found, Missed};
+ghost use Rattle.amqp_de.specs.Parse.{sized_at, text_at, item_at, data_at};
+ghost use Rattle.amqp_de.specs.Steps.{Number, Unread, Payload, Text, Rejects, Exact, Stops};
+
+use crate::Deserializer;
+use crate::deserializer::byte;
+use crate::leaf::Leaf;
+use amqp_base::Error;
+use amqp_read::{Read, read_const_bytes};
+use std::alloc::Global;
+
+/// A number of 1 or 4 bytes.
+#[inline(always)]
+pub(crate) fn number<R: Read>(reader: &mut R, width: u32) -> Result<u32, Error>
+    requires { (width ≡ 1) ⊎ (width ≡ 4) }
+    ensures ok { IfOk result (λ n. Number width n (R.reading reader.old) (R.reading reader.new)) }
+    ensures err { IfErr result (λ e. Unread R.buffers R.buffers width (R.reading reader.old) (R.reading reader.new) e) }
+{
+    if width == 1 {
+        return match byte(reader) {
+            Ok(byte) => Ok(byte as u32),
+            Err(e) => Err(e),
+        };
+    }
+    match read_const_bytes::<R, 4>(reader) {
+        Ok(bytes) => Ok(u32::from_be_bytes(bytes)),
+        Err(e) => Err(e),
+    }
+}
+
+/// A length of so many bytes, and as many bytes as it says.
+#[inline(always)]
+fn payload<R: Read>(alloc: Global, reader: &mut R, width: u32) -> Result<Vec<u8>, Error>
+    requires { (width ≡ 1) ⊎ (width ≡ 4) }
+    ensures ok { IfOk result (λ v. Payload width v.items (R.reading reader.old) (R.reading reader.new)) }
+    ensures err { IfErr result (λ e. Rejects true R.buffers (sized_at width) (R.reading reader.old) (R.reading reader.new) e) }
+{
+    match number(reader, width) {
+        Ok(len) => reader.read_bytes(alloc, len as usize),
+        Err(e) => Err(e),
+    }
+}
+
+/// A payload that is UTF-8.
+fn text<R: Read>(alloc: Global, reader: &mut R, width: u32) -> Result<String, Error>
+    requires { (width ≡ 1) ⊎ (width ≡ 4) }
+    ensures ok { IfOk result (λ t. Text width (string_bytes t) (R.reading reader.old) (R.reading reader.new)) }
+    ensures err { IfErr result (λ e. Rejects true R.buffers (text_at width) (R.reading reader.old) (R.reading reader.new) e) }
+{
+    match payload(alloc, reader, width) {
+        Ok(bytes) => match String::from_utf8(bytes) {
+            Ok(text) => Ok(text),
+            Err(_) => Err(Error::InvalidUtf8Encoding),
+        },
+        Err(e) => Err(e),
+    }
+}
+
+#[derive(Drop)]
+struct AsString(Global);
+
+impl Leaf for AsString {
+    ghost use Rattle.std.specs.Prelude.{true, refl, string_bytes};
+    ghost use Rattle.amqp_base.specs.Codes.{Kind};
+    ghost use Rattle.amqp_base.specs.Item.{string};
+
+    type Value = String;
+
+    ghost kind = { Kind.string };
+
+    ghost shows = { λ s. string (string_bytes s) };
+
+    ghost grows = { true };
+
+    ghost of_kind = { λ _. refl };
+
+    fn read<R: Read>(self, reader: &mut R, code: u8) -> Result<String, Error> {
+        match code {
+            0xa1 => text(self.0, reader, 1),
+            0xb1 => text(self.0, reader, 4),
+            _ => Err(Error::InvalidFormatCode),
+        }
+    }
+}
+
+impl<R: Read> Deserializer<R> {
+    /// A string (part 1, section 1.6.20). `InvalidFormatCode` where another item stands, a symbol too,
+    /// `Io(UnexpectedEof)` where bytes are missing, `InvalidUtf8Encoding` where they aren't UTF-8. A refusal ends the
+    /// deserializer.
+    pub fn deserialize_string(&mut self, alloc: Global) -> Result<String, Error>
+        ensures ok { IfOk result (λ s. Found (is_of Kind.string) (λ i. i ≡ scalar (string (string_bytes s))) self.old self.new) }
+        ensures err { IfErr result (λ e. Missed (is_of Kind.string) true R.buffers self.old self.new e) }
+        ensures exact { IsTrue self.old.answers → Exact (λ s. string (string_bytes s)) true R.buffers (item_at (data_at Kind.string) (stands_under self.old)) self.old.reading result self.new.reading }
+        ensures stops { Stops self.old result self.new }
+    {
+        self.leaf(AsString(alloc))
+    }
+}

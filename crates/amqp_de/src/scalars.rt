@@ -1,0 +1,110 @@
+//! Numbers.
+
+ghost use Rattle.std.specs.Prelude.{◌≡◌, ℕ, ℤ, false, ◌||◌, IsTrue, IfOk, IfErr};
+ghost use Rattle.amqp_base.specs.Codes.{Kind};
+ghost use Rattle.amqp_base.specs.Item.{scalar, uint, int};
+ghost use Rattle.amqp_base.specs.Typing.{is_of};
+ghost use Rattle.amqp_de.specs.Decoding.{stands_under};
+ghost use Rattle.amqp_de.specs.Law.{Found, Missed};
+ghost use Rattle.amqp_de.specs.Parse.{item_at, data_at};
+ghost use Rattle.amqp_de.specs.Steps.{Exact, Stops};
+
+use crate::Deserializer;
+use crate::deserializer::byte;
+use crate::leaf::Leaf;
+use amqp_base::Error;
+use amqp_read::{Read, read_const_bytes};
+
+#[derive(Drop)]
+struct AsUint;
+
+impl Leaf for AsUint {
+    ghost use Rattle.std.specs.Prelude.{false, refl};
+    ghost use Rattle.amqp_base.specs.Codes.{Kind};
+    ghost use Rattle.amqp_base.specs.Item.{uint};
+
+    type Value = u32;
+
+    ghost kind = { Kind.uint };
+
+    ghost shows = { uint };
+
+    ghost grows = { false };
+
+    ghost of_kind = { λ _. refl };
+
+    #[inline(always)]
+    fn read<R: Read>(self, reader: &mut R, code: u8) -> Result<u32, Error> {
+        match code {
+            0x70 => match read_const_bytes::<R, 4>(reader) {
+                Ok(bytes) => Ok(u32::from_be_bytes(bytes)),
+                Err(e) => Err(e),
+            },
+            0x52 => match byte(reader) {
+                Ok(byte) => Ok(byte as u32),
+                Err(e) => Err(e),
+            },
+            0x43 => Ok(0),
+            _ => Err(Error::InvalidFormatCode),
+        }
+    }
+}
+
+#[derive(Drop)]
+struct AsInt;
+
+impl Leaf for AsInt {
+    ghost use Rattle.std.specs.Prelude.{false, refl};
+    ghost use Rattle.amqp_base.specs.Codes.{Kind};
+    ghost use Rattle.amqp_base.specs.Item.{int};
+
+    type Value = i32;
+
+    ghost kind = { Kind.int };
+
+    ghost shows = { int };
+
+    ghost grows = { false };
+
+    ghost of_kind = { λ _. refl };
+
+    #[inline(always)]
+    fn read<R: Read>(self, reader: &mut R, code: u8) -> Result<i32, Error> {
+        match code {
+            0x71 => match read_const_bytes::<R, 4>(reader) {
+                Ok(bytes) => Ok(i32::from_be_bytes(bytes)),
+                Err(e) => Err(e),
+            },
+            0x54 => match read_const_bytes::<R, 1>(reader) {
+                Ok(bytes) => Ok(i8::from_be_bytes(bytes) as i32),
+                Err(e) => Err(e),
+            },
+            _ => Err(Error::InvalidFormatCode),
+        }
+    }
+}
+
+impl<R: Read> Deserializer<R> {
+    /// A uint, in any of its three encodings (part 1, section 1.6.5). `InvalidFormatCode` where another item stands,
+    /// `Io(UnexpectedEof)` where bytes are missing. A refusal ends the deserializer.
+    #[inline(always)]
+    pub fn deserialize_u32(&mut self) -> Result<u32, Error>
+        ensures ok { IfOk result (λ n. Found (is_of Kind.uint) (λ i. i ≡ scalar (uint n)) self.old self.new) }
+        ensures err { IfErr result (λ e. Missed (is_of Kind.uint) R.buffers R.buffers self.old self.new e) }
+        ensures exact { IsTrue self.old.answers → Exact uint R.buffers R.buffers (item_at (data_at Kind.uint) (stands_under self.old)) self.old.reading result self.new.reading }
+        ensures stops { Stops self.old result self.new }
+    {
+        self.leaf(AsUint)
+    }
+
+    /// An int, in either of its two encodings (part 1, section 1.6.9), refused as a uint is.
+    #[inline(always)]
+    pub fn deserialize_i32(&mut self) -> Result<i32, Error>
+        ensures ok { IfOk result (λ n. Found (is_of Kind.int) (λ i. i ≡ scalar (int n)) self.old self.new) }
+        ensures err { IfErr result (λ e. Missed (is_of Kind.int) R.buffers R.buffers self.old self.new e) }
+        ensures exact { IsTrue self.old.answers → Exact int R.buffers R.buffers (item_at (data_at Kind.int) (stands_under self.old)) self.old.reading result self.new.reading }
+        ensures stops { Stops self.old result self.new }
+    {
+        self.leaf(AsInt)
+    }
+}
