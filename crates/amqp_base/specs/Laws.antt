@@ -5,7 +5,7 @@ use Rattle.amqp_base.specs.Wire.{Rules, lenient, strict, Constructor, bare, unde
 use Rattle.amqp_base.specs.Canon.{canon}
 use Rattle.amqp_base.specs.Raw.{raw}
 
--- bytes have at most one front
+-- bytes have at most one front: no other item, and no other length
 abbrev pub OneFront : Rules → Type 0
 OneFront r = (c : Constructor) (s : List ℕ) (i j : Item) (m n : ℕ) → Front r c s i m → Front r c s j n → (i ≡ j) × (m ≡ n)
 
@@ -37,8 +37,8 @@ IsUsual (string b) = length b ≡ 255 → ⊥
 IsUsual (symbol b) = length b ≡ 255 → ⊥
 IsUsual _ = Unit {0}
 
--- no array, and no payload of 255 bytes, is in the item
 abbrev mutual
+  -- no array, and no payload of 255 bytes, is in the item
   pub Usual : Item → Type 0
   Usual (scalar v) = IsUsual v
   Usual (list is) = UsualIn is
@@ -46,14 +46,17 @@ abbrev mutual
   Usual (array is) = ⊥
   Usual (described d v) = IsUsual (descriptor_item d) × Usual v
 
+  -- of each item
   pub UsualIn : Items → Type 0
   UsualIn none = Unit {0}
   UsualIn (more i is) = Usual i × UsualIn is
 
+  -- of each key and value
   pub UsualInPairs : Pairs → Type 0
   UsualInPairs no_pairs = Unit {0}
   UsualInPairs (pair k v ps) = Usual k × Usual v × UsualInPairs ps
 
+-- numbers of a list are bytes
 abbrev pub AreBytes : List ℕ → Type 0
 AreBytes b = (k : ℕ) → get_or b k 0 < 256
 
@@ -73,6 +76,7 @@ most_items bare n = 16384 * n
 most_items (under e) n = max 1 (16384 * n)
 most_items (under_pair d e) n = max 2 (16384 * n)
 
+-- a front of n bytes spells few items
 abbrev pub ItemsBounded : Type 0
 ItemsBounded = (c : Constructor) (s : List ℕ) (i : Item) (n : ℕ) → AreBytes s → Front lenient c s i n → items_under c i ≤ most_items c n
 

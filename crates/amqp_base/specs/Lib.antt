@@ -2,6 +2,11 @@ pub mod Codes
 pub mod Item
 pub mod Value
 pub mod Wire
+pub mod Partial
+pub mod ScalarBody
+pub mod ScalarText
+pub mod Headers
+pub mod KindCode
 pub mod Canon
 pub mod Raw
 pub mod Sizes
