@@ -12,6 +12,7 @@ pub mod Decides
 pub mod ScalarFront
 pub mod Shortest
 pub mod Bounded
+pub mod BoundedPlain
 pub mod Big
 pub mod Rows
 pub mod RawAgrees

@@ -4,6 +4,7 @@ use Rattle.amqp_base.specs.Item.{Scalar, binary, string, symbol, descriptor_item
 use Rattle.amqp_base.specs.Wire.{Rules, lenient, strict, Constructor, bare, under, under_pair, Wire, Front}
 use Rattle.amqp_base.specs.Canon.{canon}
 use Rattle.amqp_base.specs.Raw.{raw}
+use Rattle.amqp_base.specs.PlainArrays.{PlainArrays}
 
 -- bytes have at most one front: no other item, and no other length
 abbrev pub OneFront : Rules → Type 0
@@ -79,6 +80,16 @@ most_items (under_pair d e) n = max 2 (16384 * n)
 -- a front of n bytes spells few items
 abbrev pub ItemsBounded : Type 0
 ItemsBounded = (c : Constructor) (s : List ℕ) (i : Item) (n : ℕ) → AreBytes s → Front lenient c s i n → items_under c i ≤ most_items c n
+
+-- how many items n bytes can spell where no array has described elements
+abbrev pub most_plain_items : Constructor → ℕ → ℕ
+most_plain_items bare n = 8192 * n
+most_plain_items (under e) n = max 1 (8192 * n)
+most_plain_items (under_pair d e) n = max 2 (8192 * n)
+
+-- such a front of n bytes spells half as many
+abbrev pub ItemsBoundedPlain : Type 0
+ItemsBoundedPlain = (c : Constructor) (s : List ℕ) (i : Item) (n : ℕ) → AreBytes s → PlainArrays i → Front lenient c s i n → items_under c i ≤ most_plain_items c n
 
 -- a canonical text is read again, whatever follows it
 abbrev pub CanonFront : Type 0

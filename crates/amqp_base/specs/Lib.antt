@@ -15,4 +15,5 @@ pub mod Typing
 pub mod OneValue
 pub mod Faults
 pub mod Refusals
+pub mod PlainArrays
 pub mod Laws
