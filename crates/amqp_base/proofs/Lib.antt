@@ -4,6 +4,7 @@ pub mod ScalarStrict
 pub mod ShortStrict
 pub mod CanonStrict
 pub mod OneFront
+pub mod CutShort
 pub mod CanonOne
 pub mod Decode
 pub mod DecodeSound

@@ -1,5 +1,5 @@
 -- What holds of the wire. Each is the contract of a law function.
-use Rattle.std.specs.Prelude.{◌≡◌, ℕ, ◌≤◌, ◌<◌, ◌-◌, ◌*◌, max, List, ◌++◌, length, get_or, Some}
+use Rattle.std.specs.Prelude.{◌≡◌, ℕ, ◌≤◌, ◌<◌, ◌-◌, ◌*◌, max, List, ◌++◌, length, take, get_or, Some}
 use Rattle.amqp_base.specs.Item.{Scalar, binary, string, symbol, descriptor_item, Item, scalar, list, map, array, described, Items, none, more, Pairs, no_pairs, pair, Capped, items}
 use Rattle.amqp_base.specs.Wire.{Rules, lenient, strict, Constructor, bare, under, under_pair, Wire, Front}
 use Rattle.amqp_base.specs.Canon.{canon}
@@ -9,6 +9,10 @@ use Rattle.amqp_base.specs.PlainArrays.{PlainArrays}
 -- bytes have at most one front: no other item, and no other length
 abbrev pub OneFront : Rules → Type 0
 OneFront r = (c : Constructor) (s : List ℕ) (i j : Item) (m n : ℕ) → Front r c s i m → Front r c s j n → (i ≡ j) × (m ≡ n)
+
+-- where an item is cut short, no item stands
+abbrev pub CutShort : Rules → Type 0
+CutShort r = (c : Constructor) (s : List ℕ) (i j : Item) (n m k : ℕ) → Front r c s i n → m < n → Front r c (take m s) j k → ⊥
 
 -- a described item whose own value is described
 abbrev pub IsTwiceDescribed : Item → Type 0
