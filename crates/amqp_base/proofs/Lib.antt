@@ -15,5 +15,10 @@ pub mod Shortest
 pub mod Bounded
 pub mod BoundedPlain
 pub mod Big
+pub mod RowWords
 pub mod Rows
+pub mod RowsArrays
+pub mod RowsRead
+pub mod RowsRefused
+pub mod RowsForms
 pub mod RawAgrees

@@ -1,7 +1,7 @@
 //! A caller of each law of the wire: what a crate above `amqp_base` can prove by it. Nothing here does anything at run time.
 #![tactic(auto)]
 
-ghost use Rattle.std.specs.Prelude.{◌≡◌, ℕ, ◌*◌, ◌≤◌, List, ◌++◌, length, Some};
+ghost use Rattle.std.specs.Prelude.{◌≡◌, ℕ, ◌*◌, ◌≤◌, List, ◌++◌, length, take, Some};
 ghost use Rattle.amqp_base.specs.Item.{Item, scalar, uint, Capped, items};
 ghost use Rattle.amqp_base.specs.Wire.{Front, Wire, lenient, strict, bare};
 ghost use Rattle.amqp_base.specs.Canon.{canon};
@@ -16,6 +16,13 @@ pub fn one_uint(_bytes: &[u8])
     ensures { (v : ℕ) (i : Item) (m n : ℕ) → Front lenient bare _bytes.now (scalar (uint v)) m → Front lenient bare _bytes.now i n → (scalar (uint v)) ≡ i }
 {
     laws::one_front();
+}
+
+/// Where the uint 5 stands in five bytes, nothing stands in the first four.
+pub fn cut(_bytes: &[u8])
+    ensures { (j : Item) (k : ℕ) → Front lenient bare _bytes.now (scalar (uint 5)) 5 → Front lenient bare (take 4 _bytes.now) j k → ⊥ }
+{
+    laws::cut_short();
 }
 
 /// A canonical text is a strict form, and a wire form where no count is too high.
