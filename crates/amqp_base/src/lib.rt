@@ -8,6 +8,8 @@ mod fault;
 mod format_code;
 pub mod laws;
 mod shape;
+#[cfg(test)]
+mod tests;
 mod typed;
 
 pub use constants::{
