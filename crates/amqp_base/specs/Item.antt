@@ -18,8 +18,8 @@ pub data Scalar : Type 0 where
   -- the bytes
   uuid binary string symbol : List ℕ → Scalar
 
--- A descriptor is a symbol or a ulong (1.5). Other descriptors, which 1.2 leaves open, aren't read or written: this
--- profile's own rule.
+-- A descriptor is a symbol or a ulong. Other descriptors, which 1.5 reserves, aren't read or written: this profile's own
+-- rule.
 pub data Descriptor : Type 0 where
   name : List ℕ → Descriptor
   code : ℕ → Descriptor
