@@ -2,9 +2,9 @@
 
 use crate::{
     Count, Counted, DECIMAL32_WIDTH, DECIMAL64_WIDTH, DECIMAL128_WIDTH, DESCRIBED_BASIC,
-    DESCRIBED_LIST, DESCRIBED_MAP, DESCRIPTOR, MAX_ARRAY_COUNT, OFFSET_ARRAY8, OFFSET_ARRAY32,
-    OFFSET_LIST8, OFFSET_LIST32, OFFSET_MAP8, OFFSET_MAP32, Setting, Shape, UNTAGGED_ENUM,
-    UUID_WIDTH, VALUE,
+    DESCRIBED_LIST, DESCRIBED_MAP, DESCRIPTOR, EnumType, IsArrayElement, MAX_ARRAY_COUNT,
+    OFFSET_ARRAY8, OFFSET_ARRAY32, OFFSET_LIST8, OFFSET_LIST32, OFFSET_MAP8, OFFSET_MAP32, Setting,
+    Shape, StructEncoding, UNTAGGED_ENUM, UUID_WIDTH, VALUE,
 };
 
 #[test]
@@ -45,4 +45,16 @@ fn settings_and_shapes_differ(rt: HostRuntime) {
     assert_ne!(rt; Setting::DescribedList, Setting::DescribedMap);
     assert_eq!(rt; Setting::DescribedBasic, Setting::DescribedBasic);
     assert_ne!(rt; Shape::List, Shape::Array);
+}
+
+#[test]
+fn defaults_are_none(rt: HostRuntime) {
+    assert!(rt; matches!(EnumType::default(), EnumType::None));
+    assert!(rt; matches!(StructEncoding::default(), StructEncoding::None));
+    let elements = [
+        IsArrayElement::False,
+        IsArrayElement::FirstElement,
+        IsArrayElement::OtherElement,
+    ];
+    assert_eq!(rt; elements.len(), 3);
 }
