@@ -13,17 +13,17 @@ use Rattle.amqp_base.specs.Wire.{pair as pair_constructor}
 use Rattle.amqp_base.specs.Laws.{AreBytes, items_under, most_items, ItemsBounded}
 use Rattle.amqp_base.proofs.Shortest.{bytes_left, bytes_right, bytes_rest, one_byte, compound_width}
 
-array_width : (e : EncodingCodes) (w : ℕ) → Array w ≡ (row e).category → (w ≡ 1) ⊎ (w ≡ 4)
+pub array_width : (e : EncodingCodes) (w : ℕ) → Array w ≡ (row e).category → (w ≡ 1) ⊎ (w ≡ 4)
 unfolding row
 array_width Array8 w h = inl cc
 array_width Array32 w h = inr cc
 array_width _ w h = absurd cc
 
-some_width : (w : ℕ) → (w ≡ 1) ⊎ (w ≡ 4) → 1 ≤ w
+pub some_width : (w : ℕ) → (w ≡ 1) ⊎ (w ≡ 4) → 1 ≤ w
 some_width w (inl h) = omega arith
 some_width w (inr h) = omega arith
 
-turned : (ps : Pairs) → items_in (in_turn ps) ≡ items_in_pairs ps
+pub turned : (ps : Pairs) → items_in (in_turn ps) ≡ items_in_pairs ps
 turned no_pairs = refl
 turned (pair k v ps) = ap (λ (n : ℕ). items k + (items v + n)) (turned ps)
 

@@ -1,4 +1,4 @@
--- The scalar program decides what stands at the front of bytes.
+-- The simple program decides what stands at the front of bytes.
 use Rattle.std.proofs.Common.{◌≡◌, ℕ, ◌+◌, ◌-◌, ◌≤◌, List, [], ◌∷◌, ◌++◌, length, take, drop, Option, Some, None, refl, sym, ap, subst, ◌∙◌, arith}
 use Rattle.std.proofs.lemmas.List.{length-append, take-append-drop, take_at}
 use Rattle.std.proofs.lemmas.Option.{none-some}

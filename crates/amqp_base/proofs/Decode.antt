@@ -1,4 +1,4 @@
--- A scalar program that reads a text from left to right. What it reads is spelled so.
+-- A simple program that reads a text from left to right. What it reads is spelled so.
 use Rattle.std.proofs.Common.{ℕ, zero, suc, ◌+◌, ◌-◌, Bool, true, false, cond, leb, eqb, ◌&&◌, List, [], ◌∷◌, length, take, drop, Option, Some, None}
 use Rattle.amqp_base.specs.declared.format_code.EncodingCodes.{EncodingCodes}
 use Rattle.amqp_base.specs.declared.format_code.EncodingCodes.TheVariants.{List0}

@@ -1,4 +1,4 @@
--- What is spelled is read by the scalar program.
+-- What is spelled is read by the simple program.
 use Rattle.std.proofs.Common.{◌≡◌, ℕ, zero, suc, ◌+◌, ◌-◌, ◌≤◌, max, true, false, leb, ◌&&◌, List, [], ◌∷◌, ◌++◌, length, Some, None, refl, sym, ap, subst, ◌∙◌, arith, ⊎_elim, append_assoc}
 use Rattle.std.proofs.lemmas.Bool.{le-leb, eq-eqb, and_from, cond-true, cond-false, cases_Bool}
 use Rattle.std.proofs.lemmas.List.{length-append, take_at, drop_at}

@@ -1,7 +1,8 @@
 -- Kinds are told apart by their places.
 use Rattle.std.proofs.Common.{◌≡◌, ℕ, true, IsTrue, [], ◌∷◌, List, refl, sym, ap, ◌∙◌, get_or}
 use Rattle.std.proofs.lemmas.Bool.{eq-eqb, eqb-true}
-use Rattle.amqp_base.specs.Codes.{Kind, place, same_kind}
+use Rattle.amqp_base.specs.Codes.{Kind}
+use Rattle.amqp_base.specs.SameKind.{place, same_kind}
 use Rattle.amqp_base.specs.Item.{Scalar, scalar}
 use Rattle.amqp_base.specs.Canon.{kind_of}
 use Rattle.amqp_base.specs.Typing.{is_of}

@@ -4,6 +4,7 @@ pub mod ScalarStrict
 pub mod ShortStrict
 pub mod CanonStrict
 pub mod OneFront
+pub mod CutShort
 pub mod CanonOne
 pub mod Decode
 pub mod DecodeSound
@@ -12,8 +13,14 @@ pub mod Decides
 pub mod ScalarFront
 pub mod Shortest
 pub mod Bounded
+pub mod BoundedPlain
 pub mod Big
+pub mod RowWords
 pub mod Rows
+pub mod RowsArrays
+pub mod RowsRead
+pub mod RowsRefused
+pub mod RowsForms
 pub mod RawAgrees
 pub mod KindPlaces
 pub mod CodeAgain

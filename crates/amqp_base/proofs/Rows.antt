@@ -1,109 +1,113 @@
--- Worked rows.
-use Rattle.std.proofs.Common.{◌≡◌, ℕ, zero, suc, ℤ, pos, List, [], ◌∷◌, Some, None, true, refl}
+-- Worked examples: what is written for items outside arrays.
+use Rattle.std.proofs.Common.{◌≡◌, ℕ, zero, suc, pos, negsuc, List, [], ◌∷◌, ◌++◌, length, Some, None, true, false, refl}
 use Rattle.std.specs.Str.{is_utf8, chars}
 use Rattle.std.specs.Char.{encode_utf8}
-use Rattle.amqp_base.specs.Codes.{row, code_of, widest}
-use Rattle.amqp_base.specs.Item.{null, boolean, uint, int, string, code, Item, scalar, list, array, described, Items, none, more, items_of}
-use Rattle.amqp_base.specs.Value.{read, payload}
-use Rattle.amqp_base.specs.Wire.{lenient, bare, Front}
-use Rattle.amqp_base.proofs.Decides.{reading, reads_front, reads_none}
-use Rattle.amqp_base.specs.Canon.{canon, scalar_text, short_text, scalar_body, list_text, kind_code}
-use Rattle.amqp_base.specs.Raw.{raw}
-use Rattle.amqp_base.proofs.Decode.{decode, as_descriptor, is_list0}
+use Rattle.amqp_base.specs.Codes.{row, widest}
+use Rattle.amqp_base.specs.Item.{boolean, ulong, int, timestamp, string, symbol, scalar, list, map, none, more, no_pairs, pair, items_of}
+use Rattle.amqp_base.specs.Canon.{canon, scalar_text, short_text, scalar_body, list_text}
+use Rattle.amqp_base.proofs.RowWords.{uint_item, int_item, ints, two_items, from, letters}
 
-ints : List ℤ → List Item
-ints [] = []
-ints (z ∷ zs) = scalar (int z) ∷ ints zs
-
-abbrev i : ℕ → Item
-i n = scalar (int (pos n))
-
-canon_zero : canon (scalar (uint 0)) ≡ Some (0x43 ∷ [])
+uint_zero : canon (uint_item 0) ≡ Some (0x43 ∷ [])
 unfolding canon scalar_text short_text
-canon_zero = refl
+uint_zero = refl
 
-canon_256 : canon (scalar (uint 256)) ≡ Some (0x70 ∷ 0 ∷ 0 ∷ 1 ∷ 0 ∷ [])
+uint_one_byte : canon (uint_item 255) ≡ Some (0x52 ∷ 0xff ∷ [])
+unfolding canon scalar_text short_text
+uint_one_byte = refl
+
+uint_four_bytes : canon (uint_item 256) ≡ Some (0x70 ∷ 0 ∷ 0 ∷ 1 ∷ 0 ∷ [])
 unfolding canon scalar_text short_text scalar_body widest row
-canon_256 = refl
+uint_four_bytes = refl
 
-canon_list : canon (list (items_of (i 1 ∷ i 2 ∷ []))) ≡ Some (0xc0 ∷ 5 ∷ 2 ∷ 0x54 ∷ 1 ∷ 0x54 ∷ 2 ∷ [])
+uint_too_large : canon (uint_item 4294967296) ≡ None
+unfolding canon scalar_text short_text scalar_body widest row
+uint_too_large = refl
+
+int_one_byte : canon (scalar (int (negsuc 127))) ≡ Some (0x54 ∷ 0x80 ∷ [])
+unfolding canon scalar_text short_text
+int_one_byte = refl
+
+int_four_bytes : canon (int_item 128) ≡ Some (0x71 ∷ 0 ∷ 0 ∷ 0 ∷ 0x80 ∷ [])
+unfolding canon scalar_text short_text scalar_body widest row
+int_four_bytes = refl
+
+string_of_254_bytes : canon (scalar (string (letters 254))) ≡ Some (0xa1 ∷ 0xfe ∷ letters 254)
+unfolding canon scalar_text short_text is_utf8 chars encode_utf8
+string_of_254_bytes = refl
+
+string_of_255_bytes : canon (scalar (string (letters 255))) ≡ Some (0xb1 ∷ 0 ∷ 0 ∷ 0 ∷ 0xff ∷ letters 255)
+unfolding canon scalar_text short_text scalar_body widest row is_utf8 chars encode_utf8
+string_of_255_bytes = refl
+
+string_no_text : canon (scalar (string (0xff ∷ []))) ≡ None
+unfolding canon scalar_text short_text scalar_body widest row is_utf8 chars encode_utf8
+string_no_text = refl
+
+a_symbol : canon (scalar (symbol (0x61 ∷ []))) ≡ Some (0xa3 ∷ 1 ∷ 0x61 ∷ [])
+unfolding canon scalar_text short_text is_utf8 chars encode_utf8
+a_symbol = refl
+
+empty_list : canon (list none) ≡ Some (0x45 ∷ [])
+unfolding canon list_text
+empty_list = refl
+
+list_of_ints : canon (list (items_of (ints (1 ∷ 2 ∷ [])))) ≡ Some (0xc0 ∷ 5 ∷ 2 ∷ 0x54 ∷ 1 ∷ 0x54 ∷ 2 ∷ [])
 unfolding canon scalar_text short_text list_text
-canon_list = refl
+list_of_ints = refl
 
-canon_array : canon (array (items_of (i 1 ∷ i 2 ∷ []))) ≡ Some (0xe0 ∷ 0x0a ∷ 2 ∷ 0x71 ∷ 0 ∷ 0 ∷ 0 ∷ 1 ∷ 0 ∷ 0 ∷ 0 ∷ 2 ∷ [])
-unfolding canon scalar_text short_text scalar_body widest row kind_code
-canon_array = refl
+empty_map : canon (map no_pairs) ≡ Some (0xc1 ∷ 1 ∷ 0 ∷ [])
+unfolding canon
+empty_map = refl
 
-canon_text_array : canon (array (items_of (scalar (string (0xc3 ∷ 0xa9 ∷ [])) ∷ []))) ≡ Some (0xe0 ∷ 8 ∷ 1 ∷ 0xb1 ∷ 0 ∷ 0 ∷ 0 ∷ 2 ∷ 0xc3 ∷ 0xa9 ∷ [])
-unfolding canon scalar_text short_text scalar_body widest row kind_code is_utf8 chars encode_utf8
-canon_text_array = refl
+map_of_timestamp : canon (map (pair (scalar (timestamp (pos 0))) (scalar (string (0x78 ∷ []))) no_pairs)) ≡ Some (0xc1 ∷ 0x0d ∷ 2 ∷ 0x83 ∷ 0 ∷ 0 ∷ 0 ∷ 0 ∷ 0 ∷ 0 ∷ 0 ∷ 0 ∷ 0xa1 ∷ 1 ∷ 0x78 ∷ [])
+unfolding canon scalar_text short_text scalar_body widest row is_utf8 chars encode_utf8
+map_of_timestamp = refl
 
-decode_list : decode 3 lenient bare (0xc0 ∷ 2 ∷ 1 ∷ 0x71 ∷ 0 ∷ 0 ∷ 0 ∷ 5 ∷ []) ≡ Some (list (items_of (i 5 ∷ [])), [])
-unfolding decode row code_of read payload is_list0 as_descriptor
-decode_list = refl
+-- the ints from k on, one byte each behind its code
+abbrev small_ints : ℕ → ℕ → List ℕ
+small_ints k zero = []
+small_ints k (suc n) = 0x54 ∷ k ∷ small_ints (suc k) n
 
-decode_odd : decode 5 lenient bare (0xc0 ∷ 7 ∷ 2 ∷ 0xe0 ∷ 2 ∷ 0 ∷ 0x40 ∷ 0x54 ∷ 7 ∷ []) ≡ Some (list (items_of (array none ∷ i 7 ∷ [])), [])
-unfolding decode row code_of read payload is_list0 as_descriptor
-decode_odd = refl
+list_body_of_254_bytes : canon (list (items_of (ints (from 0 127)))) ≡ Some (0xc0 ∷ 0xff ∷ 0x7f ∷ small_ints 0 127)
+unfolding canon scalar_text short_text list_text
+list_body_of_254_bytes = refl
 
-decode_described : decode 5 lenient bare (0x00 ∷ 0x53 ∷ 0x13 ∷ 0xc0 ∷ 4 ∷ 2 ∷ 0x41 ∷ 0x54 ∷ 3 ∷ 0xff ∷ []) ≡ Some (described (code 0x13) (list (items_of (scalar (boolean true) ∷ i 3 ∷ []))), 0xff ∷ [])
-unfolding decode row code_of read payload is_list0 as_descriptor
-decode_described = refl
+so_257_bytes : length (0xc0 ∷ 0xff ∷ 0x7f ∷ small_ints 0 127) ≡ 257
+so_257_bytes = refl
 
-decode_nothing : decode 5 lenient bare (0xc0 ∷ 0 ∷ 0 ∷ []) ≡ None
-unfolding decode row code_of read payload is_list0 as_descriptor
-decode_nothing = refl
+list_body_of_256_bytes : canon (list (items_of (ints (from 0 128)))) ≡ Some (0xd0 ∷ 0 ∷ 0 ∷ 1 ∷ 4 ∷ 0 ∷ 0 ∷ 0 ∷ 0x80 ∷ small_ints 0 128)
+unfolding canon scalar_text short_text list_text
+list_body_of_256_bytes = refl
 
-raw_row : raw (0x00 ∷ 0xa3 ∷ 1 ∷ 0x61 ∷ 0x45 ∷ 0xff ∷ []) ≡ Some 5
-unfolding raw row code_of
-raw_row = refl
+struct_as_list : canon (list (two_items (uint_item 13) (scalar (boolean true)))) ≡ Some (0xc0 ∷ 4 ∷ 2 ∷ 0x52 ∷ 0x0d ∷ 0x41 ∷ [])
+unfolding canon scalar_text short_text list_text
+struct_as_list = refl
 
--- a string of n letters a
-letters : ℕ → List ℕ
-letters zero = []
-letters (suc n) = 0x61 ∷ letters n
+-- bar and is_fool
+abbrev bar : List ℕ
+bar = 0x62 ∷ 0x61 ∷ 0x72 ∷ []
 
-long_text : canon (scalar (string (letters 254))) ≡ Some (0xa1 ∷ 254 ∷ letters 254)
-unfolding canon scalar_text short_text letters is_utf8 chars encode_utf8
-long_text = refl
+abbrev is_fool : List ℕ
+is_fool = 0x69 ∷ 0x73 ∷ 0x5f ∷ 0x66 ∷ 0x6f ∷ 0x6f ∷ 0x6c ∷ []
 
-longer_text : canon (scalar (string (letters 255))) ≡ Some (0xb1 ∷ 0 ∷ 0 ∷ 0 ∷ 255 ∷ letters 255)
-unfolding canon scalar_text short_text scalar_body widest row letters is_utf8 chars encode_utf8
-longer_text = refl
+struct_as_map : canon (map (pair (scalar (string bar)) (uint_item 13) (pair (scalar (string is_fool)) (scalar (boolean true)) no_pairs))) ≡ Some (0xc1 ∷ 0x12 ∷ 4 ∷ 0xa1 ∷ 3 ∷ bar ++ 0x52 ∷ 0x0d ∷ 0xa1 ∷ 7 ∷ is_fool ++ 0x41 ∷ [])
+unfolding canon scalar_text short_text is_utf8 chars encode_utf8
+struct_as_map = refl
 
-units : ℕ → Items
-units zero = none
-units (suc n) = more (scalar null) (units n)
+-- a variant is its index, or a map from the index to its fields
+unit_variant : canon (uint_item 1) ≡ Some (0x52 ∷ 1 ∷ [])
+unfolding canon scalar_text short_text
+unit_variant = refl
 
-units_300 : decode 4 lenient bare (0xf0 ∷ 0 ∷ 0 ∷ 1 ∷ 0x2c ∷ 0 ∷ 0 ∷ 1 ∷ 0x2c ∷ 0x40 ∷ []) ≡ Some (array (units 300), [])
-unfolding decode row code_of read payload is_list0 as_descriptor units
-units_300 = refl
+newtype_variant : canon (map (pair (uint_item 1) (uint_item 13) no_pairs)) ≡ Some (0xc1 ∷ 5 ∷ 2 ∷ 0x52 ∷ 1 ∷ 0x52 ∷ 0x0d ∷ [])
+unfolding canon scalar_text short_text
+newtype_variant = refl
 
--- no front: the size of a list is below its header
-none_there : reading lenient bare (0xc0 ∷ 0 ∷ 0 ∷ []) ≡ None
-unfolding decode row code_of read payload is_list0 as_descriptor
-none_there = refl
+struct_variant : canon (map (pair (uint_item 3) (list (two_items (uint_item 7) (scalar (boolean false)))) no_pairs)) ≡ Some (0xc1 ∷ 9 ∷ 2 ∷ 0x52 ∷ 3 ∷ 0xc0 ∷ 4 ∷ 2 ∷ 0x52 ∷ 7 ∷ 0x42 ∷ [])
+unfolding canon scalar_text short_text list_text
+struct_variant = refl
 
-no_list : (j : Item) (n : ℕ) → Front lenient bare (0xc0 ∷ 0 ∷ 0 ∷ []) j n → ⊥
-no_list = reads_none lenient bare (0xc0 ∷ 0 ∷ 0 ∷ []) none_there
-
--- a front
-there : reading lenient bare (0xc0 ∷ 2 ∷ 1 ∷ 0x71 ∷ 0 ∷ 0 ∷ 0 ∷ 5 ∷ []) ≡ Some (list (items_of (i 5 ∷ [])), [])
-unfolding decode row code_of read payload is_list0 as_descriptor
-there = refl
-
-a_list : Front lenient bare (0xc0 ∷ 2 ∷ 1 ∷ 0x71 ∷ 0 ∷ 0 ∷ 0 ∷ 5 ∷ []) (list (items_of (i 5 ∷ []))) 8
-a_list = reads_front lenient bare (0xc0 ∷ 2 ∷ 1 ∷ 0x71 ∷ 0 ∷ 0 ∷ 0 ∷ 5 ∷ []) [] (list (items_of (i 5 ∷ []))) there
-
--- row 13 of the described arrays: the elements take more than the size says
-described_array : reading lenient bare (0xe0 ∷ 4 ∷ 1 ∷ 0 ∷ 0x44 ∷ 0x70 ∷ 0 ∷ 0 ∷ 0 ∷ 5 ∷ []) ≡ None
-unfolding decode row code_of read payload is_list0 as_descriptor
-described_array = refl
-
-described_array_8 : reading lenient bare (0xe0 ∷ 8 ∷ 1 ∷ 0 ∷ 0x44 ∷ 0x70 ∷ 0 ∷ 0 ∷ 0 ∷ 5 ∷ []) ≡ Some (array (more (described (code 0) (scalar (uint 5))) none), [])
-unfolding decode row code_of read payload is_list0 as_descriptor
-described_array_8 = refl
-
-canon_described_array : canon (array (more (described (code 1) (array (items_of (i 1 ∷ [])))) none)) ≡ Some (0xe0 ∷ 0x12 ∷ 1 ∷ 0 ∷ 0x53 ∷ 1 ∷ 0xf0 ∷ 0 ∷ 0 ∷ 0 ∷ 9 ∷ 0 ∷ 0 ∷ 0 ∷ 1 ∷ 0x71 ∷ 0 ∷ 0 ∷ 0 ∷ 1 ∷ [])
-unfolding canon scalar_text short_text scalar_body widest row kind_code
-canon_described_array = refl
+tuple_variant : canon (map (pair (uint_item 2) (list (more (scalar (boolean true)) (two_items (scalar (ulong 13)) (scalar (string (0x61 ∷ 0x6d ∷ 0x71 ∷ 0x70 ∷ [])))))) no_pairs))
+    ≡ Some (0xc1 ∷ 0x0f ∷ 2 ∷ 0x52 ∷ 2 ∷ 0xc0 ∷ 0x0a ∷ 3 ∷ 0x41 ∷ 0x53 ∷ 0x0d ∷ 0xa1 ∷ 4 ∷ 0x61 ∷ 0x6d ∷ 0x71 ∷ 0x70 ∷ [])
+unfolding canon scalar_text short_text list_text is_utf8 chars encode_utf8
+tuple_variant = refl

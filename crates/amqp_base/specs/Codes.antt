@@ -1,5 +1,6 @@
--- The format codes: each has one byte, one kind, one category and one width.
-use Rattle.std.specs.Prelude.{◌≡◌, ℕ, ◌==◌, Bool, cond, List, [], ◌∷◌, Option, Some, None, Result, Ok, Err}
+-- The format codes of AMQP 1.0: each has one byte, one kind, one category and one width. Numbers such as 1.2 are sections
+-- of OASIS AMQP 1.0 part 1, here and in the other files.
+use Rattle.std.specs.Prelude.{◌≡◌, ℕ, ◌==◌, cond, List, [], ◌∷◌, Option, Some, None, Result, Ok, Err}
 use Rattle.amqp_base.specs.declared.format_code.EncodingCodes.{EncodingCodes}
 use Rattle.amqp_base.specs.declared.format_code.EncodingCodes.TheVariants.{DescribedType, Null, Boolean, BooleanTrue, BooleanFalse, Ubyte, Ushort, Uint, SmallUint, Uint0, Ulong, SmallUlong, Ulong0, Byte, Short, Int, SmallInt, Long, SmallLong, Float, Double, Decimal32, Decimal64, Decimal128, Char, Timestamp, Uuid, Vbin8, Vbin32, Str8, Str32, Sym8, Sym32, List0, List8, List32, Map8, Map32, Array8, Array32}
 use Rattle.amqp_base.specs.declared.format_code.Category.{Category}
@@ -8,6 +9,7 @@ use Rattle.amqp_base.specs.declared.format_code.IsDescribed.{IsDescribed}
 use Rattle.amqp_base.specs.declared.error.Error.{Error}
 use Rattle.amqp_base.specs.declared.error.Error.TheVariants.{InvalidFormatCode}
 
+-- the primitive types (1.6.1 to 1.6.24), and the described constructor, which is none of them (1.2)
 pub data Kind : Type 0 where
   described null boolean : Kind
   ubyte ushort uint ulong byte short int long : Kind
@@ -15,16 +17,18 @@ pub data Kind : Type 0 where
   char timestamp uuid binary string symbol : Kind
   list map array : Kind
 
--- a code's byte, its kind, and what stands behind it
+-- a code's byte, its kind, and what stands behind it (1.2)
 pub record Row : Type 0 where
   pub byte : ℕ
   pub kind : Kind
   pub category : Category
 
+-- the row of these three
 abbrev pub is : ℕ → Kind → Category → Row
 is b k c = record { byte = b; kind = k; category = c }
 
--- the described constructor is no primitive code, and has no data of its own
+-- The row of a code (1.6, and 1.2.1 to 1.2.4 for the categories). The described constructor is no primitive code, and has
+-- no data of its own (1.2).
 unfoldable pub row : EncodingCodes → Row
 row DescribedType = is 0x00 described (Fixed 0)
 row Null = is 0x40 null (Fixed 0)
@@ -67,19 +71,21 @@ row Map32 = is 0xd1 map (Compound 4)
 row Array8 = is 0xe0 array (Array 1)
 row Array32 = is 0xf0 array (Array 4)
 
--- the 39 primitive codes
+-- the 39 primitive codes (1.6)
 abbrev pub codes : List EncodingCodes
 codes = Null ∷ Boolean ∷ BooleanTrue ∷ BooleanFalse ∷ Ubyte ∷ Ushort ∷ Uint ∷ SmallUint ∷ Uint0 ∷ Ulong ∷ SmallUlong ∷ Ulong0 ∷ Byte ∷ Short ∷ Int ∷ SmallInt ∷ Long ∷ SmallLong ∷ Float ∷ Double ∷ Decimal32 ∷ Decimal64 ∷ Decimal128 ∷ Char ∷ Timestamp ∷ Uuid ∷ Vbin8 ∷ Vbin32 ∷ Str8 ∷ Str32 ∷ Sym8 ∷ Sym32 ∷ List0 ∷ List8 ∷ List32 ∷ Map8 ∷ Map32 ∷ Array8 ∷ Array32 ∷ []
 
+-- the code in a list that has this byte
 abbrev pub among : ℕ → List EncodingCodes → Option EncodingCodes
 among b [] = None
 among b (e ∷ es) = cond (b == (row e).byte) (Some e) (among b es)
 
--- the primitive code of a byte
+-- the primitive code of a byte: 0x00 and 216 other bytes have none (1.2, 1.6)
 unfoldable pub code_of : ℕ → Option EncodingCodes
 code_of b = among b codes
 
--- the widest code of a kind
+-- The widest code of a kind: every item of that kind can be written under it. It is the one under which this profile
+-- writes the elements of arrays (1.2.4).
 unfoldable pub widest : Kind → Option EncodingCodes
 widest described = None
 widest null = None
@@ -116,34 +122,3 @@ CodeOf b (Err e) = (e ≡ InvalidFormatCode) × ((d : EncodingCodes) → (row d)
 abbrev pub CategoryOf : EncodingCodes → Result Category IsDescribed → Type 0
 CategoryOf e (Ok c) = ((row e).category ≡ c) × (e ≡ DescribedType → ⊥)
 CategoryOf e (Err d) = e ≡ DescribedType
-
--- the place of a kind among the kinds, by which kinds are told apart
-unfoldable pub place : Kind → ℕ
-place Kind.described = 0
-place Kind.null = 1
-place Kind.boolean = 2
-place Kind.ubyte = 3
-place Kind.ushort = 4
-place Kind.uint = 5
-place Kind.ulong = 6
-place Kind.byte = 7
-place Kind.short = 8
-place Kind.int = 9
-place Kind.long = 10
-place Kind.float = 11
-place Kind.double = 12
-place Kind.decimal32 = 13
-place Kind.decimal64 = 14
-place Kind.decimal128 = 15
-place Kind.char = 16
-place Kind.timestamp = 17
-place Kind.uuid = 18
-place Kind.binary = 19
-place Kind.string = 20
-place Kind.symbol = 21
-place Kind.list = 22
-place Kind.map = 23
-place Kind.array = 24
-
-unfoldable pub same_kind : Kind → Kind → Bool
-same_kind a b = place a == place b

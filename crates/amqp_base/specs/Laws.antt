@@ -1,13 +1,18 @@
 -- What holds of the wire. Each is the contract of a law function.
-use Rattle.std.specs.Prelude.{◌≡◌, ℕ, ◌≤◌, ◌<◌, ◌-◌, ◌*◌, max, List, ◌++◌, length, get_or, Some}
+use Rattle.std.specs.Prelude.{◌≡◌, ℕ, ◌≤◌, ◌<◌, ◌-◌, ◌*◌, max, List, ◌++◌, length, take, get_or, Some}
 use Rattle.amqp_base.specs.Item.{Scalar, binary, string, symbol, descriptor_item, Item, scalar, list, map, array, described, Items, none, more, Pairs, no_pairs, pair, Capped, items}
 use Rattle.amqp_base.specs.Wire.{Rules, lenient, strict, Constructor, bare, under, under_pair, Wire, Front}
 use Rattle.amqp_base.specs.Canon.{canon}
 use Rattle.amqp_base.specs.Raw.{raw}
+use Rattle.amqp_base.specs.PlainArrays.{PlainArrays}
 
--- bytes have at most one front
+-- bytes have at most one front: no other item, and no other length
 abbrev pub OneFront : Rules → Type 0
 OneFront r = (c : Constructor) (s : List ℕ) (i j : Item) (m n : ℕ) → Front r c s i m → Front r c s j n → (i ≡ j) × (m ≡ n)
+
+-- where an item is cut short, no item stands
+abbrev pub CutShort : Rules → Type 0
+CutShort r = (c : Constructor) (s : List ℕ) (i j : Item) (n m k : ℕ) → Front r c s i n → m < n → Front r c (take m s) j k → ⊥
 
 -- a described item whose own value is described
 abbrev pub IsTwiceDescribed : Item → Type 0
@@ -37,8 +42,8 @@ IsUsual (string b) = length b ≡ 255 → ⊥
 IsUsual (symbol b) = length b ≡ 255 → ⊥
 IsUsual _ = Unit {0}
 
--- no array, and no payload of 255 bytes, is in the item
 abbrev mutual
+  -- no array, and no payload of 255 bytes, is in the item
   pub Usual : Item → Type 0
   Usual (scalar v) = IsUsual v
   Usual (list is) = UsualIn is
@@ -46,14 +51,17 @@ abbrev mutual
   Usual (array is) = ⊥
   Usual (described d v) = IsUsual (descriptor_item d) × Usual v
 
+  -- of each item
   pub UsualIn : Items → Type 0
   UsualIn none = Unit {0}
   UsualIn (more i is) = Usual i × UsualIn is
 
+  -- of each key and value
   pub UsualInPairs : Pairs → Type 0
   UsualInPairs no_pairs = Unit {0}
   UsualInPairs (pair k v ps) = Usual k × Usual v × UsualInPairs ps
 
+-- numbers of a list are bytes
 abbrev pub AreBytes : List ℕ → Type 0
 AreBytes b = (k : ℕ) → get_or b k 0 < 256
 
@@ -73,8 +81,19 @@ most_items bare n = 16384 * n
 most_items (under e) n = max 1 (16384 * n)
 most_items (under_pair d e) n = max 2 (16384 * n)
 
+-- a front of n bytes spells few items
 abbrev pub ItemsBounded : Type 0
 ItemsBounded = (c : Constructor) (s : List ℕ) (i : Item) (n : ℕ) → AreBytes s → Front lenient c s i n → items_under c i ≤ most_items c n
+
+-- how many items n bytes can spell where no array has described elements
+abbrev pub most_plain_items : Constructor → ℕ → ℕ
+most_plain_items bare n = 8192 * n
+most_plain_items (under e) n = max 1 (8192 * n)
+most_plain_items (under_pair d e) n = max 2 (8192 * n)
+
+-- such a front of n bytes spells half as many
+abbrev pub ItemsBoundedPlain : Type 0
+ItemsBoundedPlain = (c : Constructor) (s : List ℕ) (i : Item) (n : ℕ) → AreBytes s → PlainArrays i → Front lenient c s i n → items_under c i ≤ most_plain_items c n
 
 -- a canonical text is read again, whatever follows it
 abbrev pub CanonFront : Type 0

@@ -1,7 +1,13 @@
 pub mod Codes
+pub mod SameKind
 pub mod Item
 pub mod Value
 pub mod Wire
+pub mod Partial
+pub mod ScalarBody
+pub mod ScalarText
+pub mod Headers
+pub mod KindCode
 pub mod Canon
 pub mod Raw
 pub mod Sizes
@@ -10,4 +16,5 @@ pub mod Typing
 pub mod OneValue
 pub mod Faults
 pub mod Refusals
+pub mod PlainArrays
 pub mod Laws

@@ -1,12 +1,13 @@
 -- Which item a value is written as, which items a type takes, and which value each of them is read as.
 use Rattle.std.specs.Prelude.{ℕ, Bool, true, false, ◌&&◌, List, [], ◌∷◌}
-use Rattle.amqp_base.specs.Codes.{Kind, same_kind}
+use Rattle.amqp_base.specs.Codes.{Kind}
+use Rattle.amqp_base.specs.SameKind.{same_kind}
 use Rattle.amqp_base.specs.Canon.{kind_of}
 use Rattle.amqp_base.specs.declared.shape.Setting.{Setting}
 use Rattle.amqp_base.specs.declared.shape.Setting.TheVariants.{Plain, Symbol, DescribedList, DescribedMap, DescribedBasic}
 use Rattle.amqp_base.specs.Item.{string, symbol, Item, scalar, list, Items, none, more}
 
--- a text: a symbol under the symbol setting, else a string
+-- a text: a symbol (1.6.21) under the symbol setting, else a string (1.6.20)
 abbrev pub text_item : List ℕ → Setting → Item
 text_item bytes Plain = scalar (string bytes)
 text_item bytes Symbol = scalar (symbol bytes)
@@ -47,6 +48,7 @@ abbrev pub is_list_of : (Item → Bool) → Item → Bool
 is_list_of takes (list is) = all_taken takes is
 is_list_of takes i = false
 
+-- a list whose elements mean the values
 abbrev pub means_list : {T : Type 0} → (Item → T → Type 0) → Item → List T → Type 0
 means_list means (list is) vs = all_mean means is vs
 means_list means i vs = ⊥

@@ -20,7 +20,7 @@ impl Count {
     pub fn new() -> Count
         ensures { result.n ≡ 0 }
     {
-        Count {}
+        Self {}
     }
 
     fn after(_before: &Count) -> Count

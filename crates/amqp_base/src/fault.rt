@@ -10,11 +10,12 @@ use crate::Count;
 use std::io;
 use std::io::{Read, Write};
 
-/// How many faults a value has answered, for contracts alone.
+/// How many faults a value has answered, for contracts alone. Reading and writing refuse with a device's own kind of fault
+/// only where this count rose.
 pub trait FaultCount {
     ghost faults: { Self → ℕ };
 
-    /// Whether want of memory may go uncounted.
+    /// Whether want of memory may go uncounted. No call changes it.
     ghost grows: { Self → Bool };
 }
 
@@ -26,7 +27,10 @@ pub trait Source: Read + FaultCount + Drop {
     /// The references through which it is lent, outermost first.
     ghost origin: { Self → List GName };
 
-    /// Reads some bytes into the front of `buf` and answers how many. A fault raises the count of faults by 1.
+    /// Reads some bytes into the front of `buf` and answers how many, at most its length. 0 for a buffer that isn't empty
+    /// comes only at the end of a source whose bytes are known, or that is honest. An `Err` is the kind of the device's
+    /// fault: it raises the count of faults by 1 (want of memory of a source that grows may not) and takes none of the
+    /// known bytes, while `buf` may hold anything.
     fn read_some(&mut self, buf: &mut [u8]) -> Result<usize, io::ErrorKind>
         ensures len { length buf.new ≡ length buf.old }
         ensures bound { IfOk result (λ n. n ≤ length buf.new) }
@@ -40,8 +44,9 @@ pub trait Source: Read + FaultCount + Drop {
 
 /// A writer, by the one call that the codec makes.
 pub trait Sink: Write + FaultCount + Drop {
-    /// Writes some bytes of the front of `bytes`, at least one where there is one, and answers how many. A fault
-    /// raises the count of faults by 1.
+    /// Writes some bytes of the front of `bytes`, at least one where there is one, and answers how many. An `Err` is the
+    /// kind of the device's fault: it raises the count of faults by 1 (want of memory of a sink that grows may not) and
+    /// leaves the known contents as they were.
     fn write_some(&mut self, bytes: &[u8]) -> Result<usize, io::ErrorKind>
         ensures bound { IfOk result (λ n. n ≤ length bytes.now) }
         ensures some { IfOk result (λ n. 0 < length bytes.now → 0 < n) }
@@ -50,6 +55,7 @@ pub trait Sink: Write + FaultCount + Drop {
         ensures grows { Self.grows self.new ≡ Self.grows self.old };
 }
 
+/// A vector has no faults but want of memory.
 impl FaultCount for Vec<u8> {
     ghost faults = { λ _. 0 };
 
@@ -66,6 +72,7 @@ impl Sink for Vec<u8> {
     }
 }
 
+/// A slice has no faults.
 impl FaultCount for &[u8] {
     ghost faults = { λ _. 0 };
 
@@ -87,6 +94,7 @@ impl Source for &[u8] {
     }
 }
 
+/// What is lent has the faults of its owner.
 impl<T: FaultCount> FaultCount for &mut T {
     ghost faults = { λ t. T.faults t.now };
 
@@ -109,7 +117,8 @@ impl<W: Sink> Sink for &mut W {
     }
 }
 
-/// Any reader or writer, with its faults counted by a counter that takes no bytes. It isn't claimed honest.
+/// Any reader or writer, with its faults counted by a counter that takes no bytes. It isn't claimed honest. A write that
+/// takes no byte of some is the fault `WriteZero`. No call retries an `Interrupted` fault.
 #[derive(Drop)]
 pub struct Counted<T> {
     inner: T,

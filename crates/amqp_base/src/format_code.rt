@@ -7,48 +7,89 @@ use crate::Error;
 use std::convert::TryFrom;
 use std::fmt;
 
-/// The format codes, each with its byte: the described constructor and the 39 primitive ones.
+/// The format codes, each with its byte: the described constructor and the 39 primitive ones (part 1, sections 1.2 and
+/// 1.6; the number behind each is its section). `as u8` gives the byte, `try_from` the code of a byte.
 #[derive(Debug, Clone, Copy, PartialEq, Eq)]
 pub enum EncodingCodes {
+    /// A descriptor and a value stand behind it (1.2).
     DescribedType = 0x00,
+    /// Null: no data (1.6.1).
     Null = 0x40,
+    /// Boolean: 00 false, 01 true, in 1 byte (1.6.2).
     Boolean = 0x56,
+    /// Boolean: true, without data (1.6.2).
     BooleanTrue = 0x41,
+    /// Boolean: false, without data (1.6.2).
     BooleanFalse = 0x42,
+    /// Ubyte: the number in 1 byte (1.6.3).
     Ubyte = 0x50,
+    /// Ushort: the number in 2 bytes (1.6.4).
     Ushort = 0x60,
+    /// Uint: the number in 4 bytes (1.6.5).
     Uint = 0x70,
+    /// Uint: the number in 1 byte, up to 255 (1.6.5).
     SmallUint = 0x52,
+    /// Uint: 0, without data (1.6.5).
     Uint0 = 0x43,
+    /// Ulong: the number in 8 bytes (1.6.6).
     Ulong = 0x80,
+    /// Ulong: the number in 1 byte, up to 255 (1.6.6).
     SmallUlong = 0x53,
+    /// Ulong: 0, without data (1.6.6).
     Ulong0 = 0x44,
+    /// Byte: two's complement in 1 byte (1.6.7).
     Byte = 0x51,
+    /// Short: two's complement in 2 bytes (1.6.8).
     Short = 0x61,
+    /// Int: two's complement in 4 bytes (1.6.9).
     Int = 0x71,
+    /// Int: two's complement in 1 byte, from -128 to 127 (1.6.9).
     SmallInt = 0x54,
+    /// Long: two's complement in 8 bytes (1.6.10).
     Long = 0x81,
+    /// Long: two's complement in 1 byte, from -128 to 127 (1.6.10).
     SmallLong = 0x55,
+    /// Float: the bits of an IEEE 754 binary32, in 4 bytes (1.6.11).
     Float = 0x72,
+    /// Double: the bits of an IEEE 754 binary64, in 8 bytes (1.6.12).
     Double = 0x82,
+    /// Decimal32: 4 bytes (1.6.13).
     Decimal32 = 0x74,
+    /// Decimal64: 8 bytes (1.6.14).
     Decimal64 = 0x84,
+    /// Decimal128: 16 bytes (1.6.15).
     Decimal128 = 0x94,
+    /// Char: the code point (UTF-32BE), a Unicode scalar value, in 4 bytes (1.6.16).
     Char = 0x73,
+    /// Timestamp: milliseconds since the Unix epoch, two's complement in 8 bytes (1.6.17).
     Timestamp = 0x83,
+    /// Uuid: 16 bytes (1.6.18).
     Uuid = 0x98,
+    /// Binary: a length of 1 byte, then that many bytes (1.6.19).
     Vbin8 = 0xa0,
+    /// Binary: a length of 4 bytes, then that many bytes (1.6.19).
     Vbin32 = 0xb0,
+    /// String: a length of 1 byte, then that many bytes of UTF-8 (1.6.20).
     Str8 = 0xa1,
+    /// String: a length of 4 bytes, then that many bytes of UTF-8 (1.6.20).
     Str32 = 0xb1,
+    /// Symbol: a length of 1 byte, then that many bytes of UTF-8 (1.6.21).
     Sym8 = 0xa3,
+    /// Symbol: a length of 4 bytes, then that many bytes of UTF-8 (1.6.21).
     Sym32 = 0xb3,
+    /// List: the empty list, without data (1.6.22).
     List0 = 0x45,
+    /// List: a size and a count of 1 byte each, then items (1.6.22).
     List8 = 0xc0,
+    /// List: a size and a count of 4 bytes each, then items (1.6.22).
     List32 = 0xd0,
+    /// Map: a size and a count of 1 byte each, then keys and values in turn (1.6.23).
     Map8 = 0xc1,
+    /// Map: a size and a count of 4 bytes each, then keys and values in turn (1.6.23).
     Map32 = 0xd1,
+    /// Array: a size and a count of 1 byte each, then element constructor, data of each element (1.6.24).
     Array8 = 0xe0,
+    /// Array: a size and a count of 4 bytes each, then element constructor, data of each element (1.6.24).
     Array32 = 0xf0,
 }
 

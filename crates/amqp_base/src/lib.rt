@@ -3,11 +3,14 @@
 
 mod constants;
 mod count;
+mod encoding;
 mod error;
 mod fault;
 mod format_code;
 pub mod laws;
 mod shape;
+#[cfg(test)]
+mod tests;
 mod typed;
 
 pub use constants::{
@@ -16,6 +19,7 @@ pub use constants::{
     OFFSET_LIST32, OFFSET_MAP8, OFFSET_MAP32, UNTAGGED_ENUM, UUID_WIDTH, VALUE,
 };
 pub use count::Count;
+pub use encoding::{EnumType, IsArrayElement, StructEncoding};
 pub use error::Error;
 pub use fault::{Counted, FaultCount, Sink, Source};
 pub use format_code::{Category, EncodingCodes, IsDescribed};

@@ -11,7 +11,8 @@ use Rattle.amqp_base.specs.declared.format_code.EncodingCodes.{EncodingCodes}
 use Rattle.amqp_base.specs.declared.format_code.EncodingCodes.TheVariants.{DescribedType, Int, SmallInt}
 use Rattle.amqp_base.specs.declared.format_code.Category.{Category}
 use Rattle.amqp_base.specs.declared.format_code.Category.TheVariants.{Fixed}
-use Rattle.amqp_base.specs.Codes.{Kind, row, code_of, same_kind}
+use Rattle.amqp_base.specs.Codes.{Kind, row, code_of}
+use Rattle.amqp_base.specs.SameKind.{same_kind}
 use Rattle.amqp_base.specs.Item.{Scalar, scalar, int}
 use Rattle.amqp_base.specs.Value.{number, payload, read}
 use Rattle.amqp_base.specs.Wire.{lenient, of_data, Data, of_fixed, fixed}

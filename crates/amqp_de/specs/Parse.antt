@@ -8,7 +8,8 @@ use Rattle.amqp_base.specs.declared.format_code.EncodingCodes.{EncodingCodes}
 use Rattle.amqp_base.specs.declared.format_code.EncodingCodes.TheVariants.{DescribedType, List0, List8, List32}
 use Rattle.amqp_base.specs.declared.format_code.Category.{Category}
 use Rattle.amqp_base.specs.declared.format_code.Category.TheVariants.{Fixed, Variable, Compound, Array}
-use Rattle.amqp_base.specs.Codes.{Kind, row, code_of, same_kind}
+use Rattle.amqp_base.specs.Codes.{Kind, row, code_of}
+use Rattle.amqp_base.specs.SameKind.{same_kind}
 use Rattle.amqp_base.specs.Item.{Scalar}
 use Rattle.amqp_base.specs.Value.{number, payload}
 use Rattle.amqp_base.specs.Wire.{Constructor, bare, under, under_pair}
