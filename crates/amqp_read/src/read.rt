@@ -14,7 +14,11 @@ pub(crate) mod sealed {
 }
 
 /// Bytes to come, a position, and bytes that were received ahead. A refused call changes nothing that a caller sees:
-/// the position stays, and no received byte is lost.
+/// the position stays, and no received byte is lost. Lengths and positions are in bytes.
+///
+/// Where a call needs more bytes than are to come, it answers what it says itself. Beside that a reader over a slice
+/// refuses nothing, `OutOfMemory` of `read_bytes` aside. A reader over a source also answers the source's own fault,
+/// `OutOfMemory` where its buffer finds no memory, and `Io(Other)` where the bytes consumed would pass `usize::MAX`.
 pub trait Read: sealed::Sealed + Drop {
     ghost reading: { Self → Reading };
 
@@ -46,12 +50,13 @@ pub trait Read: sealed::Sealed + Drop {
         ensures why { IfErr result (λ e. NotTaken buffers buffers (length buf.old) (reading self.old) (reading self.new) e) };
 
     /// The next `n` bytes, which stay; `None` where fewer are to come.
+    // No clause on how the reader ends reaches a caller's proof, since the error may own memory: see `SliceReader`'s.
     fn peek_bytes(&mut self, n: usize) -> Result<Option<&[u8]>, Error>
         ensures ok { IfOk result (λ o. MatchOption o (IsShort n (reading self.old)) (λ b. (length b.now ≡ n) × StartsWith (reading self.old).to_come b.now)) }
         ensures why { OnErr result (IsTrue buffers) };
 
-    /// Consumes the next `n` bytes; `Io(UnexpectedEof)` where fewer are to come. Memory is asked for only after the
-    /// bytes are there.
+    /// Consumes the next `n` bytes; `Io(UnexpectedEof)` where fewer are to come, `OutOfMemory` where the vector finds no
+    /// memory. Memory for it is asked for only after the bytes are there.
     fn read_bytes(&mut self, alloc: Global, n: usize) -> Result<Vec<u8>, Error>
         ensures ok { IfOk result (λ v. (length v.items ≡ n) × Takes (reading self.old) (reading self.new) v.items) }
         ensures err { OnErr result (Stays (reading self.old) (reading self.new)) }
@@ -59,7 +64,7 @@ pub trait Read: sealed::Sealed + Drop {
         ensures bytes_first { IfErr result (λ e. (e ≡ OutOfMemory) → (IsTrue buffers ⊎ Holds n (reading self.old).to_come)) };
 }
 
-/// Consumes the next `N` bytes; `Io(UnexpectedEof)` where fewer are to come.
+/// Consumes the next `N` bytes; `Io(UnexpectedEof)` where fewer are to come. A refusal consumes nothing.
 #[inline(always)]
 pub fn read_const_bytes<R: Read, const N: usize>(reader: &mut R) -> Result<[u8; N], Error>
     ensures ok { IfOk result (λ b. (length b ≡ N) × Takes (R.reading reader.old) (R.reading reader.new) b) }
