@@ -16,6 +16,11 @@ abbrev pub ShortOf : ℕ → Option (List ℕ) → Type 0
 ShortOf n None = ⊤
 ShortOf n (Some s) = length s < n
 
+-- n known bytes are to come
+abbrev pub Holds : ℕ → Option (List ℕ) → Type 0
+Holds n None = ⊤
+Holds n (Some s) = n ≤ length s
+
 -- no byte is to come, where the source is honest
 abbrev pub Ended : Reading → Type 0
 Ended r = IsTrue r.honest → IsAtEnd r.to_come

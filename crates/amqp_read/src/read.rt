@@ -2,7 +2,8 @@
 
 ghost use Rattle.std.specs.Prelude.{◌≡◌, ◌≢◌, ◌⊎◌, ◌+◌, ◌<◌, ◌≤◌, ℕ, Bool, true, IsTrue, List, [], ◌∷◌, length, OnOk, OnErr, IfOk, IfErr, MatchOption};
 ghost use Rattle.amqp_read.specs.Reading.{Reading, Stays, Takes};
-ghost use Rattle.amqp_read.specs.Steps.{StartsWith, Ended, IsShort, Fails, NotTaken, Looked};
+ghost use Rattle.amqp_read.specs.Steps.{StartsWith, Ended, IsShort, Fails, NotTaken, PassesCount, Holds, Looked};
+ghost use Rattle.amqp_base.specs.declared.error.Error.TheVariants.{OutOfMemory};
 
 use amqp_base::Error;
 use std::alloc::Global;
@@ -13,7 +14,11 @@ pub(crate) mod sealed {
 }
 
 /// Bytes to come, a position, and bytes that were received ahead. A refused call changes nothing that a caller sees:
-/// the position stays, and no received byte is lost.
+/// the position stays, and no received byte is lost. Lengths and positions are in bytes.
+///
+/// Where a call needs more bytes than are to come, it answers what it says itself. Beside that a reader over a slice
+/// refuses nothing, `OutOfMemory` of `read_bytes` aside. A reader over a source also answers the source's own fault,
+/// `OutOfMemory` where its buffer finds no memory, and `Io(Other)` where the bytes consumed would pass `usize::MAX`.
 pub trait Read: sealed::Sealed + Drop {
     ghost reading: { Self → Reading };
 
@@ -34,7 +39,8 @@ pub trait Read: sealed::Sealed + Drop {
     fn next(&mut self) -> Result<Option<u8>, Error>
         ensures ok { IfOk result (λ o. MatchOption o (Stays (reading self.old) (reading self.new) × Ended (reading self.old)) (λ b. Takes (reading self.old) (reading self.new) (b ∷ []))) }
         ensures err { OnErr result (Stays (reading self.old) (reading self.new)) }
-        ensures why { IfErr result (λ e. NotTaken buffers buffers 1 (reading self.old) (reading self.new) e) };
+        ensures why { IfErr result (λ e. NotTaken buffers buffers 1 (reading self.old) (reading self.new) e) }
+        ensures not_the_end { IfErr result (λ e. Fails buffers buffers (reading self.old) (reading self.new) e ⊎ PassesCount buffers 1 (reading self.old) e) };
 
     /// Fills `buf` with the next bytes; `Io(UnexpectedEof)` where fewer are to come. A refusal leaves `buf` as it was.
     fn read_exact(&mut self, buf: &mut [u8]) -> Result<(), Error>
@@ -44,18 +50,21 @@ pub trait Read: sealed::Sealed + Drop {
         ensures why { IfErr result (λ e. NotTaken buffers buffers (length buf.old) (reading self.old) (reading self.new) e) };
 
     /// The next `n` bytes, which stay; `None` where fewer are to come.
+    // No clause on how the reader ends reaches a caller's proof, since the error may own memory: see `SliceReader`'s.
     fn peek_bytes(&mut self, n: usize) -> Result<Option<&[u8]>, Error>
-        ensures ok { IfOk result (λ o. MatchOption o (IsShort n (reading self.old)) (λ b. (length b.now ≡ n) × StartsWith (reading self.old).to_come b.now)) };
+        ensures ok { IfOk result (λ o. MatchOption o (IsShort n (reading self.old)) (λ b. (length b.now ≡ n) × StartsWith (reading self.old).to_come b.now)) }
+        ensures why { OnErr result (IsTrue buffers) };
 
-    /// Consumes the next `n` bytes; `Io(UnexpectedEof)` where fewer are to come. Memory is asked for only after the
-    /// bytes are there.
+    /// Consumes the next `n` bytes; `Io(UnexpectedEof)` where fewer are to come, `OutOfMemory` where the vector finds no
+    /// memory. Memory for it is asked for only after the bytes are there.
     fn read_bytes(&mut self, alloc: Global, n: usize) -> Result<Vec<u8>, Error>
         ensures ok { IfOk result (λ v. (length v.items ≡ n) × Takes (reading self.old) (reading self.new) v.items) }
         ensures err { OnErr result (Stays (reading self.old) (reading self.new)) }
-        ensures why { IfErr result (λ e. NotTaken true buffers n (reading self.old) (reading self.new) e) };
+        ensures why { IfErr result (λ e. NotTaken true buffers n (reading self.old) (reading self.new) e) }
+        ensures bytes_first { IfErr result (λ e. (e ≡ OutOfMemory) → (IsTrue buffers ⊎ Holds n (reading self.old).to_come)) };
 }
 
-/// Consumes the next `N` bytes; `Io(UnexpectedEof)` where fewer are to come.
+/// Consumes the next `N` bytes; `Io(UnexpectedEof)` where fewer are to come. A refusal consumes nothing.
 #[inline(always)]
 pub fn read_const_bytes<R: Read, const N: usize>(reader: &mut R) -> Result<[u8; N], Error>
     ensures ok { IfOk result (λ b. (length b ≡ N) × Takes (R.reading reader.old) (R.reading reader.new) b) }

@@ -1,10 +1,14 @@
 //! A reader over bytes in memory.
 
-ghost use Rattle.std.specs.Prelude.{◌≡◌, ◌<◌, ◌≤◌, ◌+◌, ◌^◌, ℕ, Bool, true, false, List, [], ◌∷◌, length, IfOk, IfErr, MatchOption, Some};
+ghost use Rattle.std.specs.Prelude.{◌≡◌, ◌<◌, ◌≤◌, ◌+◌, ◌^◌, ℕ, Bool, true, false, List, [], ◌∷◌, length, IfOk, IfErr, OnErr, IsTrue, MatchOption, Some};
 ghost use Rattle.std.specs.declared.io.ErrorKind.TheVariants.{UnexpectedEof};
 ghost use Rattle.amqp_base.specs.declared.error.Error.TheVariants.{Io};
+ghost use Rattle.std.specs.Borrow.{sem};
+ghost use Rattle.std.specs.Io.BufRead.{Rests};
+ghost use mir.Syntax.{named};
+ghost use Rattle.amqp_read.specs.contracts.slice_reader.SliceReader.{the_row};
 ghost use Rattle.amqp_read.specs.Reading.{Reading, Takes};
-ghost use Rattle.amqp_read.specs.Steps.{ShortOf, StartsWith};
+ghost use Rattle.amqp_read.specs.Steps.{ShortOf, StartsWith, IsShort, Looked};
 
 use crate::Read;
 use crate::read::sealed::Sealed;
@@ -13,7 +17,7 @@ use std::alloc::Global;
 use std::io::ErrorKind;
 use std::marker::Model;
 
-/// Reads bytes in memory. All of them count as to come, none as received.
+/// Reads bytes in memory. All of them count as to come, none as received. No call takes memory but `read_bytes`.
 #[derive(Drop)]
 pub struct SliceReader<'s> {
     rest: &'s [u8],
@@ -57,6 +61,15 @@ impl<'s> SliceReader<'s> {
         self.taken += n;
         Ok(front)
     }
+
+    /// The next `n` bytes, where there are so many. They stay.
+    #[inline(always)]
+    fn shown(&mut self, n: usize) -> Option<&[u8]>
+        ensures bytes { MatchOption result (ShortOf n self.old.to_come) (λ b. (length b.now ≡ n) × StartsWith self.old.to_come b.now) }
+        ensures* lent { sem 𝓛 (Rests (the_row (record { mir = named 1; lft = [] })) self.entry (λ last. Looked n self.old last)) }
+    {
+        front(self, n)
+    }
 }
 
 impl<'s> Sealed for SliceReader<'s> {}
@@ -96,9 +109,14 @@ impl<'s> Read for SliceReader<'s> {
         Ok(())
     }
 
+    // The proof is by hand, over `shown`'s: none is made of a loan whose result may own memory.
     #[inline(always)]
-    fn peek_bytes(&mut self, n: usize) -> Result<Option<&[u8]>, Error> {
-        Ok(front(self, n))
+    fn peek_bytes(&mut self, n: usize) -> Result<Option<&[u8]>, Error>
+        ensures ok { IfOk result (λ o. MatchOption o (IsShort n self.old) (λ b. (length b.now ≡ n) × StartsWith self.old.to_come b.now)) }
+        ensures why { OnErr result (IsTrue false) }
+        ensures* lent { sem 𝓛 (Rests (the_row (record { mir = named 1; lft = [] })) self.entry (λ last. Looked n self.old last)) }
+    {
+        Ok(self.shown(n))
     }
 
     #[inline(always)]
