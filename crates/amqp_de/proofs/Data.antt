@@ -35,7 +35,7 @@ by_category_is {e} (fixed {n = n} {b = b} {v = v} l p) rest = rw (bytes_there n 
 by_category_is {e} (variable {w = w} l b {v = v} ll n p) rest =
     rw (append_assoc l b rest, bytes_there w l (b ++ rest) ll, n, bytes_there (length b) b rest refl) (payload_is e b rest v p)
 
-data_kind : {e : EncodingCodes} {c : Category} {t : List ℕ} {v : Scalar} → ScalarData e c t v → (row e).kind ≡ kind_of v
+pub data_kind : {e : EncodingCodes} {c : Category} {t : List ℕ} {v : Scalar} → ScalarData e c t v → (row e).kind ≡ kind_of v
 data_kind {e} (fixed {b = b} {v = v} l p) = payload_kind e b v p
 data_kind {e} (variable l b {v = v} ll n p) = payload_kind e b v p
 

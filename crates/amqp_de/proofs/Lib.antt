@@ -8,3 +8,4 @@ pub mod Sized
 pub mod Headers
 pub mod Opening
 pub mod Sequence
+pub mod Looking

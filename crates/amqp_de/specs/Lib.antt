@@ -5,3 +5,4 @@ pub mod Steps
 pub mod Places
 pub mod Access
 pub mod Seq
+pub mod Look

@@ -1,6 +1,7 @@
 //! Reading values from the wire.
 #![tactic(auto)]
 
+mod any;
 mod constructor;
 mod deserialize;
 mod deserializer;
@@ -9,7 +10,9 @@ mod leaf;
 mod list;
 mod payloads;
 mod scalars;
+mod seq;
 
 pub use deserialize::Deserialize;
 pub use deserializer::Deserializer;
-pub use list::ListAccess;
+pub use list::{Ended, ListAccess};
+pub use seq::SeqAccess;

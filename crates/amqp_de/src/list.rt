@@ -1,9 +1,9 @@
 //! The parts of a list, one at a time.
 
-ghost use Rattle.std.specs.Prelude.{◌≡◌, ℕ, ◌+◌, Bool, true, false, ◌||◌, None, IsTrue, OnOk, IfOk, IfErr};
+ghost use Rattle.std.specs.Prelude.{◌≡◌, ℕ, ◌+◌, Bool, true, false, ◌||◌, None, IsTrue, OnOk, Ok, Err, IfOk, IfErr};
 ghost use Rattle.std.specs.Borrow.{sem, RestsIfErr};
 ghost use Rattle.amqp_base.specs.Wire.{bare};
-ghost use Rattle.amqp_de.specs.Access.{Listing, Within, Next, Ends, Opens, OpensExactly, OpensNot};
+ghost use Rattle.amqp_de.specs.Access.{Listing, Within, Next, Ends, Opens, OpensExactly, OpensNot, shut};
 ghost use Rattle.amqp_de.specs.Decoding.{Decoding};
 ghost use Rattle.amqp_de.specs.Parse.{list_data};
 ghost use Rattle.amqp_de.specs.Places.{constructor_of, limit_of};
@@ -81,7 +81,7 @@ impl<R: Read> Deserializer<R> {
 
     /// Begins a list: its header is consumed.
     #[inline(always)]
-    fn open_list(&mut self) -> Result<Opened, Error>
+    pub(crate) fn open_list(&mut self) -> Result<Opened, Error>
         ensures ok { IfOk result (λ o. Opens self.old (record { state = self.new; left = o.left; answers = true; outer = constructor_of o.beyond.outer; limit = limit_of o.beyond.limit })) }
         ensures exact { IfOk result (λ o. OpensExactly list_data self.old (record { state = self.new; left = o.left; answers = true; outer = constructor_of o.beyond.outer; limit = limit_of o.beyond.limit })) }
         ensures err { IfErr result (λ e. OpensNot list_data R.buffers self.old self.new e) }
@@ -167,17 +167,61 @@ impl<'a, R: Read> ListAccess<'a, R> {
             answers,
             beyond,
         } = self;
+        de.close(left, answers, beyond)
+    }
+}
+
+/// The deserializer behind an access that ended. It answers again.
+#[derive(Drop)]
+pub struct Ended<'a, R: Read> {
+    de: &'a mut Deserializer<R>,
+}
+
+impl<'a, R: Read> ListAccess<'a, R> {
+    #[inline(always)]
+    pub(crate) fn closed(self) -> Result<Ended<'a, R>, Error>
+        ensures* refused { sem 𝓛 (RestsIfErr (the_row R.row R.Read) self.entry.de (λ d. d.de.ghost_name) result (λ last. last ≡ shut (listing self.entry))) }
+        ensures same_reference { IfOk result (λ d. d.de.ghost_name ≡ self.entry.de.ghost_name) }
+        ensures ok { IfOk result (λ d. Ends (listing self.entry) (Ok tt) d.de.now) }
+        ensures err { IfErr result (λ e. Ends (listing self.entry) (Err e) (shut (listing self.entry))) }
+    {
+        let ListAccess {
+            de,
+            left,
+            answers,
+            beyond,
+        } = self;
+        de.ended(left, answers, beyond)
+    }
+}
+
+impl<R: Read> Deserializer<R> {
+    fn ended(&mut self, left: u32, answers: bool, beyond: Beyond) -> Result<Ended<'_, R>, Error>
+        ensures* refused { sem 𝓛 (RestsIfErr (the_row R.row R.Read) self.entry (λ d. d.de.ghost_name) result (λ last. last ≡ shut (record { state = self.old; left = left; answers = answers; outer = constructor_of beyond.outer; limit = limit_of beyond.limit }))) }
+        ensures same_reference { IfOk result (λ d. d.de.ghost_name ≡ self.entry.ghost_name) }
+        ensures ok { IfOk result (λ d. Ends (record { state = self.old; left = left; answers = answers; outer = constructor_of beyond.outer; limit = limit_of beyond.limit }) (Ok tt) d.de.now) }
+        ensures err { IfErr result (λ e. Ends (record { state = self.old; left = left; answers = answers; outer = constructor_of beyond.outer; limit = limit_of beyond.limit }) (Err e) (shut (record { state = self.old; left = left; answers = answers; outer = constructor_of beyond.outer; limit = limit_of beyond.limit }))) }
+    {
+        self.close(left, answers, beyond)?;
+        Ok(Ended { de: self })
+    }
+
+    /// What the end of every access does.
+    #[inline(always)]
+    fn close(&mut self, left: u32, answers: bool, beyond: Beyond) -> Result<(), Error>
+        ensures ends { Ends (record { state = self.old; left = left; answers = answers; outer = constructor_of beyond.outer; limit = limit_of beyond.limit }) result self.new }
+        ensures shut { IfErr result (λ e. self.new ≡ shut (record { state = self.old; left = left; answers = answers; outer = constructor_of beyond.outer; limit = limit_of beyond.limit })) }
+    {
+        self.answers = false;
         if !answers {
-            de.answers = false;
             return Err(Error::InvalidValue);
         }
         if left > 0 {
-            de.answers = false;
             return Err(Error::SequenceLengthMismatch);
         }
         let Beyond { outer, limit: _ } = beyond;
-        de.inherited = outer;
-        de.answers = true;
+        self.inherited = outer;
+        self.answers = true;
         Ok(())
     }
 }

@@ -1,4 +1,4 @@
-use Rattle.std.proofs.Common.{rules, ◌≡◌, ◌||◌, refl, sym, subst, ◌∙◌}
+use Rattle.std.proofs.Common.{rules, ◌||◌, refl, sym, subst, ◌∙◌}
 use Rattle.std.proofs.lemmas.Result.{err_from_is_err_and}
 use Rattle.amqp_de.specs.Access.{Listing}
 use Rattle.amqp_de.specs.Seq.{listing}
@@ -14,8 +14,7 @@ returns-in_err-access-clause-err g c =
 pub returns-in_err-item-clause-err : goal.returns-in_err-item-clause-err
 returns-in_err-item-clause-err g c =
     let p = err_from_is_err_and c.from_residual-in_err-item.result c.from_residual-in_err-item.ensures.1 in
-    let last : c.de-in_err-item-1.given.0 ≡ c.next_element.new.self.de.now = search rules in
-    rw (p.1, p.2) (part_missed g.T.Typed.takes g.T.Typed.means g.R.Read.buffers c.args.de.now (listing c.in_ok-access.access) (listing c.items.access) c.items.items.items c.in_ok-access.ensures.opened c.items.invariant.sofar (g.T.Typed.grows || g.R.Read.buffers) (listing c.next_element.new.self) _ _ c.in_err-item.ensures.next last)
+    rw (p.1, p.2) (part_missed g.T.Typed.takes g.T.Typed.means g.R.Read.buffers c.args.de.now (listing c.in_ok-access.access) (listing c.items.access) c.items.items.items c.in_ok-access.ensures.opened c.items.invariant.sofar (g.T.Typed.grows || g.R.Read.buffers) (listing c.next_element.new.self) _ _ c.in_err-item.ensures.next (search rules))
 
 pub items-preserved : goal.items-preserved
 items-preserved g c =

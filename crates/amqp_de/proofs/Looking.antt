@@ -1,0 +1,170 @@
+-- A look at the next item.
+use Rattle.std.proofs.Common.{◌≡◌, ℕ, zero, suc, Bool, List, [], ◌∷◌, ◌++◌, take, Option, Some, None, Result, Ok, Err, refl, sym, ap, ◌∙◌, arith, inl, inr, ◌⊎◌, IsTrue}
+use Rattle.std.specs.Prelude.{IfOk, IfErr}
+use Rattle.std.proofs.lemmas.Option.{same_Some}
+use Rattle.amqp_base.specs.declared.error.Error.{Error}
+use Rattle.amqp_base.specs.declared.error.Error.TheVariants.{InvalidFormatCode}
+use Rattle.amqp_base.specs.declared.format_code.EncodingCodes.{EncodingCodes}
+use Rattle.amqp_base.specs.declared.format_code.EncodingCodes.TheVariants.{DescribedType}
+use Rattle.amqp_base.specs.declared.format_code.Category.{Category}
+use Rattle.amqp_base.specs.Codes.{Kind, row, code_of, CodeOf}
+use Rattle.amqp_base.specs.Item.{Item, Descriptor}
+use Rattle.amqp_base.specs.Wire.{Constructor, bare, under, under_pair, Wire, lenient, of_code, of_described, of_data, of_pair, Data, of_fixed, of_variable, list0, of_list, of_map, of_array, empty_array}
+use Rattle.amqp_base.proofs.CodeAgain.{code_again}
+use Rattle.amqp_read.specs.Reading.{Reading}
+use Rattle.std.specs.Io.KnownBytes.{Keeps}
+use Rattle.amqp_read.specs.Steps.{Looked, StartsWith}
+use Rattle.amqp_de.specs.Decoding.{Decoding, stands_under}
+use Rattle.amqp_de.specs.Parse.{Parsed, any_code, code_or_refusal, behind_byte, code_at}
+use Rattle.amqp_de.specs.Look.{item_kind, Peeks, PeeksNot, Looks}
+use Rattle.amqp_de.proofs.Data.{any_code_is, data_kind}
+use Rattle.amqp_de.proofs.KindCodes.{code_byte}
+use Rattle.amqp_de.proofs.Fixed.{not_device}
+
+described_byte : any_code (row DescribedType).byte ≡ Ok DescribedType
+unfolding any_code row
+described_byte = refl
+
+any_again : (e : EncodingCodes) → any_code (row e).byte ≡ Ok e
+any_again e = tell (code_again e)
+  where
+    tell : (code_of (row e).byte ≡ Some e) ⊎ (e ≡ DescribedType) → any_code (row e).byte ≡ Ok e
+    tell (inl p) = any_code_is (row e).byte e p
+    tell (inr p) = rw p described_byte
+
+any_none : (b : ℕ) → ((d : EncodingCodes) → (row d).byte ≡ b → ⊥) → any_code b ≡ Err InvalidFormatCode
+unfolding any_code row
+any_none zero n = absurd (n DescribedType refl)
+any_none (suc b) n = tell (code_of (suc b)) refl
+  where
+    tell : (o : Option EncodingCodes) → code_of (suc b) ≡ o → code_or_refusal (code_of (suc b)) ≡ Err InvalidFormatCode
+    tell (Some e) h = absurd (n e (code_byte (suc b) e h))
+    tell None h = rw h refl
+
+-- the first byte of known bytes
+first : (s : List ℕ) (b : ℕ) → take 1 s ≡ b ∷ [] → (rest : List ℕ) × (s ≡ b ∷ rest)
+first [] b h = absurd cc
+first (x ∷ s) b h = (s, let q : x ≡ b = head_is x b h in ap (λ (z : ℕ). z ∷ s) q)
+  where
+    head_is : (x b : ℕ) → (x ∷ []) ≡ (b ∷ []) → x ≡ b
+    head_is x b h = cc
+
+seen : (k : Option (List ℕ)) (s : List ℕ) (b : ℕ) → StartsWith k (b ∷ []) → k ≡ Some s → (rest : List ℕ) × (s ≡ b ∷ rest)
+seen None s b h e = absurd cc
+seen (Some t) s b h e = let q : t ≡ s = same_Some t s e in first s b (rw q at h)
+
+code_here : (b : ℕ) (e : EncodingCodes) (s rest : List ℕ) → s ≡ b ∷ rest → any_code b ≡ Ok e → code_at bare s ≡ Ok (e, rest)
+code_here b e s rest h p = rw (h, p) refl
+
+no_code_here : (b : ℕ) (s rest : List ℕ) → s ≡ b ∷ rest → any_code b ≡ Err InvalidFormatCode → code_at bare s ≡ Err InvalidFormatCode
+no_code_here b s rest h p = rw (h, p) refl
+
+pub peeks : (b : ℕ) (r : Result EncodingCodes Error) (old new : Reading) → CodeOf b r → StartsWith old.to_come (b ∷ []) → Looked 1 old new → IfOk r (λ e. Peeks e old new)
+peeks b (Ok e) old new c s l = record {
+  looked = l;
+  exact = λ t at. let f = seen old.to_come t b s at in (f.0, code_here b e t f.0 f.1 (ap any_code (sym c) ∙ any_again e));
+}
+peeks b (Err e) old new c s l = tt
+
+pub peeks_not : (buffers : Bool) (b : ℕ) (r : Result EncodingCodes Error) (old new : Reading) → CodeOf b r → StartsWith old.to_come (b ∷ []) → Looked 1 old new → IfErr r (λ e. PeeksNot buffers old new e)
+peeks_not buffers b (Ok e) old new c s l = tt
+peeks_not buffers b (Err e) old new c s l = record {
+  looked = l;
+  rejects = record {
+    why = λ t at h. let f = seen old.to_come t b s at in inl (no_code_here b t f.0 f.1 (any_none b c.1) ∙ ap Err (sym c.0));
+    steady = l.stays.steady;
+    device = λ d. absurd (not_device (rw c.0 at d));
+  };
+}
+
+-- ---- the kind of what stands there
+
+data_item_kind : {e : EncodingCodes} {k : Kind} {c : Category} {t : List ℕ} {i : Item} → Data lenient e k c t i → k ≡ (row e).kind → k ≡ item_kind i
+unfolding row
+data_item_kind (of_fixed h) p = p ∙ data_kind h
+data_item_kind (of_variable h) p = p ∙ data_kind h
+data_item_kind list0 p = refl
+data_item_kind (of_list z k b lz lk nk h f) p = refl
+data_item_kind (of_map z k b lz lk nk h f) p = refl
+data_item_kind (of_array z k m b lz lk nk g h f) p = refl
+data_item_kind (empty_array z k b lz lk nk f) p = refl
+
+under_kind : (e : EncodingCodes) (t : List ℕ) (i : Item) → Wire lenient (under e) t i → (row e).kind ≡ item_kind i
+under_kind e t i (of_data h) = data_item_kind h refl
+
+abbrev given : EncodingCodes × List ℕ → Parsed EncodingCodes
+given x = Ok x
+
+same_ok : (e f : EncodingCodes) (s t : List ℕ) (p : Parsed EncodingCodes) → p ≡ Ok (e, s) → p ≡ Ok (f, t) → e ≡ f
+same_ok e f s t p g h = ap (λ (z : EncodingCodes × List ℕ). z.0) (pair_is (e, s) (f, t) (sym g ∙ h))
+  where
+    pair_is : (x y : EncodingCodes × List ℕ) → given x ≡ given y → x ≡ y
+    pair_is x y h = cc
+
+at_byte : (b : ℕ) (e f : EncodingCodes) (s t : List ℕ) → any_code b ≡ Ok e → behind_byte (λ e t. Ok (e, t)) b s ≡ Ok (f, t) → e ≡ f
+at_byte b e f s t p h = same_ok e f s t (behind_byte (λ e t. Ok (e, t)) b s) (rw p refl) h
+
+described_row : (row DescribedType).kind ≡ Kind.described
+unfolding row
+described_row = refl
+
+zero_any : any_code 0 ≡ Ok DescribedType
+unfolding any_code
+zero_any = refl
+
+looks_kind : (c : Constructor) (e : EncodingCodes) (t rest r : List ℕ) (i : Item) → Wire lenient c t i → code_at c (t ++ rest) ≡ Ok (e, r) → (row e).kind ≡ item_kind i
+looks_kind bare e _ rest r i (of_code {x = x} {e = f} {b = b} p w) h = rw (← at_byte x f e (b ++ rest) r (any_code_is x f p) h) (under_kind f b i w)
+looks_kind bare e _ rest r _ (of_described a b g w) h = rw (← at_byte 0 DescribedType e ((a ++ b) ++ rest) r zero_any h) described_row
+looks_kind (under f) e t rest r i w h = rw (← at_byte (row f).byte f e (t ++ rest) r (any_again f) h) (under_kind f t i w)
+looks_kind (under_pair d f) e t rest r _ (of_pair w) h = rw (← at_byte 0 DescribedType e (t ++ rest) r zero_any h) described_row
+
+stays_same : (r : Reading) → Looked 0 r r
+stays_same r = record { stays = record { to_come = keeps r.to_come; taken = refl; ahead = omega arith; steady = record { honest = refl; origin = refl; faults = omega arith; taken = omega arith } }; ahead = omega arith }
+  where
+    keeps : (k : Option (List ℕ)) → Keeps k k
+    keeps None = tt
+    keeps (Some s) = refl
+
+-- the state behind a look
+abbrev pub looked_with : Decoding → Reading → Decoding
+looked_with old r = record { reading = r; answers = old.answers; inherited = old.inherited; described = old.described; begun = old.begun }
+
+pub looks_ahead : (old : Decoding) (r : Reading) (e : EncodingCodes) → IsTrue old.answers → stands_under old ≡ bare → Peeks e old.reading r → Looks old (looked_with old r) e
+looks_ahead old r e a c p = record {
+  looked = rw c p.looked;
+  answers = a;
+  inherited = refl;
+  described = refl;
+  begun = refl;
+  exact = λ s at. rw c (p.exact s at);
+  kind = λ i t rest w at. let x = p.exact (t ++ rest) at in looks_kind bare e t rest x.0 i (rw c at w) x.1;
+}
+
+-- a code that is inherited
+inherited_code : (f : EncodingCodes) (s : List ℕ) → code_at (under f) s ≡ Ok (f, s)
+inherited_code f s = rw (any_again f) refl
+
+pub looks_under : (old : Decoding) (f : EncodingCodes) → IsTrue old.answers → stands_under old ≡ under f → Looks old old f
+looks_under old f a c = record {
+  looked = rw c (stays_same old.reading);
+  answers = a;
+  inherited = refl;
+  described = refl;
+  begun = refl;
+  exact = λ s at. (s, rw c (inherited_code f s));
+  kind = λ i t rest w at. under_kind f t i (rw c at w);
+}
+
+pair_code : (d : Descriptor) (f : EncodingCodes) (s : List ℕ) → code_at (under_pair d f) s ≡ Ok (DescribedType, s)
+pair_code d f s = rw zero_any refl
+
+pub looks_pair : (old : Decoding) (d : Descriptor) (f : EncodingCodes) → IsTrue old.answers → stands_under old ≡ under_pair d f → Looks old old DescribedType
+looks_pair old d f a c = record {
+  looked = rw c (stays_same old.reading);
+  answers = a;
+  inherited = refl;
+  described = refl;
+  begun = refl;
+  exact = λ s at. (s, rw c (pair_code d f s));
+  kind = λ i t rest w at. looks_kind (under_pair d f) DescribedType t rest (t ++ rest) i (rw c at w) (pair_code d f (t ++ rest));
+}

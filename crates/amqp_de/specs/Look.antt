@@ -1,0 +1,56 @@
+-- What a look at the next item shows.
+use Rattle.std.specs.Prelude.{◌≡◌, ℕ, ◌<◌, Bool, IsTrue, List, ◌++◌, Some, Ok}
+use Rattle.amqp_base.specs.declared.error.Error.{Error}
+use Rattle.amqp_base.specs.declared.format_code.EncodingCodes.{EncodingCodes}
+use Rattle.amqp_base.specs.Codes.{Kind, row}
+use Rattle.amqp_base.specs.Canon.{kind_of}
+use Rattle.amqp_base.specs.Item.{Item, scalar, list, map, array, described}
+use Rattle.amqp_base.specs.Wire.{Constructor, bare, under, under_pair, Wire, lenient}
+use Rattle.amqp_base.specs.Refusals.{IsDevice}
+use Rattle.amqp_read.specs.Reading.{Reading, Stays}
+use Rattle.amqp_read.specs.Steps.{Looked}
+use Rattle.amqp_de.specs.Decoding.{Decoding, stands_under}
+use Rattle.amqp_de.specs.Parse.{code_at}
+use Rattle.amqp_de.specs.Steps.{Rejects}
+
+-- the kind of an item
+abbrev pub item_kind : Item → Kind
+item_kind (scalar v) = kind_of v
+item_kind (list is) = Kind.list
+item_kind (map ps) = Kind.map
+item_kind (array is) = Kind.array
+item_kind (described d v) = Kind.described
+
+-- how many bytes are looked at
+abbrev pub looked_at : Constructor → ℕ
+looked_at bare = 1
+looked_at (under e) = 0
+looked_at (under_pair d e) = 0
+
+-- the next byte is this code's, and stays
+pub record Peeks (e : EncodingCodes) (old new : Reading) : Type 0 where
+  pub looked : Looked 1 old new
+  pub exact : (s : List ℕ) → old.to_come ≡ Some s → (rest : List ℕ) × (code_at bare s ≡ Ok (e, rest))
+
+-- the next byte is no code's, or there is none
+pub record PeeksNot (buffers : Bool) (old new : Reading) (err : Error) : Type 0 where
+  pub looked : Looked 1 old new
+  pub rejects : Rejects buffers buffers (code_at bare) old new err
+
+-- The code of the next item is this one, and nothing was consumed or begun.
+pub record Looks (old new : Decoding) (e : EncodingCodes) : Type 0 where
+  pub looked : Looked (looked_at (stands_under old)) old.reading new.reading
+  pub answers : IsTrue new.answers
+  pub inherited : new.inherited ≡ old.inherited
+  pub described : new.described ≡ old.described
+  pub begun : new.begun ≡ old.begun
+  pub exact : (s : List ℕ) → old.reading.to_come ≡ Some s → (rest : List ℕ) × (code_at (stands_under old) s ≡ Ok (e, rest))
+  -- it is of the item's kind
+  pub kind : (i : Item) (text rest : List ℕ) → Wire lenient (stands_under old) text i → old.reading.to_come ≡ Some (text ++ rest) → (row e).kind ≡ item_kind i
+
+-- No code stands there. Nothing was consumed or begun.
+pub record LooksNot (buffers : Bool) (old new : Decoding) (err : Error) : Type 0 where
+  pub stays : Stays old.reading new.reading
+  pub begun : new.begun ≡ old.begun
+  pub device : IsDevice err → old.reading.faults < new.reading.faults
+  pub rejects : IsTrue old.answers → Rejects buffers buffers (code_at (stands_under old)) old.reading new.reading err

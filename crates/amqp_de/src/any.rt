@@ -1,0 +1,83 @@
+//! Calls that look at any item, or pass it on.
+
+ghost use Rattle.std.specs.Prelude.{◌≡◌, Bool, true, false, ◌||◌, ◌∷◌, [], IsTrue, IfOk, IfErr, Some};
+ghost use Rattle.amqp_read.specs.Reading.{Reading};
+ghost use Rattle.amqp_read.specs.Steps.{Looked, StartsWith};
+ghost use Rattle.amqp_de.specs.Law.{Found, Missed};
+ghost use Rattle.amqp_de.specs.Look.{Looks, LooksNot, Peeks, PeeksNot};
+ghost use Rattle.amqp_de.specs.Steps.{Stops};
+
+use crate::constructor::Constructor;
+use crate::{Deserialize, Deserializer};
+use amqp_base::{EncodingCodes, Error};
+use amqp_read::Read;
+use std::alloc::Global;
+use std::convert::TryFrom;
+use std::io::ErrorKind;
+
+/// The code of the next byte, which stays.
+fn code_ahead<R: Read>(reader: &mut R) -> Result<EncodingCodes, Error>
+    ensures ok { IfOk result (λ e. Peeks e (R.reading reader.old) (R.reading reader.new)) }
+    ensures err { IfErr result (λ e. PeeksNot R.buffers (R.reading reader.old) (R.reading reader.new) e) }
+{
+    match reader.peek() {
+        Ok(Some(byte)) => EncodingCodes::try_from(byte),
+        Ok(None) => Err(Error::Io(ErrorKind::UnexpectedEof)),
+        Err(e) => Err(e),
+    }
+}
+
+impl<R: Read> Deserializer<R> {
+    /// The code of the next item: inside an array that of its elements, else the next byte's, which is not consumed.
+    /// `Io(UnexpectedEof)` where there is none, `InvalidFormatCode` where it is no code; then the deserializer is ended.
+    pub fn deserialize_any(&mut self) -> Result<EncodingCodes, Error>
+        ensures ok { IfOk result (λ e. Looks self.old self.new e) }
+        ensures err { IfErr result (λ e. LooksNot R.buffers self.old self.new e) }
+        ensures stops { Stops self.old result self.new }
+    {
+        if !self.answers {
+            return Err(Error::InvalidValue);
+        }
+        match &self.inherited {
+            Constructor::Bare => match code_ahead(&mut self.reader) {
+                Ok(code) => Ok(code),
+                Err(e) => {
+                    self.answers = false;
+                    Err(e)
+                }
+            },
+            Constructor::Under(code) => Ok(*code),
+            Constructor::UnderPair(_, code) => {
+                if self.described {
+                    return Ok(*code);
+                }
+                Ok(EncodingCodes::DescribedType)
+            }
+        }
+    }
+
+    /// The value itself: a newtype struct is nothing of its own on the wire, whatever its name. A refusal, also one
+    /// that the type makes, ends the deserializer.
+    #[inline(always)]
+    pub fn deserialize_newtype_struct<T: Deserialize<R>>(
+        &mut self,
+        alloc: Global,
+        name: &'static str,
+    ) -> Result<T, Error>
+        ensures ok { IfOk result (λ v. Found T.takes (λ i. T.means i v) self.old self.new) }
+        ensures err { IfErr result (λ e. Missed T.takes (T.grows || R.buffers) R.buffers self.old self.new e) }
+        ensures stops { Stops self.old result self.new }
+    {
+        let _ = name;
+        if !self.answers {
+            return Err(Error::InvalidValue);
+        }
+        match T::deserialize(alloc, self) {
+            Ok(value) => Ok(value),
+            Err(e) => {
+                self.answers = false;
+                Err(e)
+            }
+        }
+    }
+}

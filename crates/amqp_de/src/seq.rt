@@ -1,0 +1,80 @@
+//! Sequences, in whichever form they stand.
+
+ghost use Rattle.std.specs.Prelude.{◌≡◌, Bool, true, false, ◌||◌, Ok, Err, IfOk, IfErr};
+ghost use Rattle.std.specs.Borrow.{sem, RestsIfErr};
+ghost use Rattle.amqp_de.specs.Access.{Listing, Next, Ends, Opens, OpensExactly, OpensNot, shut};
+ghost use Rattle.amqp_de.specs.Parse.{list_data};
+ghost use Rattle.amqp_de.specs.Seq.{listing, lender_of, seq_listing};
+ghost use Rattle.amqp_de.specs.contracts.deserializer.Deserializer.{the_row};
+
+use crate::list::{Ended, ListAccess};
+use crate::{Deserialize, Deserializer};
+use amqp_base::Error;
+use amqp_read::Read;
+use std::alloc::Global;
+
+/// The parts of a list. Its deserializer answers nothing until `end` succeeded.
+#[derive(Drop)]
+pub enum SeqAccess<'a, R: Read> {
+    /// The item is a list.
+    List(ListAccess<'a, R>),
+}
+
+impl<R: Read> Deserializer<R> {
+    /// Opens a list (part 1, section 1.6.22): its header is consumed. `InvalidFormatCode` where another item stands,
+    /// and the refusals of the header. A refusal ends the deserializer.
+    #[inline(always)]
+    pub fn deserialize_seq(&mut self, alloc: Global) -> Result<SeqAccess<'_, R>, Error>
+        ensures* refused { sem 𝓛 (RestsIfErr (the_row R.row R.Read) self.entry (λ a. (lender_of a).ghost_name) result (λ last. IfErr result (λ e. OpensNot list_data R.buffers self.old last e))) }
+        ensures same_reference { IfOk result (λ a. (lender_of a).ghost_name ≡ self.entry.ghost_name) }
+        ensures opened { IfOk result (λ a. Opens self.old (seq_listing a)) }
+        ensures exact { IfOk result (λ a. OpensExactly list_data self.old (seq_listing a)) }
+    {
+        let _ = alloc;
+        let opened = self.open_list()?;
+        Ok(SeqAccess::List(ListAccess {
+            de: self,
+            left: opened.left,
+            answers: true,
+            beyond: opened.beyond,
+        }))
+    }
+}
+
+impl<'a, R: Read> SeqAccess<'a, R> {
+    /// The next part, as `ListAccess::next_element`.
+    #[inline(always)]
+    pub fn next_element<T: Deserialize<R>>(&mut self, alloc: Global) -> Result<Option<T>, Error>
+        ensures same_reference { (lender_of self.new).ghost_name ≡ (lender_of self.old).ghost_name }
+        ensures closed { (lender_of self.old).now.answers ≡ false → (lender_of self.new).now.answers ≡ false }
+        ensures next { Next T.takes T.means (T.grows || R.buffers) R.buffers (seq_listing self.old) result (seq_listing self.new) }
+    {
+        match self {
+            SeqAccess::List(list) => list.next_element(alloc),
+        }
+    }
+
+    /// Ends the access, as `ListAccess::end`; the deserializer comes back where all parts were read.
+    #[inline(always)]
+    pub fn end(self) -> Result<Ended<'a, R>, Error>
+        ensures* refused { sem 𝓛 (RestsIfErr (the_row R.row R.Read) (lender_of self.entry) (λ d. d.de.ghost_name) result (λ last. last ≡ shut (seq_listing self.entry))) }
+        ensures same_reference { IfOk result (λ d. d.de.ghost_name ≡ (lender_of self.entry).ghost_name) }
+        ensures ok { IfOk result (λ d. Ends (seq_listing self.entry) (Ok tt) d.de.now) }
+        ensures err { IfErr result (λ e. Ends (seq_listing self.entry) (Err e) (shut (seq_listing self.entry))) }
+    {
+        match self {
+            SeqAccess::List(list) => list.closed(),
+        }
+    }
+
+    /// The parts, whichever form they stand in: for loops that return early.
+    #[inline(always)]
+    pub fn into_elements(self) -> ListAccess<'a, R>
+        ensures same_reference { result.de.ghost_name ≡ (lender_of self.entry).ghost_name }
+        ensures value { listing result ≡ seq_listing self.entry }
+    {
+        match self {
+            SeqAccess::List(list) => list,
+        }
+    }
+}
