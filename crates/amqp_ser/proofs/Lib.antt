@@ -1,4 +1,5 @@
 pub mod CanonUint
+pub mod CanonInt
 pub mod Bytes
 pub mod Steps
 pub mod TextOf

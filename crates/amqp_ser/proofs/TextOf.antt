@@ -1,14 +1,15 @@
 -- The texts of items, case by case.
-use Rattle.std.proofs.Common.{◌≡◌, ℕ, ◌+◌, ◌%◌, ◌^◌, ◌<◌, ◌≤◌, List, [], ◌∷◌, ◌++◌, length, refl, sym, ap, subst, arith, Option, Some, None, true, false, Bool, if◌then◌else◌, Result, Err}
+use Rattle.std.proofs.Common.{◌≡◌, ℕ, ℤ, ◌+◌, ◌%◌, ◌^◌, ◌<◌, ◌≤◌, List, [], ◌∷◌, ◌++◌, length, refl, sym, ◌∙◌, ap, subst, arith, Option, Some, None, true, false, Bool, if◌then◌else◌, Result, Err}
 use Rattle.std.proofs.lemmas.List.{append-nil}
 use Rattle.std.proofs.lemmas.Bool.{eq-eqb, ne_eqb, lt-ltb, le-leb, lt-leb}
-use Rattle.std.specs.Int.{bytes_high_first}
+use Rattle.std.specs.Int.{w8, w32, bytes_high_first, cast_unsigned}
+use mir.Val.{SFits}
 use Rattle.std.specs.Str.{is_utf8}
 use Rattle.amqp_base.specs.declared.format_code.EncodingCodes.{EncodingCodes}
-use Rattle.amqp_base.specs.declared.format_code.EncodingCodes.TheVariants.{Uint, Str32, Sym32}
+use Rattle.amqp_base.specs.declared.format_code.EncodingCodes.TheVariants.{Uint, Int, Str32, Sym32}
 use Rattle.amqp_base.specs.Codes.{row, widest}
 use Rattle.amqp_base.specs.Wire.{Constructor, under}
-use Rattle.amqp_base.specs.Item.{Item, scalar, uint, string, symbol}
+use Rattle.amqp_base.specs.Item.{Item, scalar, uint, int, string, symbol}
 use Rattle.amqp_base.specs.Canon.{canon, body, kind_code, scalar_body, scalar_text, short_text, is_under, sized}
 use Rattle.amqp_base.specs.Sizes.{Size, sizes}
 use Rattle.amqp_base.specs.declared.error.Error.{Error}
@@ -20,6 +21,7 @@ use Rattle.amqp_base.specs.declared.shape.Shape.{Shape}
 use Rattle.amqp_ser.specs.Compound.{whole_text, shape_code, narrow_of, empty_list}
 use Rattle.amqp_ser.proofs.Steps.{pays_appended, pays_none}
 use Rattle.amqp_base.specs.declared.error.Error.TheVariants.{InvalidValue, OutOfMemory, Io}
+use Rattle.amqp_ser.proofs.CanonInt.{canon_int_1, canon_int_4, body_int}
 use Rattle.amqp_ser.proofs.CanonUint.{canon_uint_0, canon_uint_1, canon_uint_4}
 use Rattle.amqp_ser.specs.declared.serializer.Mark.{Mark as CodeMark}
 use Rattle.amqp_ser.specs.declared.serializer.Mark.TheVariants.{Unmarked, First, Other}
@@ -65,9 +67,29 @@ marked_placed (other d) i c b h k e = rw (k, e) refl
 pub uint_placed : (m : Mark) (n : ℕ) → (m ≡ unmarked → ⊥) → n < 2 ^ 32 → marked m (scalar (uint n)) ≡ placed m (Some (under Uint)) (Some (bytes_high_first 4 n ++ []))
 uint_placed m n h l = marked_placed m _ _ _ h (uint_code n) (uint_body n l)
 
-pub scalar_sizes : (n : ℕ) → sizes (scalar (uint n)) ≡ []
+-- int
+pub int_code : (z : ℤ) → kind_code (scalar (int z)) ≡ Some (under Int)
+unfolding kind_code widest
+int_code z = refl
+
+pub int_1 : (z : ℤ) → SFits w8 z → marked unmarked (scalar (int z)) ≡ Some (0x54 ∷ cast_unsigned w8 z ∷ [])
+unfolding marked
+int_1 z h = canon_int_1 z h
+
+pub int_4 : (z : ℤ) → (SFits w8 z → ⊥) → SFits w32 z → marked unmarked (scalar (int z)) ≡ Some (0x71 ∷ bytes_high_first 4 (cast_unsigned w32 z))
+unfolding marked
+int_4 z h f = canon_int_4 z h f
+
+pub int_placed : (m : Mark) (z : ℤ) → (m ≡ unmarked → ⊥) → SFits w32 z → marked m (scalar (int z)) ≡ placed m (Some (under Int)) (Some (bytes_high_first 4 (cast_unsigned w32 z) ++ []))
+int_placed m z h f = marked_placed m _ _ _ h (int_code z) (body_int z f ∙ ap Some (sym (append-nil (bytes_high_first 4 (cast_unsigned w32 z)))))
+
+pub int_sizes : (z : ℤ) → sizes (scalar (int z)) ≡ []
 unfolding sizes
-scalar_sizes n = refl
+int_sizes z = refl
+
+pub uint_sizes : (n : ℕ) → sizes (scalar (uint n)) ≡ []
+unfolding sizes
+uint_sizes n = refl
 
 -- texts
 if_none : (t : Bool) → (let n : Option (List ℕ) = None in if t then n else n) ≡ None

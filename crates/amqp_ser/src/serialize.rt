@@ -22,6 +22,12 @@ impl Serialize for u32 {
     }
 }
 
+impl Serialize for i32 {
+    fn serialize<W: Sink>(&self, alloc: Global, ser: &mut Serializer<W>) -> Result<(), Error> {
+        ser.serialize_i32(alloc, *self)
+    }
+}
+
 impl Serialize for String {
     fn serialize<W: Sink>(&self, alloc: Global, ser: &mut Serializer<W>) -> Result<(), Error> {
         ser.serialize_str(alloc, self.as_str())

@@ -50,6 +50,26 @@ impl<W: Sink> Serializer<W> {
         }
     }
 
+    /// A serializer that appends to `writer`, and writes each text that it is handed directly as a symbol.
+    pub fn symbol(writer: W) -> Serializer<W>
+        ensures { Fresh W.Write W.FaultCount writer Setting.Symbol result }
+    {
+        Serializer {
+            writer,
+            setting: Setting::Symbol,
+            mark: Mark::Unmarked,
+            found: None,
+            stopped: false,
+        }
+    }
+
+    /// False: the format is binary.
+    pub fn is_human_readable(&self) -> bool
+        ensures { result ≡ false }
+    {
+        false
+    }
+
     /// The writer, with all that was appended to it.
     pub fn into_inner(self) -> W
         ensures { result ≡ self.writer }
@@ -157,5 +177,31 @@ impl<W: Sink> Serializer<W> {
                 Err(e)
             }
         }
+    }
+
+    /// Writes the value itself, as a newtype that holds it. `name` isn't written. Refused as the value's own `serialize`.
+    pub fn serialize_newtype_struct<T: Serialize>(
+        &mut self,
+        alloc: Global,
+        name: &'static str,
+        value: &T,
+    ) -> Result<(), Error>
+        ensures ok { OnOk result (Wrote (state W.Write W.FaultCount self.old) (T.item value.now (state W.Write W.FaultCount self.old).setting) (state W.Write W.FaultCount self.new)) }
+        ensures err { IfErr result (λ e. Refused (state W.Write W.FaultCount self.old) (T.item value.now (state W.Write W.FaultCount self.old).setting) e (state W.Write W.FaultCount self.new)) }
+        ensures stops { Stops (state W.Write W.FaultCount self.old) result (state W.Write W.FaultCount self.new) }
+    {
+        let _ = name;
+        self.serialize_some(alloc, value)
+    }
+}
+
+impl<W: Sink> From<W> for Serializer<W> {
+    ghost use Rattle.amqp_base.specs.declared.shape.Setting.TheVariants.{Plain};
+
+    ghost from_gives = { λ writer ser. Fresh W.Write W.FaultCount writer Plain ser };
+
+    /// A serializer that appends to `writer`, as `new`.
+    fn from(writer: W) -> Serializer<W> {
+        Serializer::new(writer)
     }
 }

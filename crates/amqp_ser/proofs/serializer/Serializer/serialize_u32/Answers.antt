@@ -2,13 +2,13 @@ use Rattle.amqp_ser.specs.State.{state}
 use Rattle.amqp_ser.specs.Compound.{open_state}
 use Rattle.std.proofs.Common.{refl}
 use Rattle.amqp_ser.proofs.Steps.{wrote_pays, refused_pays}
-use Rattle.amqp_ser.proofs.TextOf.{scalar_sizes}
+use Rattle.amqp_ser.proofs.TextOf.{uint_sizes}
 use Rattle.amqp_ser.proofs.serializer.Serializer.serialize_u32.Goals as goal
 
 pub returns-clause-ok : goal.returns-clause-ok
 unfolding state open_state
-returns-clause-ok g c = wrote_pays _ _ _ _ _ _ _ refl refl (scalar_sizes c.args.v) c.uint.ensures.law
+returns-clause-ok g c = wrote_pays _ _ _ _ _ _ _ refl refl (uint_sizes c.args.v) c.uint.ensures.law
 
 pub returns-clause-err : goal.returns-clause-err
 unfolding state open_state
-returns-clause-err g c = refused_pays _ _ _ _ _ _ _ refl refl (scalar_sizes c.args.v) c.uint.ensures.law
+returns-clause-err g c = refused_pays _ _ _ _ _ _ _ refl refl (uint_sizes c.args.v) c.uint.ensures.law
