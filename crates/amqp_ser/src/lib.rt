@@ -7,6 +7,8 @@ mod scalars;
 mod seq;
 mod serialize;
 mod serializer;
+#[cfg(test)]
+mod tests;
 
 pub use compound::Parts;
 pub use seq::SeqSerializer;
