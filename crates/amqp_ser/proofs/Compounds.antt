@@ -1,6 +1,6 @@
 -- The steps of a compound.
 use Rattle.std.proofs.Common.{◌≡◌, get_or, map, take, drop, suc, add-one, drop-cons, ℕ, ◌+◌, ◌<◌, ◌≤◌, ◌^◌, List, [], ◌∷◌, ◌++◌, length, refl, sym, ◌∙◌, ap, arith, Option, Some, None, true, false, Bool, if◌then◌else◌, Result, Ok, Err, OnOk, IfErr, inl, inr, subst, length-append, min}
-use Rattle.std.proofs.lemmas.List.{take-append-drop, take_all, map-append}
+use Rattle.std.proofs.lemmas.List.{take-append-drop, take_all, take_more, map-append}
 use Rattle.std.specs.Io.KnownBytes.{Appends}
 use Rattle.amqp_base.specs.Item.{Item, items_of, count}
 use Rattle.amqp_base.specs.Wire.{Constructor, under}
@@ -232,6 +232,12 @@ map_split f xs k v h e = sym (map-append f (take k xs) (v ∷ drop (k + 1) xs)) 
 -- a list begins with the images of a front and of the next element
 pub begins_map : {X : Type 0} (f : X → Item) (xs : List X) (k : ℕ) (v : X) → k < length xs → v ≡ get_or xs k v → BeginsWith (map f xs) (map f (take k xs) ++ f v ∷ [])
 begins_map f xs k v h e = subst (λ ys. BeginsWith ys (map f (take k xs) ++ f v ∷ [])) (map_split f xs k v h e) (begins_split (map f (take k xs)) (f v) (map f (drop (k + 1) xs)))
+
+-- one part more of those that are written
+pub holds_next : {X : Type 0} (f : X → Item) (s : State) (shape : Shape) (xs : List X) (k : ℕ) (v : X) (q : Open) → k < length xs → v ≡ get_or xs k v → Holds s shape (map f (take k xs) ++ f v ∷ []) q → Holds s shape (map f (take (k + 1) xs)) q
+holds_next f s shape xs k v q h e held =
+    let next : take (k + 1) xs ≡ take k xs ++ v ∷ [] = take_more xs k v h ∙ ap (λ x. take k xs ++ x ∷ []) (sym e) in
+    subst (λ ys. Holds s shape ys q) (sym (ap (map f) next ∙ map-append f (take k xs) (v ∷ []))) held
 
 -- at the end the images of the front are those of all
 pub holds_all : {X : Type 0} (f : X → Item) (s : State) (shape : Shape) (xs : List X) (k : ℕ) (q : Open) → length xs ≤ k → Holds s shape (map f (take k xs)) q → Holds s shape (map f xs) q

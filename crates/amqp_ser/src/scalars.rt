@@ -24,7 +24,10 @@ impl<W: Sink> Serializer<W> {
         if self.stopped {
             return Err(Error::InvalidValue);
         }
-        self.uint(v)
+        if let Err(e) = self.uint(v) {
+            return Err(e);
+        }
+        Ok(())
     }
 
     #[inline(always)]
@@ -56,7 +59,10 @@ impl<W: Sink> Serializer<W> {
         if self.stopped {
             return Err(Error::InvalidValue);
         }
-        self.int(v)
+        if let Err(e) = self.int(v) {
+            return Err(e);
+        }
+        Ok(())
     }
 
     #[inline(always)]

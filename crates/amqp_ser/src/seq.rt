@@ -90,17 +90,13 @@ impl<'a, W: Sink> SeqSerializer<'a, W> {
         if self.parts.buffer.stopped {
             return Err(Error::InvalidValue);
         }
-        match value.serialize(alloc, &mut self.parts.buffer) {
-            Ok(()) => {
-                self.parts.count = self.parts.count.saturating_add(1);
-                self.parts.buffer.turn();
-                Ok(())
-            }
-            Err(e) => {
-                self.parts.buffer.stopped = true;
-                Err(e)
-            }
+        if let Err(e) = value.serialize(alloc, &mut self.parts.buffer) {
+            self.parts.buffer.stopped = true;
+            return Err(e);
         }
+        self.parts.count = self.parts.count.saturating_add(1);
+        self.parts.buffer.turn();
+        Ok(())
     }
 
     /// Writes the whole.

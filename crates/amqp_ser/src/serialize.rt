@@ -17,18 +17,21 @@ pub trait Serialize: Typed {
 }
 
 impl Serialize for u32 {
+    #[inline(always)]
     fn serialize<W: Sink>(&self, alloc: Global, ser: &mut Serializer<W>) -> Result<(), Error> {
         ser.serialize_u32(alloc, *self)
     }
 }
 
 impl Serialize for i32 {
+    #[inline(always)]
     fn serialize<W: Sink>(&self, alloc: Global, ser: &mut Serializer<W>) -> Result<(), Error> {
         ser.serialize_i32(alloc, *self)
     }
 }
 
 impl Serialize for String {
+    #[inline(always)]
     fn serialize<W: Sink>(&self, alloc: Global, ser: &mut Serializer<W>) -> Result<(), Error> {
         ser.serialize_str(alloc, self.as_str())
     }
@@ -39,7 +42,9 @@ impl<T: Serialize> Serialize for Vec<T> {
     fn serialize<W: Sink>(&self, alloc: Global, ser: &mut Serializer<W>) -> Result<(), Error> {
         let mut seq = ser.serialize_seq(alloc, Some(self.len()))?;
         for value in self {
-            seq.serialize_element(alloc, value)?;
+            if let Err(e) = seq.serialize_element(alloc, value) {
+                return Err(e);
+            }
         }
         seq.end()
     }

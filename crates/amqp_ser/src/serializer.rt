@@ -2,7 +2,7 @@
 
 ghost use Rattle.std.specs.Prelude.{◌≡◌, ◌≢◌, ◌++◌, ◌∷◌, [], true, false, IfErr, OnOk, OnErr, Some};
 ghost use Rattle.amqp_base.specs.Wire.{under};
-ghost use Rattle.amqp_ser.specs.State.{Fresh, state, mark_of, unmarked};
+ghost use Rattle.amqp_ser.specs.State.{Fresh, state, mark_of, unmarked, first};
 ghost use Rattle.amqp_ser.specs.Law.{Wrote, Refused, Stops, Appended, Pays, placed, found_after};
 ghost use Rattle.amqp_ser.specs.Compound.{turned};
 
@@ -103,6 +103,7 @@ impl<W: Sink> Serializer<W> {
     }
 
     /// Appends both, one after the other.
+    #[inline(always)]
     pub(crate) fn append_two(&mut self, head: &[u8], body: &[u8]) -> Result<(), Error>
         ensures { Appended (state W.Write W.FaultCount self.old) (head.now ++ body.now) result (state W.Write W.FaultCount self.new) }
     {
@@ -114,6 +115,7 @@ impl<W: Sink> Serializer<W> {
 
     /// Appends an element's data, behind its constructor where it is the first. An element of another
     /// constructor than the first one's is `InvalidValue`.
+    #[inline(always)]
     pub(crate) fn element(
         &mut self,
         code: EncodingCodes,
@@ -126,13 +128,7 @@ impl<W: Sink> Serializer<W> {
     {
         let mark = self.mark;
         match mark {
-            Mark::First => {
-                self.found = Some(code);
-                match self.append(&[code.byte()]) {
-                    Ok(()) => self.append_two(head, body),
-                    Err(e) => Err(e),
-                }
-            }
+            Mark::First => self.first_element(code, head, body),
             Mark::Other(outer) => {
                 if outer.byte() == code.byte() {
                     return self.append_two(head, body);
@@ -144,6 +140,20 @@ impl<W: Sink> Serializer<W> {
                 self.stopped = true;
                 Err(Error::InvalidValue)
             }
+        }
+    }
+
+    /// Appends the first element's data behind its constructor.
+    #[inline(never)]
+    fn first_element(&mut self, code: EncodingCodes, head: &[u8], body: &[u8]) -> Result<(), Error>
+        requires answers { self.old.stopped ≡ false }
+        requires marked { mark_of self.old.mark ≡ first }
+        ensures law { Pays (state W.Write W.FaultCount self.old) (placed (state W.Write W.FaultCount self.old).mark (Some (under code)) (Some (head.now ++ body.now))) (found_after (state W.Write W.FaultCount self.old).mark (Some (under code)) (state W.Write W.FaultCount self.old).found) ([]) result (state W.Write W.FaultCount self.new) }
+    {
+        self.found = Some(code);
+        match self.append(&[code.byte()]) {
+            Ok(()) => self.append_two(head, body),
+            Err(e) => Err(e),
         }
     }
 

@@ -5,18 +5,10 @@ use Rattle.amqp_ser.proofs.Steps.{appended_two, appended_stop}
 use Rattle.amqp_ser.proofs.TextOf.{first_pays, other_pays, mixed_pays}
 use Rattle.amqp_ser.proofs.serializer.Serializer.element.Goals as goal
 
-pub returns-in-Ok : goal.returns-in-Ok
-unfolding state open_state
-returns-in-Ok g c = record { law = first_pays _ _ c.args.code c.byte.result (c.args.head.now ++ c.args.body.now) _ _ (ap mark_of c.in-First.is) refl c.byte.ensures c.requires.answers (appended_two _ _ _ _ _ _ _ (record { plan = refl; measure = refl }) (rw c.in-Ok.is at c.append.ensures) c.append_two.ensures) }
-
-pub returns-in-Err : goal.returns-in-Err
-unfolding state open_state
-returns-in-Err g c = record { law = first_pays _ _ c.args.code c.byte.result (c.args.head.now ++ c.args.body.now) _ _ (ap mark_of c.in-First.is) refl c.byte.ensures c.requires.answers (appended_stop _ _ _ _ _ _ _ (record { plan = refl; measure = refl }) c.in-Err.is refl c.append.ensures) }
-
 pub returns-then-byte : goal.returns-then-byte
 unfolding state open_state
-returns-then-byte g c = record { law = other_pays _ c.in-Other.outer c.args.code _ _ _ (ap mark_of c.in-Other.is) (rw (c.byte-in-Other.ensures, c.byte-in-Other-2.ensures) at c.if-byte.true) c.requires.answers c.append_two-then-byte.ensures }
+returns-then-byte g c = record { law = other_pays _ c.in-Other.outer c.args.code _ _ _ (ap mark_of c.in-Other.is) (rw (c.byte-in-Other.ensures, c.byte.ensures) at c.if-byte.true) c.requires.answers c.append_two.ensures }
 
 pub returns-else-byte : goal.returns-else-byte
 unfolding state open_state
-returns-else-byte g c = record { law = mixed_pays _ c.in-Other.outer c.args.code _ _ _ (ap mark_of c.in-Other.is) (rw (c.byte-in-Other.ensures, c.byte-in-Other-2.ensures) at c.if-byte.false) refl refl }
+returns-else-byte g c = record { law = mixed_pays _ c.in-Other.outer c.args.code _ _ _ (ap mark_of c.in-Other.is) (rw (c.byte-in-Other.ensures, c.byte.ensures) at c.if-byte.false) refl refl }

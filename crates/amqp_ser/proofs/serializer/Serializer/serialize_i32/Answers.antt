@@ -10,8 +10,8 @@ use Rattle.amqp_ser.proofs.serializer.Serializer.serialize_i32.Goals as goal
 
 pub returns-clause-ok : goal.returns-clause-ok
 unfolding state open_state
-returns-clause-ok g c = let f : SFits w32 c.args.v = c.ranges.v in wrote_pays _ _ _ _ _ _ _ refl refl (int_sizes c.args.v) (simp to_z-of_z at c.int.ensures.law)
+returns-clause-ok g c = let f : SFits w32 c.args.v = c.ranges.v in wrote_pays _ _ _ _ _ _ _ refl refl (int_sizes c.args.v) (simp to_z-of_z at c.in_default.ensures.law)
 
-pub returns-clause-err : goal.returns-clause-err
+pub returns-in-Err-clause-err : goal.returns-in-Err-clause-err
 unfolding state open_state
-returns-clause-err g c = let f : SFits w32 c.args.v = c.ranges.v in refused_pays _ _ _ _ _ _ _ refl refl (int_sizes c.args.v) (simp to_z-of_z at c.int.ensures.law)
+returns-in-Err-clause-err g c = let f : SFits w32 c.args.v = c.ranges.v in refused_pays _ _ _ _ _ _ _ refl refl (int_sizes c.args.v) (simp to_z-of_z at c.in-Err.ensures.law)

@@ -7,8 +7,8 @@ use Rattle.amqp_ser.proofs.serializer.Serializer.serialize_u32.Goals as goal
 
 pub returns-clause-ok : goal.returns-clause-ok
 unfolding state open_state
-returns-clause-ok g c = wrote_pays _ _ _ _ _ _ _ refl refl (uint_sizes c.args.v) c.uint.ensures.law
+returns-clause-ok g c = wrote_pays _ _ _ _ _ _ _ refl refl (uint_sizes c.args.v) c.in_default.ensures.law
 
-pub returns-clause-err : goal.returns-clause-err
+pub returns-in-Err-clause-err : goal.returns-in-Err-clause-err
 unfolding state open_state
-returns-clause-err g c = refused_pays _ _ _ _ _ _ _ refl refl (uint_sizes c.args.v) c.uint.ensures.law
+returns-in-Err-clause-err g c = refused_pays _ _ _ _ _ _ _ refl refl (uint_sizes c.args.v) c.in-Err.ensures.law
