@@ -1,6 +1,6 @@
 //! What is common to all compounds: their parts so far, and their header.
 
-ghost use Rattle.std.specs.Prelude.{◌≡◌, ◌<◌, ◌≤◌, length, [], true, IfErr, OnErr, Some};
+ghost use Rattle.std.specs.Prelude.{◌≡◌, ◌<◌, ◌≤◌, length, [], true, IfOk, IfErr, OnErr, Some};
 ghost use Rattle.amqp_base.specs.Wire.{under};
 ghost use Rattle.amqp_ser.specs.State.{state, mark_of, answering};
 ghost use Rattle.amqp_ser.specs.Law.{Kept, Pays, IsDevice, found_after};
@@ -9,8 +9,11 @@ ghost use Rattle.amqp_ser.specs.Compound.{the_buffer, Empty, Run, whole_text, sh
 use crate::Serializer;
 use crate::serializer::{LONGEST, Mark};
 use amqp_base::{EncodingCodes, Error, Setting, Shape, Sink};
-use std::alloc::Global;
+use std::alloc::{AllocError, Global};
 use std::io::ErrorKind;
+
+/// Room for so many bytes of parts is taken when a compound opens.
+const FIRST_CAPACITY: usize = 64;
 
 /// The parts so far of a compound that is being written.
 #[derive(Drop)]
@@ -21,24 +24,26 @@ pub struct Parts {
 }
 
 impl Parts {
-    /// No parts yet.
-    pub(crate) fn new(alloc: Global, shape: Shape) -> Parts
-        ensures shape { result.shape ≡ shape }
-        ensures empty { Empty (the_buffer result.buffer) }
-        ensures run { Run shape (the_buffer result.buffer) [] (the_buffer result.buffer) }
-        ensures count { result.count ≡ 0 }
+    /// No parts yet, with room for a few bytes.
+    pub(crate) fn new(alloc: Global, shape: Shape) -> Result<Parts, AllocError>
+        ensures shape { IfOk result (λ p. p.shape ≡ shape) }
+        ensures empty { IfOk result (λ p. Empty (the_buffer p.buffer)) }
+        ensures run { IfOk result (λ p. Run shape (the_buffer p.buffer) [] (the_buffer p.buffer)) }
+        ensures count { IfOk result (λ p. p.count ≡ 0) }
     {
-        Parts {
+        let writer = Vec::with_capacity(alloc, FIRST_CAPACITY)?;
+        let buffer = Serializer {
+            writer,
+            setting: Setting::Plain,
+            mark: first_mark(shape),
+            found: None,
+            stopped: false,
+        };
+        Ok(Parts {
             shape,
-            buffer: Serializer {
-                writer: Vec::new(alloc),
-                setting: Setting::Plain,
-                mark: first_mark(shape),
-                found: None,
-                stopped: false,
-            },
+            buffer,
             count: 0,
-        }
+        })
     }
 }
 

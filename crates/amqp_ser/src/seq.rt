@@ -45,10 +45,10 @@ impl<W: Sink> Serializer<W> {
             return Err(Error::InvalidValue);
         }
         self.stopped = true;
-        Ok(SeqSerializer {
-            ser: self,
-            parts: Parts::new(alloc, Shape::List),
-        })
+        match Parts::new(alloc, Shape::List) {
+            Ok(parts) => Ok(SeqSerializer { ser: self, parts }),
+            Err(_) => Err(Error::OutOfMemory),
+        }
     }
 
     /// Opens an array. `len` is a hint and not used.
@@ -68,10 +68,10 @@ impl<W: Sink> Serializer<W> {
             return Err(Error::InvalidValue);
         }
         self.stopped = true;
-        Ok(SeqSerializer {
-            ser: self,
-            parts: Parts::new(alloc, Shape::Array),
-        })
+        match Parts::new(alloc, Shape::Array) {
+            Ok(parts) => Ok(SeqSerializer { ser: self, parts }),
+            Err(_) => Err(Error::OutOfMemory),
+        }
     }
 }
 

@@ -1,8 +1,8 @@
-use Rattle.amqp_ser.specs.State.{state, mark_of}
+use Rattle.amqp_ser.specs.State.{state}
 use Rattle.amqp_ser.specs.Compound.{open_state}
-use Rattle.std.proofs.Common.{refl, ap, ◌++◌}
+use Rattle.std.proofs.Common.{refl, ◌++◌}
 use Rattle.amqp_ser.proofs.Steps.{appended_two, appended_stop}
-use Rattle.amqp_ser.proofs.TextOf.{first_pays, other_pays, mixed_pays}
+use Rattle.amqp_ser.proofs.TextOf.{first_pays}
 use Rattle.amqp_ser.proofs.serializer.Serializer.first_element.Goals as goal
 
 pub returns-in-Ok : goal.returns-in-Ok
