@@ -10,7 +10,8 @@ use Rattle.amqp_base.specs.Faults.{Extends, refusal_of}
 use Rattle.amqp_base.specs.declared.error.Error.{Error}
 use Rattle.amqp_base.specs.declared.error.Error.TheVariants.{OutOfMemory, Io}
 use Rattle.amqp_ser.specs.State.{State}
-use Rattle.amqp_ser.specs.Law.{Goes, Appended, fits, Kept, IsIo, IsDevice}
+use Rattle.amqp_ser.specs.Law.{Goes, fits, Kept, IsIo, IsDevice}
+use Rattle.amqp_ser.specs.Appending.{Appended}
 
 pub appends_more : (a b c : Option (List ℕ)) (xs ys : List ℕ) → Appends a b xs → Appends b c ys → Appends a c (xs ++ ys)
 appends_more None b c xs ys h k = tt

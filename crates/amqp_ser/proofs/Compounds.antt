@@ -13,10 +13,11 @@ use Rattle.amqp_base.specs.declared.shape.Setting.{Setting}
 use Rattle.amqp_base.specs.declared.shape.Setting.TheVariants.{Plain}
 use Rattle.amqp_base.specs.declared.shape.Shape.{Shape}
 use Rattle.amqp_ser.specs.State.{State, Mark, unmarked, first, other, answering}
-use Rattle.amqp_ser.specs.Law.{text_for, fits, marked, found_after, Goes, Wrote, Refused, Kept, Pays}
+use Rattle.amqp_ser.specs.Law.{text_for, fits, marked, found_after, Goes, Wrote, Refused, Kept, Named, unwritten}
+use Rattle.amqp_ser.specs.Appending.{Pays}
 use Rattle.amqp_ser.specs.Compound.{Open, Empty, Run, Holds, BeginsWith, whole_text, shape_code, parts_text, next_mark, other_of, turned}
 use Rattle.amqp_ser.proofs.Bytes.{extends_same, appends_more, appends_none}
-use Rattle.amqp_ser.proofs.Steps.{Free, fits_free, wrote_pays, refused_pays}
+use Rattle.amqp_ser.proofs.Steps.{Free, fits_free, wrote_pays, refused_pays, named_pays}
 use Rattle.amqp_ser.proofs.TextOf.{pays_text}
 use Rattle.amqp_ser.proofs.PartTexts.{parts_more, parts_none, bind_some}
 use Rattle.amqp_ser.proofs.Lengths.{parts_fit}
@@ -192,35 +193,42 @@ answering_stopped : (s t : State) → t ≡ record s { stopped = true } → s.st
 answering_stopped s t h k = ap answering h ∙ (let e : record s { stopped = false } ≡ s = ap (λ b. record s { stopped = b }) (sym k) in e)
 
 -- a serializer that counts nothing takes no account of sizes
-pays_sizes : {A : Type 0} (s : State) (text : Option (List ℕ)) (found : Option Constructor) (l : List Size) (r : Result A Error) (t : State) → Free s → Pays s text found [] r t → Pays s text found l r t
-pays_sizes s text found l (Ok x) t f p = record { kept = p.kept; device = tt; ok = (p.ok.0, p.ok.1, free_goes s t p.ok.0 l f p.ok.2.appended (p.ok.2.plan ∙ (rw f.plan refl)) (p.ok.2.measure ∙ (rw f.measure refl)) p.ok.2.setting, p.ok.3, p.ok.4, p.ok.5); err = tt; refused = tt; spares = tt }
-pays_sizes s text found l (Err e) t f p = record { kept = p.kept; device = p.device; ok = tt; err = p.err; refused = elim p.refused [ inl m ↦ inl m | inr d ↦ elim d [ inl io ↦ inr (inl io) | inr empty ↦ inr (inr (go text empty)) ] ]; spares = p.spares }
+pays_sizes : {A : Type 0} (s : State) (text : Option (List ℕ)) (found : Option Constructor) (l : List Size) (why : Error) (r : Result A Error) (t : State) → Free s → Pays s text found [] why r t → Pays s text found l why r t
+pays_sizes s text found l why (Ok x) t f p = record { kept = p.kept; device = tt; ok = (p.ok.0, p.ok.1, free_goes s t p.ok.0 l f p.ok.2.appended (p.ok.2.plan ∙ (rw f.plan refl)) (p.ok.2.measure ∙ (rw f.measure refl)) p.ok.2.setting, p.ok.3, p.ok.4, p.ok.5); err = tt; refused = tt; spares = tt; named = tt }
+pays_sizes s text found l why (Err e) t f p = record { kept = p.kept; device = p.device; ok = tt; err = p.err; refused = elim p.refused [ inl m ↦ inl m | inr d ↦ elim d [ inl io ↦ inr (inl io) | inr empty ↦ inr (inr (go text empty)) ] ]; spares = p.spares; named = p.named }
   where
     go : (o : Option (List ℕ)) → (o >>= λ b. when (fits s [] (length b)) b) ≡ None → (o >>= λ b. when (fits s l (length b)) b) ≡ None
     go None h = refl
     go (Some b) h = rw (fits_free s (length b) l f) (rw (fits_free s (length b) [] f) at h)
 
 abbrev Ends : {A : Type 0} → Open → List ℕ → Result A Error → State → Type 0
-Ends q b r t = q.count ≤ length b → Pays (answering q.outer) (whole_text q.shape q.outer.mark q.count b) (found_after q.outer.mark (Some (under (shape_code q.shape))) q.outer.found) [] r t
+Ends q b r t = q.count ≤ length b → Pays (answering q.outer) (whole_text q.shape q.outer.mark q.count b) (found_after q.outer.mark (Some (under (shape_code q.shape))) q.outer.found) [] (unwritten (length b)) r t
 
-end_pays : {A : Type 0} (s : State) (shape : Shape) (xs : List Item) (q : Open) (b : List ℕ) (r : Result A Error) (t : State) → Holds s shape xs q → q.inner.contents ≡ Some b → Ends q b r t → Pays s (marked s.mark (whole shape xs)) (found_after s.mark (kind_code (whole shape xs)) s.found) (sizes (whole shape xs)) r t
+end_pays : {A : Type 0} (s : State) (shape : Shape) (xs : List Item) (q : Open) (b : List ℕ) (r : Result A Error) (t : State) → Holds s shape xs q → q.inner.contents ≡ Some b → Ends q b r t → Pays s (marked s.mark (whole shape xs)) (found_after s.mark (kind_code (whole shape xs)) s.found) (sizes (whole shape xs)) (unwritten (length b)) r t
 end_pays s shape xs q b r t h contents p =
     let text : parts_text shape (items_of xs) ≡ Some b = run_fits shape xs h.start q.inner b h.empty h.run contents in
     let fits : q.count ≤ length b = omega (arith, h.count, parts_fit shape xs b text) in
     let mark : q.outer.mark ≡ s.mark = ap (λ (x : State). x.mark) h.outer in
     let found : q.outer.found ≡ s.found = ap (λ (x : State). x.found) h.outer in
-    let at_s = subst (λ x. Pays x (whole_text q.shape q.outer.mark q.count b) (found_after q.outer.mark (Some (under (shape_code q.shape))) q.outer.found) [] r t) (answering_stopped s q.outer h.outer h.answered) (p fits) in
+    let at_s = subst (λ x. Pays x (whole_text q.shape q.outer.mark q.count b) (found_after q.outer.mark (Some (under (shape_code q.shape))) q.outer.found) [] (unwritten (length b)) r t) (answering_stopped s q.outer h.outer h.answered) (p fits) in
     let same : marked s.mark (whole shape xs) ≡ whole_text q.shape q.outer.mark q.count b = rw (mark, h.shape_is, h.count) (whole_of_some shape s.mark xs b text) in
     let code : found_after s.mark (kind_code (whole shape xs)) s.found ≡ found_after q.outer.mark (Some (under (shape_code q.shape))) q.outer.found = rw (mark, found, h.shape_is, whole_code shape xs) refl in
-    pays_sizes s _ _ (sizes (whole shape xs)) r t (record { plan = h.plan; measure = h.measure }) (pays_text s _ _ _ _ [] r t same code at_s)
+    pays_sizes s _ _ (sizes (whole shape xs)) _ r t (record { plan = h.plan; measure = h.measure }) (pays_text s _ _ _ _ [] _ r t same code at_s)
 
-pub end_wrote_each : {A : Type 0} (q : Open) (b : List ℕ) (r : Result A Error) (t : State) → q.inner.contents ≡ Some b → (q.count ≤ length b → Pays (answering q.outer) (whole_text q.shape q.outer.mark q.count b) (found_after q.outer.mark (Some (under (shape_code q.shape))) q.outer.found) [] r t) → OnOk r ((s : State) (shape : Shape) (xs : List Item) → Holds s shape xs q → Wrote s (whole shape xs) t)
-end_wrote_each q b (Ok a) t contents p = λ s shape xs h. wrote_pays s (whole shape xs) _ _ _ (Ok a) t refl refl refl (end_pays s shape xs q b (Ok a) t h contents p)
+pub end_wrote_each : {A : Type 0} (q : Open) (b : List ℕ) (r : Result A Error) (t : State) → q.inner.contents ≡ Some b → (q.count ≤ length b → Pays (answering q.outer) (whole_text q.shape q.outer.mark q.count b) (found_after q.outer.mark (Some (under (shape_code q.shape))) q.outer.found) [] (unwritten (length b)) r t) → OnOk r ((s : State) (shape : Shape) (xs : List Item) → Holds s shape xs q → Wrote s (whole shape xs) t)
+end_wrote_each q b (Ok a) t contents p = λ s shape xs h. wrote_pays s (whole shape xs) _ _ _ _ (Ok a) t refl refl refl (end_pays s shape xs q b (Ok a) t h contents p)
 end_wrote_each q b (Err e) t contents p = tt
 
-pub end_refused_each : {A : Type 0} (q : Open) (b : List ℕ) (r : Result A Error) (t : State) → q.inner.contents ≡ Some b → (q.count ≤ length b → Pays (answering q.outer) (whole_text q.shape q.outer.mark q.count b) (found_after q.outer.mark (Some (under (shape_code q.shape))) q.outer.found) [] r t) → IfErr r (λ e. (s : State) (shape : Shape) (xs : List Item) → Holds s shape xs q → Refused s (whole shape xs) e t)
+pub end_refused_each : {A : Type 0} (q : Open) (b : List ℕ) (r : Result A Error) (t : State) → q.inner.contents ≡ Some b → (q.count ≤ length b → Pays (answering q.outer) (whole_text q.shape q.outer.mark q.count b) (found_after q.outer.mark (Some (under (shape_code q.shape))) q.outer.found) [] (unwritten (length b)) r t) → IfErr r (λ e. (s : State) (shape : Shape) (xs : List Item) → Holds s shape xs q → Refused s (whole shape xs) e t)
 end_refused_each q b (Ok a) t contents p = tt
-end_refused_each q b (Err e) t contents p = λ s shape xs h. refused_pays s (whole shape xs) _ _ _ (Err e) t refl refl refl (end_pays s shape xs q b (Err e) t h contents p)
+end_refused_each q b (Err e) t contents p = λ s shape xs h. refused_pays s (whole shape xs) _ _ _ _ (Err e) t refl refl refl (end_pays s shape xs q b (Err e) t h contents p)
+
+pub end_named_each : {A : Type 0} (q : Open) (b : List ℕ) (r : Result A Error) (t : State) → q.inner.contents ≡ Some b → (q.count ≤ length b → Pays (answering q.outer) (whole_text q.shape q.outer.mark q.count b) (found_after q.outer.mark (Some (under (shape_code q.shape))) q.outer.found) [] (unwritten (length b)) r t) → IfErr r (λ e. (s : State) (shape : Shape) (xs : List Item) (body : List ℕ) → Holds s shape xs q → parts_text shape (items_of xs) ≡ Some body → Named s (length body) e t)
+end_named_each q b (Ok a) t contents p = tt
+end_named_each q b (Err e) t contents p = λ s shape xs body h text.
+    let same : Some b ≡ Some body = sym (run_fits shape xs h.start q.inner b h.empty h.run contents) ∙ text in
+    let eq : b ≡ body = cc in
+    subst (λ z. Named s (length z) e t) eq (named_pays s _ _ _ (length b) (Err e) t (end_pays s shape xs q b (Err e) t h contents p))
 
 -- a list about one of its elements
 list_split : {X : Type 0} (xs : List X) (k : ℕ) (v : X) → k < length xs → v ≡ get_or xs k v → take k xs ++ v ∷ drop (k + 1) xs ≡ xs

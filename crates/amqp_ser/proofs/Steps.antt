@@ -7,7 +7,8 @@ use Rattle.amqp_base.specs.Sizes.{Size, sizes}
 use Rattle.amqp_base.specs.declared.error.Error.{Error}
 use Rattle.amqp_base.specs.declared.error.Error.TheVariants.{OutOfMemory}
 use Rattle.amqp_ser.specs.State.{State}
-use Rattle.amqp_ser.specs.Law.{marked, text_for, found_after, fits, Goes, Wrote, Refused, Appended, Kept, Pays, IsDevice, IsIo}
+use Rattle.amqp_ser.specs.Law.{marked, text_for, found_after, fits, Goes, Wrote, Refused, Kept, IsDevice, IsIo, Named, unwritten}
+use Rattle.amqp_ser.specs.Appending.{Appended, Pays}
 use Rattle.amqp_ser.proofs.Bytes.{appends_more, extends_more, extends_same}
 
 apart : true ≡ false → ⊥
@@ -80,29 +81,31 @@ when_false : (t : Bool) (b : List ℕ) → t ≡ false → when t b ≡ None
 when_false t b h = rw h refl
 
 -- the bytes of a text were appended, by a serializer that first found a constructor
-pub pays_appended : {A : Type 0} (s v : State) (text : Option (List ℕ)) (found : Option Constructor) (bytes : List ℕ) (r : Result A Error) (t : State) → v ≡ record s { found = found } → text ≡ Some bytes → s.stopped ≡ false → Appended v bytes r t → Pays s text found [] r t
+pub pays_appended : {A : Type 0} (s v : State) (text : Option (List ℕ)) (found : Option Constructor) (bytes : List ℕ) (why : Error) (r : Result A Error) (t : State) → v ≡ record s { found = found } → text ≡ Some bytes → s.stopped ≡ false → Appended v bytes r t → Pays s text found [] why r t
 unfolding fits
-pays_appended s v text found bytes r t same is answers a = pays_found s text found bytes r t is answers (subst (λ x. Appended x bytes r t) same a)
+pays_appended s v text found bytes why r t same is answers a = pays_found s text found bytes why r t is answers (subst (λ x. Appended x bytes r t) same a)
   where
-    pays_found : {A : Type 0} (s : State) (text : Option (List ℕ)) (found : Option Constructor) (bytes : List ℕ) (r : Result A Error) (t : State) → text ≡ Some bytes → s.stopped ≡ false → Appended (record s { found = found }) bytes r t → Pays s text found [] r t
-    pays_found s text found bytes (Ok x) t is answers a = record {
+    pays_found : {A : Type 0} (s : State) (text : Option (List ℕ)) (found : Option Constructor) (bytes : List ℕ) (why : Error) (r : Result A Error) (t : State) → text ≡ Some bytes → s.stopped ≡ false → Appended (record s { found = found }) bytes r t → Pays s text found [] why r t
+    pays_found s text found bytes why (Ok x) t is answers a = record {
       kept = record { bytes = a.kept.bytes; faults = a.kept.faults; grows = a.kept.grows };
       device = tt;
       ok = (bytes, is, record { fits = a.ok.0.fits; appended = a.ok.0.appended; plan = a.ok.0.plan; measure = a.ok.0.measure; setting = a.ok.0.setting }, a.ok.1, a.ok.2, a.ok.3 ∙ answers);
       err = tt;
       refused = tt;
       spares = tt;
+      named = tt;
     }
-    pays_found s text found bytes (Err e) t is answers a = record {
+    pays_found s text found bytes why (Err e) t is answers a = record {
       kept = record { bytes = a.kept.bytes; faults = a.kept.faults; grows = a.kept.grows };
       device = a.device;
       ok = tt;
       err = a.err;
       refused = elim a.refused [ inl m ↦ inl m | inr d ↦ elim d [ inl f ↦ inr (inl f) | inr full ↦ inr (inr (rw is (when_false _ bytes full))) ] ];
       spares = a.spares;
+      named = λ plan measure. elim a.refused [ inl m ↦ inl m | inr d ↦ elim d [ inl f ↦ inr (inl f) | inr full ↦ absurd (apart (sym (fits_free s (length bytes) [] (record { plan = plan; measure = measure })) ∙ full)) ] ];
     }
 
-stopped_pays : {A : Type 0} (r : Result A Error) (s : State) (text : Option (List ℕ)) (found : Option Constructor) (l : List Size) (e : Error) → r ≡ Err e → text ≡ None → (e ≡ OutOfMemory → ⊥) → (IsDevice e → ⊥) → Pays s text found l r (record s { stopped = true })
+stopped_pays : {A : Type 0} (r : Result A Error) (s : State) (text : Option (List ℕ)) (found : Option Constructor) (l : List Size) (e : Error) → r ≡ Err e → text ≡ None → (e ≡ OutOfMemory → ⊥) → (IsDevice e → ⊥) → Pays s text found l e r (record s { stopped = true })
 stopped_pays (Ok x) s text found l e same none memory device = cc
 stopped_pays (Err f) s text found l e same none memory device =
     let eq : f ≡ e = cc in
@@ -113,25 +116,31 @@ stopped_pays (Err f) s text found l e same none memory device =
       err = refl;
       refused = inr (inr (rw none refl));
       spares = λ m. absurd (memory (sym eq ∙ m));
+      named = λ plan measure. inr (inr eq);
     }
 
 -- no text is there, and nothing was written
-pub pays_none : {A : Type 0} (s : State) (text : Option (List ℕ)) (found : Option Constructor) (l : List Size) (e : Error) (r : Result A Error) (t : State) → t ≡ record s { stopped = true } → text ≡ None → (e ≡ OutOfMemory → ⊥) → (IsDevice e → ⊥) → r ≡ Err e → Pays s text found l r t
-pays_none s text found l e r t same none memory device is = subst (λ x. Pays s text found l r x) (sym same) (stopped_pays r s text found l e is none memory device)
+pub pays_none : {A : Type 0} (s : State) (text : Option (List ℕ)) (found : Option Constructor) (l : List Size) (e : Error) (r : Result A Error) (t : State) → t ≡ record s { stopped = true } → text ≡ None → (e ≡ OutOfMemory → ⊥) → (IsDevice e → ⊥) → r ≡ Err e → Pays s text found l e r t
+pays_none s text found l e r t same none memory device is = subst (λ x. Pays s text found l e r x) (sym same) (stopped_pays r s text found l e is none memory device)
 
-pub wrote_pays : {A : Type 0} (s : State) (i : Item) (text : Option (List ℕ)) (found : Option Constructor) (l : List Size) (r : Result A Error) (t : State) → marked s.mark i ≡ text → found_after s.mark (kind_code i) s.found ≡ found → sizes i ≡ l → Pays s text found l r t → OnOk r (Wrote s i t)
-wrote_pays s i text found l (Ok x) t is same z p = record {
+pub wrote_pays : {A : Type 0} (s : State) (i : Item) (text : Option (List ℕ)) (found : Option Constructor) (l : List Size) (why : Error) (r : Result A Error) (t : State) → marked s.mark i ≡ text → found_after s.mark (kind_code i) s.found ≡ found → sizes i ≡ l → Pays s text found l why r t → OnOk r (Wrote s i t)
+wrote_pays s i text found l why (Ok x) t is same z p = record {
   kept = p.kept;
   took = λ h. record { bytes = p.ok.0; text = is ∙ p.ok.1; goes = rw z p.ok.2; mark = p.ok.3; found = p.ok.4 ∙ sym same };
   answers = λ h. p.ok.5;
 }
-wrote_pays s i text found l (Err e) t is same z p = tt
+wrote_pays s i text found l why (Err e) t is same z p = tt
 
-pub refused_pays : {A : Type 0} (s : State) (i : Item) (text : Option (List ℕ)) (found : Option Constructor) (l : List Size) (r : Result A Error) (t : State) → marked s.mark i ≡ text → found_after s.mark (kind_code i) s.found ≡ found → sizes i ≡ l → Pays s text found l r t → IfErr r (λ e. Refused s i e t)
+pub refused_pays : {A : Type 0} (s : State) (i : Item) (text : Option (List ℕ)) (found : Option Constructor) (l : List Size) (why : Error) (r : Result A Error) (t : State) → marked s.mark i ≡ text → found_after s.mark (kind_code i) s.found ≡ found → sizes i ≡ l → Pays s text found l why r t → IfErr r (λ e. Refused s i e t)
 unfolding text_for
-refused_pays s i text found l (Ok x) t is same z p = tt
-refused_pays s i text found l (Err e) t is same z p = record {
+refused_pays s i text found l why (Ok x) t is same z p = tt
+refused_pays s i text found l why (Err e) t is same z p = record {
   kept = p.kept;
   device = p.device;
   cause = λ h. elim p.refused [ inl m ↦ inl m | inr d ↦ inr (elim d [ inl f ↦ inl f | inr none ↦ inr (rw (is, z) none) ]) ];
 }
+
+-- a refusal has its name
+pub named_pays : {A : Type 0} (s : State) (text : Option (List ℕ)) (found : Option Constructor) (l : List Size) (n : ℕ) (r : Result A Error) (t : State) → Pays s text found l (unwritten n) r t → IfErr r (λ e. Named s n e t)
+named_pays s text found l n (Ok x) t p = tt
+named_pays s text found l n (Err e) t p = λ answers plan measure. p.named plan measure

@@ -1,7 +1,7 @@
 -- The texts of items, case by case.
 use Rattle.std.proofs.Common.{◌≡◌, ℕ, ℤ, ◌+◌, ◌%◌, ◌^◌, ◌<◌, ◌≤◌, List, [], ◌∷◌, ◌++◌, length, refl, sym, ◌∙◌, ap, subst, arith, Option, Some, None, true, false, Bool, if◌then◌else◌, Result, Err}
 use Rattle.std.proofs.lemmas.List.{append-nil}
-use Rattle.std.proofs.lemmas.Bool.{eq-eqb, ne_eqb, lt-ltb, le-leb, lt-leb}
+use Rattle.std.proofs.lemmas.Bool.{eq-eqb, ne_eqb, lt-ltb, le-ltb, le-leb, lt-leb}
 use Rattle.std.specs.Int.{w8, w32, bytes_high_first, cast_unsigned}
 use mir.Val.{SFits}
 use Rattle.std.specs.Str.{is_utf8}
@@ -10,7 +10,7 @@ use Rattle.amqp_base.specs.declared.format_code.EncodingCodes.TheVariants.{Uint,
 use Rattle.amqp_base.specs.Codes.{row, widest}
 use Rattle.amqp_base.specs.Wire.{Constructor, under}
 use Rattle.amqp_base.specs.Item.{Item, scalar, uint, int, string, symbol}
-use Rattle.amqp_base.specs.Canon.{canon, body, kind_code, scalar_body, scalar_text, short_text, is_under, sized}
+use Rattle.amqp_base.specs.Canon.{canon, body, kind_code, scalar_body, scalar_text, short_text, is_under, limit, sized}
 use Rattle.amqp_base.specs.Sizes.{Size, sizes}
 use Rattle.amqp_base.specs.declared.error.Error.{Error}
 use Rattle.std.specs.declared.io.ErrorKind.TheVariants.{Other as IoOther}
@@ -26,15 +26,16 @@ use Rattle.amqp_ser.proofs.CanonUint.{canon_uint_0, canon_uint_1, canon_uint_4}
 use Rattle.amqp_ser.specs.declared.serializer.Mark.{Mark as CodeMark}
 use Rattle.amqp_ser.specs.declared.serializer.Mark.TheVariants.{Unmarked, First, Other}
 use Rattle.amqp_ser.specs.State.{State, Mark, unmarked, first, other, mark_of}
-use Rattle.amqp_ser.specs.Law.{marked, placed, payload_at, found_after, Pays, Appended}
+use Rattle.amqp_ser.specs.Law.{marked, placed, found_after, unwritten}
+use Rattle.amqp_ser.specs.Appending.{payload_at, Pays, Appended}
 
 pub not_unmarked : (m : CodeMark) → (m ≡ Unmarked → ⊥) → mark_of m ≡ unmarked → ⊥
 not_unmarked Unmarked h e = h refl
 not_unmarked First h e = cc
 not_unmarked (Other c) h e = cc
 
-pub pays_text : {A : Type 0} (s : State) (text text' : Option (List ℕ)) (found found' : Option Constructor) (l : List Size) (r : Result A Error) (t : State) → text ≡ text' → found ≡ found' → Pays s text' found' l r t → Pays s text found l r t
-pays_text s text text' found found' l r t e f p = subst (λ x. Pays s x found l r t) (sym e) (subst (λ x. Pays s text' x l r t) (sym f) p)
+pub pays_text : {A : Type 0} (s : State) (text text' : Option (List ℕ)) (found found' : Option Constructor) (l : List Size) (why : Error) (r : Result A Error) (t : State) → text ≡ text' → found ≡ found' → Pays s text' found' l why r t → Pays s text found l why r t
+pays_text s text text' found found' l why r t e f p = subst (λ x. Pays s x found l why r t) (sym e) (subst (λ x. Pays s text' x l why r t) (sym f) p)
 
 -- uint
 pub uint_code : (n : ℕ) → kind_code (scalar (uint n)) ≡ Some (under Uint)
@@ -176,18 +177,22 @@ text_sizes b DescribedMap = refl
 text_sizes b DescribedBasic = refl
 
 -- an element's data, by the mark
-pub first_pays : {A : Type 0} (s v : State) (code : EncodingCodes) (byte : ℕ) (bytes : List ℕ) (r : Result A Error) (t : State) → s.mark ≡ first → v ≡ record s { found = Some (under code) } → byte ≡ (row code).byte → s.stopped ≡ false → Appended v ((byte ∷ []) ++ bytes) r t → Pays s (placed s.mark (Some (under code)) (Some bytes)) (found_after s.mark (Some (under code)) s.found) [] r t
-first_pays s v code byte bytes r t m same is answers a = pays_text s _ (Some ((row code).byte ∷ bytes)) _ (Some (under code)) [] r t (rw m refl) (rw m refl) (pays_appended s v _ _ _ r t same (rw is refl) answers a)
+pub first_pays : {A : Type 0} (s v : State) (code : EncodingCodes) (byte : ℕ) (bytes : List ℕ) (r : Result A Error) (t : State) → s.mark ≡ first → v ≡ record s { found = Some (under code) } → byte ≡ (row code).byte → s.stopped ≡ false → Appended v ((byte ∷ []) ++ bytes) r t → Pays s (placed s.mark (Some (under code)) (Some bytes)) (found_after s.mark (Some (under code)) s.found) [] InvalidValue r t
+first_pays s v code byte bytes r t m same is answers a = pays_text s _ (Some ((row code).byte ∷ bytes)) _ (Some (under code)) [] InvalidValue r t (rw m refl) (rw m refl) (pays_appended s v _ _ _ _ r t same (rw is refl) answers a)
 
-pub other_pays : {A : Type 0} (s : State) (outer code : EncodingCodes) (bytes : List ℕ) (r : Result A Error) (t : State) → s.mark ≡ other (under outer) → (row outer).byte ≡ (row code).byte → s.stopped ≡ false → Appended s bytes r t → Pays s (placed s.mark (Some (under code)) (Some bytes)) (found_after s.mark (Some (under code)) s.found) [] r t
-other_pays s outer code bytes r t m same answers a = pays_text s _ (Some bytes) _ s.found [] r t (rw (m, eq-eqb (row outer).byte (row code).byte same) refl) (rw m refl) (pays_appended s s _ _ _ r t refl refl answers a)
+pub other_pays : {A : Type 0} (s : State) (outer code : EncodingCodes) (bytes : List ℕ) (r : Result A Error) (t : State) → s.mark ≡ other (under outer) → (row outer).byte ≡ (row code).byte → s.stopped ≡ false → Appended s bytes r t → Pays s (placed s.mark (Some (under code)) (Some bytes)) (found_after s.mark (Some (under code)) s.found) [] InvalidValue r t
+other_pays s outer code bytes r t m same answers a = pays_text s _ (Some bytes) _ s.found [] InvalidValue r t (rw (m, eq-eqb (row outer).byte (row code).byte same) refl) (rw m refl) (pays_appended s s _ _ _ _ r t refl refl answers a)
 
-pub mixed_pays : {A : Type 0} (s : State) (outer code : EncodingCodes) (bytes : List ℕ) (r : Result A Error) (t : State) → s.mark ≡ other (under outer) → ((row outer).byte ≡ (row code).byte → ⊥) → t ≡ record s { stopped = true } → r ≡ Err InvalidValue → Pays s (placed s.mark (Some (under code)) (Some bytes)) (found_after s.mark (Some (under code)) s.found) [] r t
+pub mixed_pays : {A : Type 0} (s : State) (outer code : EncodingCodes) (bytes : List ℕ) (r : Result A Error) (t : State) → s.mark ≡ other (under outer) → ((row outer).byte ≡ (row code).byte → ⊥) → t ≡ record s { stopped = true } → r ≡ Err InvalidValue → Pays s (placed s.mark (Some (under code)) (Some bytes)) (found_after s.mark (Some (under code)) s.found) [] InvalidValue r t
 mixed_pays s outer code bytes r t m differ same is = pays_none s _ _ [] InvalidValue r t same (rw (m, ne_eqb (row outer).byte (row code).byte differ) refl) (λ e. absurd (invalid_apart e)) (λ d. d) is
 
 -- too long a payload
-pub long_pays : {A : Type 0} (s : State) (text : Option (List ℕ)) (found : Option Constructor) (r : Result A Error) (t : State) → t ≡ record s { stopped = true } → text ≡ None → r ≡ Err (Io IoOther) → Pays s text found [] r t
-long_pays s text found r t same none is = pays_none s text found [] (Io IoOther) r t same none (λ e. absurd (io_apart e)) (λ d. d.1 refl) is
+pub long_pays : {A : Type 0} (s : State) (text : Option (List ℕ)) (found : Option Constructor) (n : ℕ) (r : Result A Error) (t : State) → t ≡ record s { stopped = true } → text ≡ None → limit < n → r ≡ Err (Io IoOther) → Pays s text found [] (unwritten n) r t
+long_pays s text found n r t same none long is = subst (λ x. Pays s text found [] x r t) (rw (lt-ltb limit n long) refl) (pays_none s text found [] (Io IoOther) r t same none (λ e. absurd (io_apart e)) (λ d. d.1 refl) is)
+
+-- a payload that isn't too long
+pub short_pays : {A : Type 0} (s : State) (text : Option (List ℕ)) (found : Option Constructor) (n : ℕ) (r : Result A Error) (t : State) → n ≤ limit → Pays s text found [] InvalidValue r t → Pays s text found [] (unwritten n) r t
+short_pays s text found n r t short p = subst (λ x. Pays s text found [] x r t) (rw (le-ltb limit n short) refl) p
 
 pub one_byte : (n : ℕ) → n < 256 → bytes_high_first 1 n ≡ n ∷ []
 one_byte n h = ap (λ x. x ∷ []) (omega (arith, h))

@@ -1,12 +1,10 @@
 -- The law of writing.
-use Rattle.std.specs.Prelude.{◌≡◌, ◌≢◌, ◌⊎◌, ℕ, ◌+◌, ◌^◌, ◌<◌, ◌≤◌, nat_lt, ◌==◌, ◌&&◌, Bool, true, false, if◌then◌else◌, List, [], ◌∷◌, ◌++◌, length, drop, Option, None, Some, Result, Err, OnOk, OnErr, IfErr, ⊤}
+use Rattle.std.specs.Prelude.{◌≡◌, ◌≢◌, ◌⊎◌, ℕ, ◌+◌, ◌^◌, ◌<◌, ◌≤◌, nat_lt, ◌==◌, ◌&&◌, Bool, true, false, if◌then◌else◌, List, [], ◌∷◌, ◌++◌, length, drop, Option, None, Some, Result, Err, OnErr, IfErr, ⊤}
 use Rattle.std.specs.Io.KnownBytes.{Appends}
 use Rattle.std.specs.declared.io.ErrorKind.TheVariants.{UnexpectedEof, Other}
 use Rattle.amqp_base.specs.Item.{Item}
-use Rattle.amqp_base.specs.Codes.{row}
-use Rattle.amqp_base.specs.declared.format_code.EncodingCodes.{EncodingCodes}
-use Rattle.amqp_base.specs.Wire.{Constructor, under}
-use Rattle.amqp_base.specs.Canon.{◌>>=◌, or_else, when, short_payload, sized, canon, body, kind_code, constructor_text, is_under}
+use Rattle.amqp_base.specs.Wire.{Constructor}
+use Rattle.amqp_base.specs.Canon.{◌>>=◌, when, limit, canon, body, kind_code, constructor_text, is_under}
 use Rattle.amqp_base.specs.Sizes.{Size, sizes}
 use Rattle.amqp_base.specs.Faults.{Extends}
 use Rattle.amqp_base.specs.declared.error.Error.{Error}
@@ -18,12 +16,6 @@ abbrev pub placed : Mark → Option Constructor → Option (List ℕ) → Option
 placed unmarked c b = None
 placed first c b = c >>= λ d. constructor_text d >>= λ m. b >>= λ a. Some (m ++ a)
 placed (other d) c b = if is_under d c then b else None
-
--- the text of a text, under its widest code or a narrow one
-unfoldable pub payload_at : Mark → ℕ → EncodingCodes → List ℕ → Option (List ℕ)
-payload_at unmarked narrow e b = or_else (short_payload narrow b) (sized b >>= λ d. Some ((row e).byte ∷ d))
-payload_at first narrow e b = placed first (Some (under e)) (sized b)
-payload_at (other d) narrow e b = placed (other d) (Some (under e)) (sized b)
 
 -- the text of an item, as the mark has it
 unfoldable pub marked : Mark → Item → Option (List ℕ)
@@ -124,20 +116,14 @@ pub record Stops {A : Type 0} (s : State) (r : Result A Error) (t : State) : Typ
 abbrev pub Spares : {A : Type 0} → State → Result A Error → State → Type 0
 Spares s r t = IfErr r (λ e. e ≡ OutOfMemory → (s.grows ≡ true) ⊎ (s.faults < t.faults))
 
--- what appending bytes does
-pub record Appended {A : Type 0} (s : State) (bytes : List ℕ) (r : Result A Error) (t : State) : Type 0 where
-  pub kept : Kept s t
-  pub device : IfErr r (λ e. IsDevice e → s.faults < t.faults)
-  pub ok : OnOk r (Goes s bytes [] t × (t.mark ≡ s.mark) × (t.found ≡ s.found) × (t.stopped ≡ s.stopped))
-  pub err : OnErr r (t.stopped ≡ true)
-  pub refused : IfErr r (λ e. (e ≡ OutOfMemory) ⊎ ((IsIo e × (s.faults < t.faults)) ⊎ (fits s [] (length bytes) ≡ false)))
-  pub spares : Spares s r t
+-- the refusal where there is no text: too long a payload or body, else an element that can't stand there
+abbrev pub unwritten : ℕ → Error
+unwritten n = if nat_lt limit n then Io Other else InvalidValue
 
--- what writing a text does, where there is one: the constructor that was found, and the sizes
-pub record Pays {A : Type 0} (s : State) (text : Option (List ℕ)) (found : Option Constructor) (l : List Size) (r : Result A Error) (t : State) : Type 0 where
-  pub kept : Kept s t
-  pub device : IfErr r (λ e. IsDevice e → s.faults < t.faults)
-  pub ok : OnOk r ((bytes : List ℕ) × (text ≡ Some bytes) × Goes s bytes l t × (t.mark ≡ s.mark) × (t.found ≡ found) × (t.stopped ≡ false))
-  pub err : OnErr r (t.stopped ≡ true)
-  pub refused : IfErr r (λ e. (e ≡ OutOfMemory) ⊎ ((IsIo e × (s.faults < t.faults)) ⊎ ((text >>= λ b. when (fits s l (length b)) b) ≡ None)))
-  pub spares : Spares s r t
+-- what may be answered for a payload or body of n bytes, 0 where there is none
+abbrev pub Names : State → Error → Error → State → Type 0
+Names s why e t = (e ≡ OutOfMemory) ⊎ ((IsIo e × (s.faults < t.faults)) ⊎ (e ≡ why))
+
+-- each refusal has its name
+abbrev pub Named : State → ℕ → Error → State → Type 0
+Named s n e t = s.stopped ≡ false → s.plan ≡ None → s.measure ≡ None → Names s (unwritten n) e t

@@ -3,7 +3,8 @@
 ghost use Rattle.std.specs.Prelude.{◌≡◌, ◌<◌, ◌≤◌, length, [], true, IfOk, IfErr, OnErr, Some};
 ghost use Rattle.amqp_base.specs.Wire.{under};
 ghost use Rattle.amqp_ser.specs.State.{state, mark_of, answering};
-ghost use Rattle.amqp_ser.specs.Law.{Kept, Pays, IsDevice, found_after};
+ghost use Rattle.amqp_ser.specs.Law.{Kept, IsDevice, unwritten, found_after};
+ghost use Rattle.amqp_ser.specs.Appending.{Pays};
 ghost use Rattle.amqp_ser.specs.Compound.{the_buffer, Empty, Run, whole_text, shape_code, narrow_of, empty_list, next_mark};
 
 use crate::Serializer;
@@ -92,7 +93,7 @@ impl<W: Sink> Serializer<W> {
     /// Writes a compound of so many parts, on a serializer that the compound holds.
     pub(crate) fn finish(&mut self, shape: Shape, count: usize, body: &[u8]) -> Result<(), Error>
         ensures law { count ≤ length body.now → Pays (answering (state W.Write W.FaultCount self.old)) (whole_text shape (state W.Write W.FaultCount self.old).mark count body.now)
-            (found_after (state W.Write W.FaultCount self.old).mark (Some (under (shape_code shape))) (state W.Write W.FaultCount self.old).found) [] result (state W.Write W.FaultCount self.new) }
+            (found_after (state W.Write W.FaultCount self.old).mark (Some (under (shape_code shape))) (state W.Write W.FaultCount self.old).found) [] (unwritten (length body.now)) result (state W.Write W.FaultCount self.new) }
         ensures kept { Kept (state W.Write W.FaultCount self.old) (state W.Write W.FaultCount self.new) }
         ensures device { IfErr result (λ e. IsDevice e → W.faults self.old.writer < W.faults self.new.writer) }
         ensures err { OnErr result (self.new.stopped ≡ true) }

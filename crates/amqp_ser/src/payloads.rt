@@ -1,10 +1,11 @@
 //! Texts.
 
-ghost use Rattle.std.specs.Prelude.{◌≡◌, [], false, IfErr, OnOk, Some};
+ghost use Rattle.std.specs.Prelude.{◌≡◌, [], false, length, IfErr, OnOk, Some};
 ghost use Rattle.amqp_base.specs.Wire.{under};
 ghost use Rattle.amqp_base.specs.Typing.{text_item};
 ghost use Rattle.amqp_ser.specs.State.{state};
-ghost use Rattle.amqp_ser.specs.Law.{Wrote, Refused, Stops, Spares, Pays, payload_at, found_after};
+ghost use Rattle.amqp_ser.specs.Law.{Wrote, Refused, Stops, Spares, Named, unwritten, found_after};
+ghost use Rattle.amqp_ser.specs.Appending.{Pays, payload_at};
 
 use crate::Serializer;
 use crate::serializer::{LONGEST, Mark};
@@ -16,7 +17,7 @@ impl<W: Sink> Serializer<W> {
     /// The bytes of a text, behind a code and their length.
     fn payload(&mut self, narrow: u8, code: EncodingCodes, bytes: &[u8]) -> Result<(), Error>
         requires { self.old.stopped ≡ false }
-        ensures law { Pays (state W.Write W.FaultCount self.old) (payload_at (state W.Write W.FaultCount self.old).mark narrow code bytes.now) (found_after (state W.Write W.FaultCount self.old).mark (Some (under code)) (state W.Write W.FaultCount self.old).found) ([]) result (state W.Write W.FaultCount self.new) }
+        ensures law { Pays (state W.Write W.FaultCount self.old) (payload_at (state W.Write W.FaultCount self.old).mark narrow code bytes.now) (found_after (state W.Write W.FaultCount self.old).mark (Some (under code)) (state W.Write W.FaultCount self.old).found) ([]) (unwritten (length bytes.now)) result (state W.Write W.FaultCount self.new) }
     {
         let len = bytes.len();
         if len > LONGEST {
@@ -39,6 +40,7 @@ impl<W: Sink> Serializer<W> {
     pub fn serialize_str(&mut self, alloc: Global, v: &str) -> Result<(), Error>
         ensures ok { OnOk result (Wrote (state W.Write W.FaultCount self.old) (text_item v.now (state W.Write W.FaultCount self.old).setting) (state W.Write W.FaultCount self.new)) }
         ensures err { IfErr result (λ e. Refused (state W.Write W.FaultCount self.old) (text_item v.now (state W.Write W.FaultCount self.old).setting) e (state W.Write W.FaultCount self.new)) }
+        ensures named { IfErr result (λ e. Named (state W.Write W.FaultCount self.old) (length v.now) e (state W.Write W.FaultCount self.new)) }
         ensures stops { Stops (state W.Write W.FaultCount self.old) result (state W.Write W.FaultCount self.new) }
         ensures spares { Spares (state W.Write W.FaultCount self.old) result (state W.Write W.FaultCount self.new) }
     {

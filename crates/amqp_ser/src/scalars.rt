@@ -4,7 +4,8 @@ ghost use Rattle.std.specs.Prelude.{◌≡◌, [], false, IfErr, OnOk};
 ghost use Rattle.amqp_base.specs.Item.{scalar, uint, int};
 ghost use Rattle.amqp_base.specs.Canon.{kind_code};
 ghost use Rattle.amqp_ser.specs.State.{state};
-ghost use Rattle.amqp_ser.specs.Law.{Wrote, Refused, Stops, Spares, Pays, marked, found_after};
+ghost use Rattle.amqp_ser.specs.Law.{Wrote, Refused, Stops, Spares, Named, marked, found_after};
+ghost use Rattle.amqp_ser.specs.Appending.{Pays};
 
 use crate::Serializer;
 use crate::serializer::Mark;
@@ -17,6 +18,7 @@ impl<W: Sink> Serializer<W> {
     pub fn serialize_u32(&mut self, alloc: Global, v: u32) -> Result<(), Error>
         ensures ok { OnOk result (Wrote (state W.Write W.FaultCount self.old) (scalar (uint v)) (state W.Write W.FaultCount self.new)) }
         ensures err { IfErr result (λ e. Refused (state W.Write W.FaultCount self.old) (scalar (uint v)) e (state W.Write W.FaultCount self.new)) }
+        ensures named { IfErr result (λ e. Named (state W.Write W.FaultCount self.old) 0 e (state W.Write W.FaultCount self.new)) }
         ensures stops { Stops (state W.Write W.FaultCount self.old) result (state W.Write W.FaultCount self.new) }
         ensures spares { Spares (state W.Write W.FaultCount self.old) result (state W.Write W.FaultCount self.new) }
     {
@@ -33,7 +35,7 @@ impl<W: Sink> Serializer<W> {
     #[inline(always)]
     fn uint(&mut self, v: u32) -> Result<(), Error>
         requires { self.old.stopped ≡ false }
-        ensures law { Pays (state W.Write W.FaultCount self.old) (marked (state W.Write W.FaultCount self.old).mark (scalar (uint v))) (found_after (state W.Write W.FaultCount self.old).mark (kind_code (scalar (uint v))) (state W.Write W.FaultCount self.old).found) ([]) result (state W.Write W.FaultCount self.new) }
+        ensures law { Pays (state W.Write W.FaultCount self.old) (marked (state W.Write W.FaultCount self.old).mark (scalar (uint v))) (found_after (state W.Write W.FaultCount self.old).mark (kind_code (scalar (uint v))) (state W.Write W.FaultCount self.old).found) ([]) Error.InvalidValue result (state W.Write W.FaultCount self.new) }
     {
         let mark = self.mark;
         match mark {
@@ -52,6 +54,7 @@ impl<W: Sink> Serializer<W> {
     pub fn serialize_i32(&mut self, alloc: Global, v: i32) -> Result<(), Error>
         ensures ok { OnOk result (Wrote (state W.Write W.FaultCount self.old) (scalar (int v)) (state W.Write W.FaultCount self.new)) }
         ensures err { IfErr result (λ e. Refused (state W.Write W.FaultCount self.old) (scalar (int v)) e (state W.Write W.FaultCount self.new)) }
+        ensures named { IfErr result (λ e. Named (state W.Write W.FaultCount self.old) 0 e (state W.Write W.FaultCount self.new)) }
         ensures stops { Stops (state W.Write W.FaultCount self.old) result (state W.Write W.FaultCount self.new) }
         ensures spares { Spares (state W.Write W.FaultCount self.old) result (state W.Write W.FaultCount self.new) }
     {
@@ -68,7 +71,7 @@ impl<W: Sink> Serializer<W> {
     #[inline(always)]
     fn int(&mut self, v: i32) -> Result<(), Error>
         requires { self.old.stopped ≡ false }
-        ensures law { Pays (state W.Write W.FaultCount self.old) (marked (state W.Write W.FaultCount self.old).mark (scalar (int v))) (found_after (state W.Write W.FaultCount self.old).mark (kind_code (scalar (int v))) (state W.Write W.FaultCount self.old).found) ([]) result (state W.Write W.FaultCount self.new) }
+        ensures law { Pays (state W.Write W.FaultCount self.old) (marked (state W.Write W.FaultCount self.old).mark (scalar (int v))) (found_after (state W.Write W.FaultCount self.old).mark (kind_code (scalar (int v))) (state W.Write W.FaultCount self.old).found) ([]) Error.InvalidValue result (state W.Write W.FaultCount self.new) }
     {
         let mark = self.mark;
         match mark {

@@ -1,12 +1,12 @@
 //! Lists and arrays, part by part.
 
-ghost use Rattle.std.specs.Prelude.{◌≡◌, ◌++◌, ◌∷◌, [], true, IfOk, IfErr, OnOk, OnErr, Err, List};
+ghost use Rattle.std.specs.Prelude.{◌≡◌, ℕ, ◌++◌, ◌∷◌, [], length, Some, true, IfOk, IfErr, OnOk, OnErr, Err, List};
 ghost use Rattle.std.specs.Borrow.{sem, RestsIfErr};
-ghost use Rattle.amqp_base.specs.Item.{Item};
+ghost use Rattle.amqp_base.specs.Item.{Item, items_of};
 ghost use Rattle.amqp_base.specs.Shapes.{whole};
 ghost use Rattle.amqp_ser.specs.State.{State, state};
-ghost use Rattle.amqp_ser.specs.Law.{Wrote, Refused, Kept};
-ghost use Rattle.amqp_ser.specs.Compound.{open_state, RefusesOpen, Holds, Keeps, BeginsWith, BreaksOff, IsBroken};
+ghost use Rattle.amqp_ser.specs.Law.{Wrote, Refused, Kept, Named};
+ghost use Rattle.amqp_ser.specs.Compound.{open_state, parts_text, RefusesOpen, Holds, Keeps, BeginsWith, BreaksOff, IsBroken};
 ghost use Rattle.amqp_ser.specs.contracts.serializer.Serializer.{the_row};
 
 use crate::{Parts, Serialize, Serializer};
@@ -105,6 +105,8 @@ impl<'a, W: Sink> SeqSerializer<'a, W> {
             Wrote s (whole shape xs) (state W.Write W.FaultCount self.exit.0.now)) }
         ensures err { IfErr result (λ e. (s : State) (shape : Shape) (xs : List Item) → Holds s shape xs (open_state W.Write W.FaultCount self.entry) →
             Refused s (whole shape xs) e (state W.Write W.FaultCount self.exit.0.now)) }
+        ensures named { IfErr result (λ e. (s : State) (shape : Shape) (xs : List Item) (b : List ℕ) → Holds s shape xs (open_state W.Write W.FaultCount self.entry) →
+            parts_text shape (items_of xs) ≡ Some b → Named s (length b) e (state W.Write W.FaultCount self.exit.0.now)) }
         ensures kept { Kept (state W.Write W.FaultCount self.entry.ser.now) (state W.Write W.FaultCount self.exit.0.now) }
         ensures stopped { OnErr result ((state W.Write W.FaultCount self.entry.ser.now).stopped ≡ true → (state W.Write W.FaultCount self.exit.0.now).stopped ≡ true) }
         ensures broken { IsBroken (open_state W.Write W.FaultCount self.entry) → result ≡ Err Error.InvalidValue }

@@ -3,7 +3,8 @@
 ghost use Rattle.std.specs.Prelude.{◌≡◌, ◌≢◌, ◌++◌, ◌∷◌, [], true, false, IfErr, OnOk, OnErr, Some};
 ghost use Rattle.amqp_base.specs.Wire.{under};
 ghost use Rattle.amqp_ser.specs.State.{Fresh, state, mark_of, unmarked, first};
-ghost use Rattle.amqp_ser.specs.Law.{Wrote, Refused, Stops, Appended, Pays, placed, found_after};
+ghost use Rattle.amqp_ser.specs.Law.{Wrote, Refused, Stops, placed, found_after};
+ghost use Rattle.amqp_ser.specs.Appending.{Appended, Pays};
 ghost use Rattle.amqp_ser.specs.Compound.{turned};
 
 use crate::Serialize;
@@ -124,7 +125,7 @@ impl<W: Sink> Serializer<W> {
     ) -> Result<(), Error>
         requires answers { self.old.stopped ≡ false }
         requires marked { mark_of self.old.mark ≢ unmarked }
-        ensures law { Pays (state W.Write W.FaultCount self.old) (placed (state W.Write W.FaultCount self.old).mark (Some (under code)) (Some (head.now ++ body.now))) (found_after (state W.Write W.FaultCount self.old).mark (Some (under code)) (state W.Write W.FaultCount self.old).found) ([]) result (state W.Write W.FaultCount self.new) }
+        ensures law { Pays (state W.Write W.FaultCount self.old) (placed (state W.Write W.FaultCount self.old).mark (Some (under code)) (Some (head.now ++ body.now))) (found_after (state W.Write W.FaultCount self.old).mark (Some (under code)) (state W.Write W.FaultCount self.old).found) ([]) Error.InvalidValue result (state W.Write W.FaultCount self.new) }
     {
         let mark = self.mark;
         match mark {
@@ -148,7 +149,7 @@ impl<W: Sink> Serializer<W> {
     fn first_element(&mut self, code: EncodingCodes, head: &[u8], body: &[u8]) -> Result<(), Error>
         requires answers { self.old.stopped ≡ false }
         requires marked { mark_of self.old.mark ≡ first }
-        ensures law { Pays (state W.Write W.FaultCount self.old) (placed (state W.Write W.FaultCount self.old).mark (Some (under code)) (Some (head.now ++ body.now))) (found_after (state W.Write W.FaultCount self.old).mark (Some (under code)) (state W.Write W.FaultCount self.old).found) ([]) result (state W.Write W.FaultCount self.new) }
+        ensures law { Pays (state W.Write W.FaultCount self.old) (placed (state W.Write W.FaultCount self.old).mark (Some (under code)) (Some (head.now ++ body.now))) (found_after (state W.Write W.FaultCount self.old).mark (Some (under code)) (state W.Write W.FaultCount self.old).found) ([]) Error.InvalidValue result (state W.Write W.FaultCount self.new) }
     {
         self.found = Some(code);
         match self.append(&[code.byte()]) {

@@ -17,7 +17,7 @@ returns-in-Ok g c =
     let small : SFits w8 c.in-Ok.small = rw h.1 h.0 in
     let k = rw h.1 at (simp to_z-of_z at c.cast_unsigned.ensures) in
     let m = ap mark_of c.in-Unmarked.is in
-    record { law = pays_appended _ _ _ _ _ _ _ (rw m refl) (rw m (int_1 c.args.v h.0)) c.requires (rw k at c.append.ensures) }
+    record { law = pays_appended _ _ _ _ _ _ _ _ (rw m refl) (rw m (int_1 c.args.v h.0)) c.requires (rw k at c.append.ensures) }
 
 pub returns-in-Err : goal.returns-in-Err
 unfolding state open_state
@@ -25,11 +25,11 @@ returns-in-Err g c =
     let f : SFits w32 c.args.v = c.ranges.v in
     let h = simp to_z-of_z at c.in-Err.ensures in
     let m = ap mark_of c.in-Unmarked.is in
-    record { law = pays_appended _ _ _ _ _ _ _ (rw m refl) (rw m (int_4 c.args.v h f)) c.requires (rw (simp to_z-of_z at c.to_be_bytes-bytes.ensures) at c.append-in-Err.ensures) }
+    record { law = pays_appended _ _ _ _ _ _ _ _ (rw m refl) (rw m (int_4 c.args.v h f)) c.requires (rw (simp to_z-of_z at c.to_be_bytes-bytes.ensures) at c.append-in-Err.ensures) }
 
 pub returns-in_default : goal.returns-in_default
 unfolding state open_state
 returns-in_default g c =
     let f : SFits w32 c.args.v = c.ranges.v in
     let k = simp to_z-of_z at c.to_be_bytes.ensures in
-    record { law = pays_text _ _ _ _ _ _ _ _ (int_placed (mark_of c.args.self.now.mark) c.args.v (not_unmarked _ c.in_default.not-Unmarked) f) (ap (λ k. found_after (mark_of c.args.self.now.mark) k (state g.W.Write g.W.FaultCount c.args.self.now).found) (int_code c.args.v)) (rw k at c.element.ensures.law) }
+    record { law = pays_text _ _ _ _ _ _ _ _ _ (int_placed (mark_of c.args.self.now.mark) c.args.v (not_unmarked _ c.in_default.not-Unmarked) f) (ap (λ k. found_after (mark_of c.args.self.now.mark) k (state g.W.Write g.W.FaultCount c.args.self.now).found) (int_code c.args.v)) (rw k at c.element.ensures.law) }
