@@ -114,11 +114,11 @@ payload_none unmarked narrow e b h = rw (lt-leb (length b) 254 (omega (arith, h)
 payload_none first narrow e b h = rw (too_long b h) refl
 payload_none (other d) narrow e b h = rw (too_long b h) (placed_none (other d) e)
 
-pub payload_narrow : (narrow : ℕ) (e : EncodingCodes) (b : List ℕ) → length b < 255 → payload_at unmarked narrow e b ≡ Some (narrow ∷ length b ∷ b)
+pub payload_narrow : (narrow : ℕ) (e : EncodingCodes) (b : List ℕ) → length b ≤ 254 → payload_at unmarked narrow e b ≡ Some (narrow ∷ length b ∷ b)
 unfolding payload_at
 payload_narrow narrow e b h = rw (le-leb (length b) 254 (omega (arith, h))) refl
 
-pub payload_wide : (narrow : ℕ) (e : EncodingCodes) (b : List ℕ) → 255 ≤ length b → length b ≤ 4294967291 → payload_at unmarked narrow e b ≡ Some ((row e).byte ∷ (bytes_high_first 4 (length b) ++ b))
+pub payload_wide : (narrow : ℕ) (e : EncodingCodes) (b : List ℕ) → 254 < length b → length b ≤ 4294967291 → payload_at unmarked narrow e b ≡ Some ((row e).byte ∷ (bytes_high_first 4 (length b) ++ b))
 unfolding payload_at
 payload_wide narrow e b h k = rw (lt-leb (length b) 254 (omega (arith, h)), le-leb (length b) 4294967291 k) refl
 
@@ -209,13 +209,13 @@ pub whole_empty : (shape : Shape) (k : ℕ) (b : List ℕ) → empty_list shape 
 unfolding whole_text
 whole_empty shape k b h = rw h refl
 
-pub whole_narrow : (shape : Shape) (k : ℕ) (b : List ℕ) → empty_list shape (length b) ≡ false → length b < 255 → k ≤ length b → whole_text shape unmarked k b ≡ Some ((narrow_of shape ∷ (length b + 1) ∷ (k % 256) ∷ []) ++ b)
+pub whole_narrow : (shape : Shape) (k : ℕ) (b : List ℕ) → empty_list shape (length b) ≡ false → length b ≤ 254 → k ≤ length b → whole_text shape unmarked k b ≡ Some ((narrow_of shape ∷ (length b + 1) ∷ (k % 256) ∷ []) ++ b)
 unfolding whole_text
 whole_narrow shape k b h l f =
     let size : (1 + length b) % 256 ≡ length b + 1 = omega (arith, l) in
     rw (h, le-leb (length b) 254 (omega (arith, l)), size) refl
 
-pub whole_wide : (shape : Shape) (k : ℕ) (b : List ℕ) → empty_list shape (length b) ≡ false → 255 ≤ length b → length b ≤ 4294967291 → k ≤ length b → whole_text shape unmarked k b ≡ Some ((row (shape_code shape)).byte ∷ (bytes_high_first 4 (length b + 4) ++ (bytes_high_first 4 (k % 4294967296) ++ b)))
+pub whole_wide : (shape : Shape) (k : ℕ) (b : List ℕ) → empty_list shape (length b) ≡ false → 254 < length b → length b ≤ 4294967291 → k ≤ length b → whole_text shape unmarked k b ≡ Some ((row (shape_code shape)).byte ∷ (bytes_high_first 4 (length b + 4) ++ (bytes_high_first 4 (k % 4294967296) ++ b)))
 unfolding whole_text
 whole_wide shape k b h l m f =
     let size : 4 + length b ≡ length b + 4 = omega arith in

@@ -8,7 +8,7 @@ ghost use Rattle.amqp_ser.specs.Appending.{Pays};
 ghost use Rattle.amqp_ser.specs.Compound.{the_buffer, Empty, Run, whole_text, shape_code, narrow_of, empty_list, next_mark};
 
 use crate::Serializer;
-use crate::serializer::{LONGEST, Mark};
+use crate::serializer::{LONGEST, Mark, NARROW};
 use amqp_base::{EncodingCodes, Error, Setting, Shape, Sink};
 use std::alloc::{AllocError, Global};
 use std::io::ErrorKind;
@@ -111,7 +111,7 @@ impl<W: Sink> Serializer<W> {
             Mark::Unmarked => {
                 if is_empty_list(shape, len) {
                     self.append(&[0x45])
-                } else if len < 255 {
+                } else if len <= NARROW {
                     self.append_two(
                         &[narrow_byte(shape), (len + 1) as u8, (count % 256) as u8],
                         body,

@@ -8,7 +8,7 @@ ghost use Rattle.amqp_ser.specs.Law.{Wrote, Refused, Stops, Spares, Named, unwri
 ghost use Rattle.amqp_ser.specs.Appending.{Pays, payload_at};
 
 use crate::Serializer;
-use crate::serializer::{LONGEST, Mark};
+use crate::serializer::{LONGEST, Mark, NARROW};
 use amqp_base::{EncodingCodes, Error, Setting, Sink};
 use std::alloc::Global;
 use std::io::ErrorKind;
@@ -27,7 +27,7 @@ impl<W: Sink> Serializer<W> {
         let size = (len as u32).to_be_bytes();
         let mark = self.mark;
         match mark {
-            Mark::Unmarked if len < 255 => self.append_two(&[narrow, len as u8], bytes),
+            Mark::Unmarked if len <= NARROW => self.append_two(&[narrow, len as u8], bytes),
             Mark::Unmarked => self.append_two(
                 &[code.byte(), size[0], size[1], size[2], size[3]],
                 bytes,

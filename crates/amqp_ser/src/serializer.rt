@@ -14,6 +14,10 @@ use std::alloc::Global;
 /// The most bytes of a payload or of a compound's body: a size of four bytes counts four more.
 pub(crate) const LONGEST: usize = 4_294_967_291;
 
+/// The most bytes of a payload or of a compound's body behind a size of one byte. No text has a payload of 255
+/// bytes behind one byte, though it would fit.
+pub(crate) const NARROW: usize = 254;
+
 /// Where the next item stands.
 #[derive(Clone, Copy)]
 pub(crate) enum Mark {

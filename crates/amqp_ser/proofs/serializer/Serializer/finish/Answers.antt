@@ -13,13 +13,13 @@ pub returns-then-is_empty_list-clause-law : goal.returns-then-is_empty_list-clau
 unfolding state open_state
 returns-then-is_empty_list-clause-law g c = let m = ap mark_of c.in-Unmarked.is in λ h. pays_appended _ _ _ _ _ _ _ _ (rw m refl) (rw m (whole_empty c.args.shape c.args.count c.args.body.now (sym c.is_empty_list.ensures ∙ c.if-is_empty_list.true))) refl c.append.ensures
 
-pub returns-then-len-lt255-clause-law : goal.returns-then-len-lt255-clause-law
+pub returns-then-len-le-NARROW-clause-law : goal.returns-then-len-le-NARROW-clause-law
 unfolding state open_state
-returns-then-len-lt255-clause-law g c = let m = ap mark_of c.in-Unmarked.is in λ h. pays_appended _ _ _ _ _ _ _ _ (rw m refl) (rw (m, c.narrow_byte.ensures) (whole_narrow c.args.shape c.args.count c.args.body.now (sym c.is_empty_list.ensures ∙ c.if-is_empty_list.false) c.if-len-lt255.true h)) refl c.append_two.ensures
+returns-then-len-le-NARROW-clause-law g c = let m = ap mark_of c.in-Unmarked.is in λ h. pays_appended _ _ _ _ _ _ _ _ (rw m refl) (rw (m, c.narrow_byte.ensures) (whole_narrow c.args.shape c.args.count c.args.body.now (sym c.is_empty_list.ensures ∙ c.if-is_empty_list.false) c.if-len-le-NARROW.true h)) refl c.append_two.ensures
 
-pub returns-else-len-lt255-clause-law : goal.returns-else-len-lt255-clause-law
+pub returns-else-len-le-NARROW-clause-law : goal.returns-else-len-le-NARROW-clause-law
 unfolding state open_state
-returns-else-len-lt255-clause-law g c = let m = ap mark_of c.in-Unmarked.is in λ h. pays_appended _ _ _ _ _ _ _ _ (rw m refl) (rw (m, c.byte.ensures, c.wide_code.ensures) (whole_wide c.args.shape c.args.count c.args.body.now (sym c.is_empty_list.ensures ∙ c.if-is_empty_list.false) c.if-len-lt255.false c.if-len-gt-LONGEST.false h)) refl (rw (c.to_be_bytes-size.ensures, c.to_be_bytes-n.ensures) at c.append_two-else-len-lt255.ensures)
+returns-else-len-le-NARROW-clause-law g c = let m = ap mark_of c.in-Unmarked.is in λ h. pays_appended _ _ _ _ _ _ _ _ (rw m refl) (rw (m, c.byte.ensures, c.wide_code.ensures) (whole_wide c.args.shape c.args.count c.args.body.now (sym c.is_empty_list.ensures ∙ c.if-is_empty_list.false) c.if-len-le-NARROW.false c.if-len-gt-LONGEST.false h)) refl (rw (c.to_be_bytes-size.ensures, c.to_be_bytes-n.ensures) at c.append_two-else-len-le-NARROW.ensures)
 
 pub returns-in_default-clause-law : goal.returns-in_default-clause-law
 unfolding state open_state

@@ -11,11 +11,11 @@ returns-then-len-gt-LONGEST g c = record { law = long_pays _ _ _ _ _ _ refl (pay
 
 pub returns-in-Unmarked : goal.returns-in-Unmarked
 unfolding state open_state
-returns-in-Unmarked g c = let m = ap mark_of c.in-Unmarked.is in record { law = pays_appended _ _ _ _ _ _ _ _ (rw m refl) (rw m (payload_narrow c.args.narrow c.args.code c.args.bytes.now c.if-len-lt255.true)) c.requires c.append_two.ensures }
+returns-in-Unmarked g c = let m = ap mark_of c.in-Unmarked.is in record { law = pays_appended _ _ _ _ _ _ _ _ (rw m refl) (rw m (payload_narrow c.args.narrow c.args.code c.args.bytes.now c.if-len-le-NARROW.true)) c.requires c.append_two.ensures }
 
 pub returns-in-Unmarked-2 : goal.returns-in-Unmarked-2
 unfolding state open_state
-returns-in-Unmarked-2 g c = let m = ap mark_of c.in-Unmarked.is in record { law = pays_appended _ _ _ _ _ _ _ _ (rw m refl) (rw (m, c.byte.ensures) (payload_wide c.args.narrow c.args.code c.args.bytes.now c.if-len-lt255.false c.if-len-gt-LONGEST.false)) c.requires (rw c.to_be_bytes-size.ensures at c.append_two-in-Unmarked-2.ensures) }
+returns-in-Unmarked-2 g c = let m = ap mark_of c.in-Unmarked.is in record { law = pays_appended _ _ _ _ _ _ _ _ (rw m refl) (rw (m, c.byte.ensures) (payload_wide c.args.narrow c.args.code c.args.bytes.now c.if-len-le-NARROW.false c.if-len-gt-LONGEST.false)) c.requires (rw c.to_be_bytes-size.ensures at c.append_two-in-Unmarked-2.ensures) }
 
 pub returns-in_default : goal.returns-in_default
 unfolding state open_state
