@@ -1,0 +1,10 @@
+pub mod CanonUint
+pub mod CanonInt
+pub mod Bytes
+pub mod Steps
+pub mod TextOf
+pub mod PartTexts
+pub mod Lengths
+pub mod Compounds
+pub mod Finish
+pub mod Counting

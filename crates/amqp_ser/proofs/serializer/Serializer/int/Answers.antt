@@ -1,0 +1,35 @@
+use Rattle.amqp_ser.specs.State.{state, mark_of}
+use Rattle.amqp_ser.specs.Compound.{open_state}
+use Rattle.std.proofs.Common.{refl, ap}
+use Rattle.std.specs.Int.{w8, w32}
+use Rattle.std.proofs.lemmas.Int.{to_z-of_z}
+use mir.Val.{SFits}
+use Rattle.amqp_ser.specs.Law.{found_after}
+use Rattle.amqp_ser.proofs.Steps.{pays_appended}
+use Rattle.amqp_ser.proofs.TextOf.{pays_text, int_1, int_4, int_placed, int_code, not_unmarked}
+use Rattle.amqp_ser.proofs.serializer.Serializer.int.Goals as goal
+
+pub returns-in-Ok : goal.returns-in-Ok
+unfolding state open_state
+returns-in-Ok g c =
+    let f : SFits w32 c.args.v = c.ranges.v in
+    let h = simp to_z-of_z at c.in-Ok.ensures in
+    let small : SFits w8 c.in-Ok.small = rw h.1 h.0 in
+    let k = rw h.1 at (simp to_z-of_z at c.cast_unsigned.ensures) in
+    let m = ap mark_of c.in-Unmarked.is in
+    record { law = pays_appended _ _ _ _ _ _ _ _ (rw m refl) (rw m (int_1 c.args.v h.0)) c.requires (rw k at c.append.ensures) }
+
+pub returns-in-Err : goal.returns-in-Err
+unfolding state open_state
+returns-in-Err g c =
+    let f : SFits w32 c.args.v = c.ranges.v in
+    let h = simp to_z-of_z at c.in-Err.ensures in
+    let m = ap mark_of c.in-Unmarked.is in
+    record { law = pays_appended _ _ _ _ _ _ _ _ (rw m refl) (rw m (int_4 c.args.v h f)) c.requires (rw (simp to_z-of_z at c.to_be_bytes-bytes.ensures) at c.append-in-Err.ensures) }
+
+pub returns-in_default : goal.returns-in_default
+unfolding state open_state
+returns-in_default g c =
+    let f : SFits w32 c.args.v = c.ranges.v in
+    let k = simp to_z-of_z at c.to_be_bytes.ensures in
+    record { law = pays_text _ _ _ _ _ _ _ _ _ (int_placed (mark_of c.args.self.now.mark) c.args.v (not_unmarked _ c.in_default.not-Unmarked) f) (ap (λ k. found_after (mark_of c.args.self.now.mark) k (state g.W.Write g.W.FaultCount c.args.self.now).found) (int_code c.args.v)) (rw k at c.element.ensures.law) }

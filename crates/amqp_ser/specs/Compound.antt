@@ -1,0 +1,131 @@
+-- What contracts see of an open compound.
+use Rattle.std.specs.Prelude.{◌≡◌, ℕ, ◌==◌, Bool, true, false, if◌then◌else◌, List, [], ◌∷◌, length, Option, Some, None, Result, Err, IfErr, OnErr}
+use Rattle.std.specs.declared.io.Write as Write
+use Rattle.std.specs.declared.vec.Vec.{Vec}
+use Rattle.std.specs.Global.{Global}
+use Rattle.amqp_base.specs.declared.fault.FaultCount as FaultCount
+use Rattle.amqp_base.specs.declared.error.Error.{Error}
+use Rattle.amqp_base.specs.declared.format_code.EncodingCodes.{EncodingCodes}
+use Rattle.amqp_base.specs.declared.format_code.EncodingCodes.TheVariants.{List32, Array32}
+use Rattle.amqp_base.specs.declared.error.Error.TheVariants.{InvalidValue}
+use Rattle.amqp_base.specs.declared.shape.Setting.TheVariants.{Plain}
+use Rattle.amqp_base.specs.Item.{Item, Items, items_of}
+use Rattle.amqp_base.specs.Wire.{Constructor, under}
+use Rattle.amqp_base.specs.Canon.{canons, array_body, kind_code, compound_text, wide_body}
+use Rattle.amqp_base.specs.Shapes.{whole}
+use Rattle.amqp_base.specs.Codes.{row}
+use Rattle.amqp_base.specs.Sizes.{sizes_in}
+use Rattle.amqp_ser.specs.State.{State, Mark, unmarked, first, other, state, mark_of, found_of}
+use Rattle.amqp_ser.specs.Law.{Goes, placed, Refused, Kept, Stops}
+use Rattle.amqp_ser.specs.declared.compound.Parts.{Parts}
+use Rattle.amqp_ser.specs.declared.seq.SeqSerializer.{SeqSerializer}
+use Rattle.amqp_ser.specs.declared.serializer.Serializer.{Serializer}
+use Rattle.amqp_base.specs.declared.shape.Shape.{Shape}
+
+-- a compound: its serializer, what its parts are written to, how many there are
+pub record Open : Type 0 where
+  pub shape : Shape
+  pub outer : State
+  pub inner : State
+  pub count : ℕ
+
+-- what is written of the parts
+unfoldable pub parts_text : Shape → Items → Option (List ℕ)
+parts_text Shape.List is = canons is
+parts_text Shape.Array is = array_body is
+
+abbrev pub other_of : Option Constructor → Mark
+other_of None = first
+other_of (Some c) = other c
+
+abbrev pub shape_code : Shape → EncodingCodes
+shape_code Shape.List = List32
+shape_code Shape.Array = Array32
+
+abbrev pub narrow_of : Shape → ℕ
+narrow_of Shape.List = 0xc0
+narrow_of Shape.Array = 0xe0
+
+-- it is written as one byte
+abbrev pub empty_list : Shape → ℕ → Bool
+empty_list Shape.List n = n == 0
+empty_list Shape.Array n = false
+
+-- the text of a compound outside arrays, by what is written of its parts
+abbrev pub shape_text : Shape → ℕ → List ℕ → Option (List ℕ)
+shape_text shape k b = if empty_list shape (length b) then Some (0x45 ∷ []) else compound_text (narrow_of shape) (row (shape_code shape)).byte k b
+
+unfoldable pub whole_text : Shape → Mark → ℕ → List ℕ → Option (List ℕ)
+whole_text shape unmarked k b = shape_text shape k b
+whole_text shape first k b = placed first (Some (under (shape_code shape))) (wide_body k b)
+whole_text shape (other d) k b = placed (other d) (Some (under (shape_code shape))) (wide_body k b)
+
+-- the mark of the next part
+unfoldable pub next_mark : Shape → List Item → Mark
+next_mark Shape.List xs = unmarked
+next_mark Shape.Array [] = first
+next_mark Shape.Array (x ∷ xs) = other_of (kind_code x)
+
+-- the mark behind a first element
+abbrev pub turned : Mark → Option Constructor → Mark
+turned unmarked c = unmarked
+turned first c = other_of c
+turned (other d) c = other d
+
+-- from u to v by the parts in order
+pub record Run (shape : Shape) (u : State) (xs : List Item) (v : State) : Type 0 where
+  pub bytes : List ℕ
+  pub text : parts_text shape (items_of xs) ≡ Some bytes
+  pub goes : Goes u bytes (sizes_in (items_of xs)) v
+  pub mark : v.mark ≡ next_mark shape xs
+  pub plain : v.setting ≡ Plain
+  pub answers : v.stopped ≡ false
+
+abbrev pub the_buffer : Serializer (Vec ℕ Global) → State
+the_buffer b = record { contents = Some b.writer.items; faults = 0; grows = true; setting = b.setting; mark = mark_of b.mark; found = found_of b.found; plan = None; measure = None; stopped = b.stopped }
+
+unfoldable pub open_state : {W : Type 0} → Write.Ghosts W → FaultCount.Ghosts W → SeqSerializer W Parts → Open
+open_state w f q = record { shape = q.parts.shape; outer = state w f q.ser.now; inner = the_buffer q.parts.buffer; count = q.parts.count }
+
+-- what a buffer is at first
+pub record Empty (u : State) : Type 0 where
+  pub contents : u.contents ≡ Some []
+  pub plan : u.plan ≡ None
+  pub measure : u.measure ≡ None
+
+-- the compound was opened on a serializer in the state s, and has the parts xs
+pub record Holds (s : State) (shape : Shape) (xs : List Item) (q : Open) : Type 0 where
+  pub shape_is : q.shape ≡ shape
+  pub start : State
+  pub empty : Empty start
+  pub run : Run shape start xs q.inner
+  pub count : q.count ≡ length xs
+  pub outer : q.outer ≡ record s { stopped = true }
+  pub answered : s.stopped ≡ false
+  pub plan : s.plan ≡ None
+  pub measure : s.measure ≡ None
+
+-- no compound was opened: so any whole is refused
+pub record RefusesOpen {A : Type 0} (shape : Shape) (s : State) (r : Result A Error) (t : State) : Type 0 where
+  pub law : IfErr r (λ e. (xs : List Item) → Refused s (whole shape xs) e t)
+  pub stops : Stops s r t
+
+-- what every call of a compound keeps
+pub record Keeps (q p : Open) : Type 0 where
+  pub kept : Kept q.outer p.outer
+  pub stopped : q.outer.stopped ≡ true → p.outer.stopped ≡ true
+
+-- ys begins with xs
+abbrev pub BeginsWith : List Item → List Item → Type 0
+BeginsWith ys [] = Unit {0}
+BeginsWith [] (x ∷ xs) = ⊥
+BeginsWith (y ∷ ys) (x ∷ xs) = (y ≡ x) × BeginsWith ys xs
+
+-- a call of the compound was refused
+abbrev pub IsBroken : Open → Type 0
+IsBroken q = q.inner.stopped ≡ true
+
+-- a refusal breaks the compound, and each call of a broken one is refused
+pub record BreaksOff {A : Type 0} (q : Open) (r : Result A Error) (p : Open) : Type 0 where
+  pub err : OnErr r (IsBroken p)
+  pub broken : IsBroken q → (r ≡ Err InvalidValue) × (p ≡ q)

@@ -1,0 +1,129 @@
+-- The law of writing.
+use Rattle.std.specs.Prelude.{◌≡◌, ◌≢◌, ◌⊎◌, ℕ, ◌+◌, ◌^◌, ◌<◌, ◌≤◌, nat_lt, ◌==◌, ◌&&◌, Bool, true, false, if◌then◌else◌, List, [], ◌∷◌, ◌++◌, length, drop, Option, None, Some, Result, Err, OnErr, IfErr, ⊤}
+use Rattle.std.specs.Io.KnownBytes.{Appends}
+use Rattle.std.specs.declared.io.ErrorKind.TheVariants.{UnexpectedEof, Other}
+use Rattle.amqp_base.specs.Item.{Item}
+use Rattle.amqp_base.specs.Wire.{Constructor}
+use Rattle.amqp_base.specs.Canon.{◌>>=◌, when, limit, canon, body, kind_code, constructor_text, is_under}
+use Rattle.amqp_base.specs.Sizes.{Size, sizes}
+use Rattle.amqp_base.specs.Faults.{Extends}
+use Rattle.amqp_base.specs.declared.error.Error.{Error}
+use Rattle.amqp_base.specs.declared.error.Error.TheVariants.{Io, OutOfMemory, InvalidValue}
+use Rattle.amqp_ser.specs.State.{State, Mark, unmarked, first, other, Counted}
+
+-- data behind its constructor, as the mark has it
+abbrev pub placed : Mark → Option Constructor → Option (List ℕ) → Option (List ℕ)
+placed unmarked c b = None
+placed first c b = c >>= λ d. constructor_text d >>= λ m. b >>= λ a. Some (m ++ a)
+placed (other d) c b = if is_under d c then b else None
+
+-- the text of an item, as the mark has it
+unfoldable pub marked : Mark → Item → Option (List ℕ)
+marked unmarked i = canon i
+marked first i = placed first (kind_code i) (body i)
+marked (other d) i = placed (other d) (kind_code i) (body i)
+
+abbrev pub found_after : Mark → Option Constructor → Option Constructor → Option Constructor
+found_after unmarked c old = old
+found_after first c old = c
+found_after (other d) c old = old
+
+abbrev pub same_size : Size → Size → Bool
+same_size a b = a.length == b.length && a.count == b.count
+
+abbrev pub begins : List Size → List Size → Bool
+begins p [] = true
+begins [] (x ∷ xs) = false
+begins (y ∷ ys) (x ∷ xs) = same_size y x && begins ys xs
+
+-- so many more bytes can be counted
+abbrev pub has_room : Option Counted → ℕ → Bool
+has_room None n = true
+has_room (Some c) n = nat_lt (c.length + n) (2 ^ 64)
+
+abbrev pub is_next : Option Counted → List Size → Bool
+is_next None l = true
+is_next (Some p) l = begins p.sizes l
+
+unfoldable pub fits : State → List Size → ℕ → Bool
+fits s l n = is_next s.plan l && (has_room s.plan n && has_room s.measure n)
+
+-- what is appended for an item, where there is something
+unfoldable pub text_for : State → Item → Option (List ℕ)
+text_for s i = marked s.mark i >>= λ b. when (fits s (sizes i) (length b)) b
+
+abbrev pub plan_after : Option Counted → List Size → ℕ → Option Counted
+plan_after None l n = None
+plan_after (Some p) l n = Some (record { length = p.length + n; sizes = drop (length l) p.sizes })
+
+abbrev pub measure_after : Option Counted → List Size → ℕ → Option Counted
+measure_after None l n = None
+measure_after (Some m) l n = Some (record { length = m.length + n; sizes = m.sizes ++ l })
+
+-- from s to t by so many bytes
+pub record Goes (s : State) (bytes : List ℕ) (l : List Size) (t : State) : Type 0 where
+  pub fits : fits s l (length bytes) ≡ true
+  pub appended : Appends s.contents t.contents bytes
+  pub plan : t.plan ≡ plan_after s.plan l (length bytes)
+  pub measure : t.measure ≡ measure_after s.measure l (length bytes)
+  pub setting : t.setting ≡ s.setting
+
+-- from s to t by appending the item's text
+pub record Took (s : State) (i : Item) (t : State) : Type 0 where
+  pub bytes : List ℕ
+  pub text : marked s.mark i ≡ Some bytes
+  pub goes : Goes s bytes (sizes i) t
+  pub mark : t.mark ≡ s.mark
+  pub found : t.found ≡ found_after s.mark (kind_code i) s.found
+
+abbrev pub IsIo : Error → Type 0
+IsIo (Io kind) = ⊤
+IsIo e = ⊥
+
+-- a fault of the device
+abbrev pub IsDevice : Error → Type 0
+IsDevice (Io kind) = (kind ≢ UnexpectedEof) × (kind ≢ Other)
+IsDevice e = ⊥
+
+-- why an item may be refused
+abbrev pub MayRefuse : State → Item → Error → State → Type 0
+MayRefuse s i e t = (e ≡ OutOfMemory) ⊎ ((IsIo e × (s.faults < t.faults)) ⊎ (text_for s i ≡ None))
+
+-- what every call keeps, whatever it answers
+pub record Kept (s t : State) : Type 0 where
+  pub bytes : Extends s.contents t.contents
+  pub faults : s.faults ≤ t.faults
+  pub grows : t.grows ≡ s.grows
+
+-- the item was written
+pub record Wrote (s : State) (i : Item) (t : State) : Type 0 where
+  pub kept : Kept s t
+  pub took : s.stopped ≡ false → Took s i t
+  pub answers : s.stopped ≡ false → t.stopped ≡ false
+
+-- the item was refused
+pub record Refused (s : State) (i : Item) (e : Error) (t : State) : Type 0 where
+  pub kept : Kept s t
+  pub device : IsDevice e → s.faults < t.faults
+  pub cause : s.stopped ≡ false → MayRefuse s i e t
+
+-- what holds of the serializer's own calls beside
+pub record Stops {A : Type 0} (s : State) (r : Result A Error) (t : State) : Type 0 where
+  pub err : OnErr r (t.stopped ≡ true)
+  pub stopped : s.stopped ≡ true → (r ≡ Err InvalidValue) × (t ≡ s)
+
+-- want of memory comes only where the writer grows or answered a fault
+abbrev pub Spares : {A : Type 0} → State → Result A Error → State → Type 0
+Spares s r t = IfErr r (λ e. e ≡ OutOfMemory → (s.grows ≡ true) ⊎ (s.faults < t.faults))
+
+-- the refusal where there is no text: too long a payload or body, else an element that can't stand there
+abbrev pub unwritten : ℕ → Error
+unwritten n = if nat_lt limit n then Io Other else InvalidValue
+
+-- what may be answered for a payload or body of n bytes, 0 where there is none
+abbrev pub Names : State → Error → Error → State → Type 0
+Names s why e t = (e ≡ OutOfMemory) ⊎ ((IsIo e × (s.faults < t.faults)) ⊎ (e ≡ why))
+
+-- each refusal has its name
+abbrev pub Named : State → ℕ → Error → State → Type 0
+Named s n e t = s.stopped ≡ false → s.plan ≡ None → s.measure ≡ None → Names s (unwritten n) e t

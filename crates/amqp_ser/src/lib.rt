@@ -1,0 +1,16 @@
+//! Writing values in the AMQP 1.0 encoding (OASIS AMQP 1.0 part 1, sections 1.2 to 1.6).
+#![tactic(auto, unfolding(crate::specs::State::state, crate::specs::Compound::open_state))]
+
+mod compound;
+mod payloads;
+mod scalars;
+mod seq;
+mod serialize;
+mod serializer;
+#[cfg(test)]
+mod tests;
+
+pub use compound::Parts;
+pub use seq::SeqSerializer;
+pub use serialize::Serialize;
+pub use serializer::Serializer;

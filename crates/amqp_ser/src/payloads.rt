@@ -1,0 +1,56 @@
+//! Texts.
+
+ghost use Rattle.std.specs.Prelude.{◌≡◌, [], false, length, IfErr, OnOk, Some};
+ghost use Rattle.amqp_base.specs.Wire.{under};
+ghost use Rattle.amqp_base.specs.Typing.{text_item};
+ghost use Rattle.amqp_ser.specs.State.{state};
+ghost use Rattle.amqp_ser.specs.Law.{Wrote, Refused, Stops, Spares, Named, unwritten, found_after};
+ghost use Rattle.amqp_ser.specs.Appending.{Pays, payload_at};
+
+use crate::Serializer;
+use crate::serializer::{LONGEST, Mark, NARROW};
+use amqp_base::{EncodingCodes, Error, Setting, Sink};
+use std::alloc::Global;
+use std::io::ErrorKind;
+
+impl<W: Sink> Serializer<W> {
+    /// The bytes of a text, behind a code and their length.
+    fn payload(&mut self, narrow: u8, code: EncodingCodes, bytes: &[u8]) -> Result<(), Error>
+        requires { self.old.stopped ≡ false }
+        ensures law { Pays (state W.Write W.FaultCount self.old) (payload_at (state W.Write W.FaultCount self.old).mark narrow code bytes.now) (found_after (state W.Write W.FaultCount self.old).mark (Some (under code)) (state W.Write W.FaultCount self.old).found) ([]) (unwritten (length bytes.now)) result (state W.Write W.FaultCount self.new) }
+    {
+        let len = bytes.len();
+        if len > LONGEST {
+            self.stopped = true;
+            return Err(Error::Io(ErrorKind::Other));
+        }
+        let size = (len as u32).to_be_bytes();
+        let mark = self.mark;
+        match mark {
+            Mark::Unmarked if len <= NARROW => self.append_two(&[narrow, len as u8], bytes),
+            Mark::Unmarked => self.append_two(
+                &[code.byte(), size[0], size[1], size[2], size[3]],
+                bytes,
+            ),
+            _ => self.element(code, &size, bytes),
+        }
+    }
+
+    /// Writes a text: a symbol under the symbol setting, else a string.
+    pub fn serialize_str(&mut self, alloc: Global, v: &str) -> Result<(), Error>
+        ensures ok { OnOk result (Wrote (state W.Write W.FaultCount self.old) (text_item v.now (state W.Write W.FaultCount self.old).setting) (state W.Write W.FaultCount self.new)) }
+        ensures err { IfErr result (λ e. Refused (state W.Write W.FaultCount self.old) (text_item v.now (state W.Write W.FaultCount self.old).setting) e (state W.Write W.FaultCount self.new)) }
+        ensures named { IfErr result (λ e. Named (state W.Write W.FaultCount self.old) (length v.now) e (state W.Write W.FaultCount self.new)) }
+        ensures stops { Stops (state W.Write W.FaultCount self.old) result (state W.Write W.FaultCount self.new) }
+        ensures spares { Spares (state W.Write W.FaultCount self.old) result (state W.Write W.FaultCount self.new) }
+    {
+        let _ = alloc;
+        if self.stopped {
+            return Err(Error::InvalidValue);
+        }
+        match self.setting {
+            Setting::Symbol => self.payload(0xa3, EncodingCodes::Sym32, v.as_bytes()),
+            _ => self.payload(0xa1, EncodingCodes::Str32, v.as_bytes()),
+        }
+    }
+}

@@ -1,0 +1,222 @@
+//! The serializer: its state, and the bytes that it appends.
+
+ghost use Rattle.std.specs.Prelude.{◌≡◌, ◌≢◌, ◌++◌, ◌∷◌, [], true, false, IfErr, OnOk, OnErr, Some};
+ghost use Rattle.amqp_base.specs.Wire.{under};
+ghost use Rattle.amqp_ser.specs.State.{Fresh, state, mark_of, unmarked, first};
+ghost use Rattle.amqp_ser.specs.Law.{Wrote, Refused, Stops, placed, found_after};
+ghost use Rattle.amqp_ser.specs.Appending.{Appended, Pays};
+ghost use Rattle.amqp_ser.specs.Compound.{turned};
+
+use crate::Serialize;
+use amqp_base::{EncodingCodes, Error, Setting, Sink};
+use std::alloc::Global;
+
+/// The most bytes of a payload or of a compound's body: a size of four bytes counts four more.
+pub(crate) const LONGEST: usize = 4_294_967_291;
+
+/// The most bytes of a payload or of a compound's body behind a size of one byte. No text has a payload of 255
+/// bytes behind one byte, though it would fit.
+pub(crate) const NARROW: usize = 254;
+
+/// Where the next item stands.
+#[derive(Clone, Copy)]
+pub(crate) enum Mark {
+    /// Outside arrays, or in a list within one.
+    Unmarked,
+    /// The first element of an array: its constructor stands before its data.
+    First,
+    /// A further element, whose data stands under the first one's constructor.
+    Other(EncodingCodes),
+}
+
+/// Writes values to a writer. After a refusal by one of its calls every later one answers `InvalidValue`;
+/// `into_inner` still gives the writer.
+#[derive(Drop)]
+pub struct Serializer<W> {
+    /// The writer.
+    pub writer: W,
+    pub(crate) setting: Setting,
+    pub(crate) mark: Mark,
+    pub(crate) found: Option<EncodingCodes>,
+    pub(crate) stopped: bool,
+}
+
+impl<W: Sink> Serializer<W> {
+    /// A serializer that appends to `writer`.
+    pub fn new(writer: W) -> Serializer<W>
+        ensures { Fresh W.Write W.FaultCount writer Setting.Plain result }
+    {
+        Serializer {
+            writer,
+            setting: Setting::Plain,
+            mark: Mark::Unmarked,
+            found: None,
+            stopped: false,
+        }
+    }
+
+    /// A serializer that appends to `writer`, and writes each text that it is handed directly as a symbol.
+    pub fn symbol(writer: W) -> Serializer<W>
+        ensures { Fresh W.Write W.FaultCount writer Setting.Symbol result }
+    {
+        Serializer {
+            writer,
+            setting: Setting::Symbol,
+            mark: Mark::Unmarked,
+            found: None,
+            stopped: false,
+        }
+    }
+
+    /// False: the format is binary.
+    pub fn is_human_readable(&self) -> bool
+        ensures { result ≡ false }
+    {
+        false
+    }
+
+    /// The writer, with all that was appended to it.
+    pub fn into_inner(self) -> W
+        ensures { result ≡ self.writer }
+    {
+        let Serializer {
+            writer,
+            setting: _,
+            mark: _,
+            found: _,
+            stopped: _,
+        } = self;
+        writer
+    }
+
+    /// Appends all of `bytes`, or stops.
+    #[inline(always)]
+    pub(crate) fn append(&mut self, bytes: &[u8]) -> Result<(), Error>
+        ensures { Appended (state W.Write W.FaultCount self.old) bytes.now result (state W.Write W.FaultCount self.new) }
+    {
+        let mut rest = bytes;
+        while !rest.is_empty() {
+            match self.writer.write_some(rest) {
+                Ok(n) => rest = &rest[n..],
+                Err(kind) => {
+                    self.stopped = true;
+                    return Err(Error::from(kind));
+                }
+            }
+        }
+        Ok(())
+    }
+
+    /// Appends both, one after the other.
+    #[inline(always)]
+    pub(crate) fn append_two(&mut self, head: &[u8], body: &[u8]) -> Result<(), Error>
+        ensures { Appended (state W.Write W.FaultCount self.old) (head.now ++ body.now) result (state W.Write W.FaultCount self.new) }
+    {
+        match self.append(head) {
+            Ok(()) => self.append(body),
+            Err(e) => Err(e),
+        }
+    }
+
+    /// Appends an element's data, behind its constructor where it is the first. An element of another
+    /// constructor than the first one's is `InvalidValue`.
+    #[inline(always)]
+    pub(crate) fn element(
+        &mut self,
+        code: EncodingCodes,
+        head: &[u8],
+        body: &[u8],
+    ) -> Result<(), Error>
+        requires answers { self.old.stopped ≡ false }
+        requires marked { mark_of self.old.mark ≢ unmarked }
+        ensures law { Pays (state W.Write W.FaultCount self.old) (placed (state W.Write W.FaultCount self.old).mark (Some (under code)) (Some (head.now ++ body.now))) (found_after (state W.Write W.FaultCount self.old).mark (Some (under code)) (state W.Write W.FaultCount self.old).found) ([]) Error.InvalidValue result (state W.Write W.FaultCount self.new) }
+    {
+        let mark = self.mark;
+        match mark {
+            Mark::First => self.first_element(code, head, body),
+            Mark::Other(outer) => {
+                if outer.byte() == code.byte() {
+                    return self.append_two(head, body);
+                }
+                self.stopped = true;
+                Err(Error::InvalidValue)
+            }
+            Mark::Unmarked => {
+                self.stopped = true;
+                Err(Error::InvalidValue)
+            }
+        }
+    }
+
+    /// Appends the first element's data behind its constructor.
+    #[inline(never)]
+    fn first_element(&mut self, code: EncodingCodes, head: &[u8], body: &[u8]) -> Result<(), Error>
+        requires answers { self.old.stopped ≡ false }
+        requires marked { mark_of self.old.mark ≡ first }
+        ensures law { Pays (state W.Write W.FaultCount self.old) (placed (state W.Write W.FaultCount self.old).mark (Some (under code)) (Some (head.now ++ body.now))) (found_after (state W.Write W.FaultCount self.old).mark (Some (under code)) (state W.Write W.FaultCount self.old).found) ([]) Error.InvalidValue result (state W.Write W.FaultCount self.new) }
+    {
+        self.found = Some(code);
+        match self.append(&[code.byte()]) {
+            Ok(()) => self.append_two(head, body),
+            Err(e) => Err(e),
+        }
+    }
+
+    /// Behind a first element the others stand under its constructor.
+    #[inline(always)]
+    pub(crate) fn turn(&mut self)
+        ensures { state W.Write W.FaultCount self.new ≡ record (state W.Write W.FaultCount self.old) { mark = turned (state W.Write W.FaultCount self.old).mark (state W.Write W.FaultCount self.old).found } }
+    {
+        let mark = self.mark;
+        let found = self.found;
+        if let Mark::First = mark {
+            if let Some(code) = found {
+                self.mark = Mark::Other(code);
+            }
+        }
+    }
+
+    /// Writes the value itself, as an option that holds it. Refused as the value's own `serialize`.
+    pub fn serialize_some<T: Serialize>(&mut self, alloc: Global, value: &T) -> Result<(), Error>
+        ensures ok { OnOk result (Wrote (state W.Write W.FaultCount self.old) (T.item value.now (state W.Write W.FaultCount self.old).setting) (state W.Write W.FaultCount self.new)) }
+        ensures err { IfErr result (λ e. Refused (state W.Write W.FaultCount self.old) (T.item value.now (state W.Write W.FaultCount self.old).setting) e (state W.Write W.FaultCount self.new)) }
+        ensures stops { Stops (state W.Write W.FaultCount self.old) result (state W.Write W.FaultCount self.new) }
+    {
+        if self.stopped {
+            return Err(Error::InvalidValue);
+        }
+        match value.serialize(alloc, self) {
+            Ok(()) => Ok(()),
+            Err(e) => {
+                self.stopped = true;
+                Err(e)
+            }
+        }
+    }
+
+    /// Writes the value itself, as a newtype that holds it. `name` isn't written. Refused as the value's own `serialize`.
+    pub fn serialize_newtype_struct<T: Serialize>(
+        &mut self,
+        alloc: Global,
+        name: &'static str,
+        value: &T,
+    ) -> Result<(), Error>
+        ensures ok { OnOk result (Wrote (state W.Write W.FaultCount self.old) (T.item value.now (state W.Write W.FaultCount self.old).setting) (state W.Write W.FaultCount self.new)) }
+        ensures err { IfErr result (λ e. Refused (state W.Write W.FaultCount self.old) (T.item value.now (state W.Write W.FaultCount self.old).setting) e (state W.Write W.FaultCount self.new)) }
+        ensures stops { Stops (state W.Write W.FaultCount self.old) result (state W.Write W.FaultCount self.new) }
+    {
+        let _ = name;
+        self.serialize_some(alloc, value)
+    }
+}
+
+impl<W: Sink> From<W> for Serializer<W> {
+    ghost use Rattle.amqp_base.specs.declared.shape.Setting.TheVariants.{Plain};
+
+    ghost from_gives = { λ writer ser. Fresh W.Write W.FaultCount writer Plain ser };
+
+    /// A serializer that appends to `writer`, as `new`.
+    fn from(writer: W) -> Serializer<W> {
+        Serializer::new(writer)
+    }
+}

@@ -1,0 +1,217 @@
+//! The bytes of values by the standard's own rules, and what follows a refusal.
+
+use crate::{Serialize, Serializer};
+use amqp_base::{Counted, Error};
+use std::alloc::Global;
+use std::io;
+use std::io::{ErrorKind, Write};
+use std::test::Fail;
+
+fn written<T: Serialize>(alloc: Global, value: &T) -> Result<Vec<u8>, Error> {
+    let mut ser = Serializer::new(Vec::new(alloc));
+    value.serialize(alloc, &mut ser)?;
+    Ok(ser.into_inner())
+}
+
+fn letters(alloc: Global, count: usize) -> Result<String, Error> {
+    let mut text = String::new(alloc);
+    for _ in 0..count {
+        text.push('a')?;
+    }
+    Ok(text)
+}
+
+fn numbers(alloc: Global, count: i32) -> Result<Vec<i32>, Error> {
+    let mut all = Vec::new(alloc);
+    for n in 0..count {
+        all.push(n)?;
+    }
+    Ok(all)
+}
+
+fn is_invalid_value(r: &Result<(), Error>) -> bool {
+    matches!(r, Err(Error::InvalidValue))
+}
+
+#[test]
+fn scalars(rt: HostRuntime) -> Result<(), Fail> {
+    let alloc = rt.alloc();
+    assert_eq!(rt; written(alloc, &0u32)?.as_slice(), b"\x43".as_slice());
+    assert_eq!(rt; written(alloc, &255u32)?.as_slice(), b"\x52\xff".as_slice());
+    assert_eq!(rt;
+        written(alloc, &256u32)?.as_slice(),
+        b"\x70\x00\x00\x01\x00".as_slice()
+    );
+    assert_eq!(rt;
+        written(alloc, &-128i32)?.as_slice(),
+        b"\x54\x80".as_slice()
+    );
+    assert_eq!(rt; written(alloc, &127i32)?.as_slice(), b"\x54\x7f".as_slice());
+    assert_eq!(rt;
+        written(alloc, &128i32)?.as_slice(),
+        b"\x71\x00\x00\x00\x80".as_slice()
+    );
+    assert_eq!(rt;
+        written(alloc, &-129i32)?.as_slice(),
+        b"\x71\xff\xff\xff\x7f".as_slice()
+    );
+    let mut ser = Serializer::from(Vec::new(alloc));
+    assert!(rt; !ser.is_human_readable());
+    ser.serialize_u32(alloc, 1)?;
+    ser.serialize_i32(alloc, -1)?;
+    ser.serialize_some(alloc, &2u32)?;
+    ser.serialize_newtype_struct(alloc, "Celsius", &-2i32)?;
+    let bytes = ser.into_inner();
+    assert_eq!(rt;
+        bytes.as_slice(),
+        b"\x52\x01\x54\xff\x52\x02\x54\xfe".as_slice()
+    );
+    Ok(())
+}
+
+#[test]
+fn texts(rt: HostRuntime) -> Result<(), Fail> {
+    let alloc = rt.alloc();
+    let short = written(alloc, &letters(alloc, 254)?)?;
+    assert_eq!(rt; short.len(), 256);
+    assert!(rt; short.as_slice().starts_with(b"\xa1\xfea".as_slice()));
+    let long = written(alloc, &letters(alloc, 255)?)?;
+    assert_eq!(rt; long.len(), 260);
+    assert!(rt;
+        long.as_slice()
+            .starts_with(b"\xb1\x00\x00\x00\xffa".as_slice())
+    );
+    let mut ser = Serializer::symbol(Vec::new(alloc));
+    ser.serialize_str(alloc, "a")?;
+    String::from_str(alloc, "a")?.serialize(alloc, &mut ser)?;
+    assert_eq!(rt; ser.writer.as_slice(), b"\xa3\x01a\xa3\x01a".as_slice());
+    Ok(())
+}
+
+#[test]
+fn lists(rt: HostRuntime) -> Result<(), Fail> {
+    let alloc = rt.alloc();
+    assert_eq!(rt;
+        written(alloc, &numbers(alloc, 0)?)?.as_slice(),
+        b"\x45".as_slice()
+    );
+    let two = vec![in alloc; 1i32, 2]?;
+    assert_eq!(rt;
+        written(alloc, &two)?.as_slice(),
+        b"\xc0\x05\x02\x54\x01\x54\x02".as_slice()
+    );
+    let narrow = written(alloc, &numbers(alloc, 127)?)?;
+    assert_eq!(rt; narrow.len(), 257);
+    assert!(rt;
+        narrow
+            .as_slice()
+            .starts_with(b"\xc0\xff\x7f\x54\x00\x54\x01".as_slice())
+    );
+    let wide = written(alloc, &numbers(alloc, 128)?)?;
+    assert_eq!(rt; wide.len(), 265);
+    assert!(rt;
+        wide.as_slice()
+            .starts_with(b"\xd0\x00\x00\x01\x04\x00\x00\x00\x80\x54\x00".as_slice())
+    );
+    let nested = vec![in alloc;
+        vec![in alloc; vec![in alloc; 0u32, 1]?, vec![in alloc]?]?,
+        vec![in alloc]?,
+    ]?;
+    assert_eq!(rt;
+        written(alloc, &nested)?.as_slice(),
+        b"\xc0\x0c\x02\xc0\x08\x02\xc0\x04\x02\x43\x52\x01\x45\x45".as_slice()
+    );
+    Ok(())
+}
+
+#[test]
+fn arrays(rt: HostRuntime) -> Result<(), Fail> {
+    let alloc = rt.alloc();
+    let mut ser = Serializer::new(Vec::new(alloc));
+    let mut array = ser.serialize_array(alloc, None)?;
+    array.serialize_element(alloc, &1u32)?;
+    array.serialize_element(alloc, &2u32)?;
+    array.end()?;
+    let mut array = ser.serialize_array(alloc, Some(2))?;
+    array.serialize_element(alloc, &vec![in alloc; -1i32]?)?;
+    array.serialize_element(alloc, &numbers(alloc, 0)?)?;
+    array.end()?;
+    assert_eq!(rt;
+        ser.writer.as_slice(),
+        b"\xe0\x0a\x02\x70\x00\x00\x00\x01\x00\x00\x00\x02\xe0\x14\x02\xd0\x00\x00\x00\x06\x00\x00\x00\x01\x54\xff\x00\x00\x00\x04\x00\x00\x00\x00".as_slice()
+    );
+    let mut mixed = ser.serialize_array(alloc, None)?;
+    mixed.serialize_element(alloc, &1u32)?;
+    assert!(rt; is_invalid_value(&mixed.serialize_element(alloc, &1i32)));
+    assert!(rt; is_invalid_value(&mixed.serialize_element(alloc, &1u32)));
+    assert!(rt; is_invalid_value(&mixed.end()));
+    Ok(())
+}
+
+#[test]
+fn dropped_without_end(rt: HostRuntime) -> Result<(), Fail> {
+    let alloc = rt.alloc();
+    let mut ser = Serializer::new(Vec::new(alloc));
+    ser.serialize_u32(alloc, 7)?;
+    let mut list = ser.serialize_seq(alloc, Some(1))?;
+    list.serialize_element(alloc, &1u32)?;
+    drop(list);
+    assert!(rt; is_invalid_value(&ser.serialize_u32(alloc, 1)));
+    assert!(rt; is_invalid_value(&ser.serialize_i32(alloc, 1)));
+    assert!(rt; is_invalid_value(&ser.serialize_str(alloc, "a")));
+    assert!(rt; is_invalid_value(&ser.serialize_some(alloc, &1u32)));
+    assert!(rt; is_invalid_value(&ser.serialize_newtype_struct(alloc, "N", &1u32)));
+    assert!(rt; matches!(ser.serialize_seq(alloc, None), Err(Error::InvalidValue)));
+    assert!(rt; matches!(ser.serialize_array(alloc, None), Err(Error::InvalidValue)));
+    assert!(rt; is_invalid_value(&numbers(alloc, 1)?.serialize(alloc, &mut ser)));
+    assert!(rt; !ser.is_human_readable());
+    assert_eq!(rt; ser.into_inner().as_slice(), b"\x52\x07".as_slice());
+    Ok(())
+}
+
+/// Takes so many bytes, one a call, then is broken off.
+#[derive(Drop)]
+struct Narrow {
+    bytes: Vec<u8>,
+    left: usize,
+}
+
+impl Write for Narrow {
+    fn write(&mut self, buf: &[u8]) -> io::Result<usize> {
+        if self.left == 0 {
+            return Err(io::Error::from(ErrorKind::ConnectionReset));
+        }
+        self.left -= 1;
+        let count = buf.len().min(1);
+        self.bytes.extend_from_slice(&buf[..count])?;
+        Ok(count)
+    }
+
+    fn flush(&mut self) -> io::Result<()> {
+        Ok(())
+    }
+}
+
+#[test]
+fn broken_writers(rt: HostRuntime) -> Result<(), Fail> {
+    let alloc = rt.alloc();
+    for left in 0usize..8 {
+        let writer = Narrow {
+            bytes: Vec::new(alloc),
+            left,
+        };
+        let mut ser = Serializer::new(Counted::new(writer));
+        let answer = vec![in alloc; 1u32, 256]?.serialize(alloc, &mut ser);
+        assert!(rt;
+            matches!(answer, Err(Error::Io(ErrorKind::ConnectionReset))),
+            "after {left}"
+        );
+        assert!(rt; is_invalid_value(&ser.serialize_u32(alloc, 1)));
+        let bytes = ser.into_inner().into_inner().bytes;
+        assert_eq!(rt;
+            bytes.as_slice(),
+            &b"\xc0\x08\x02\x52\x01\x70\x00\x00\x01\x00"[..left]
+        );
+    }
+    Ok(())
+}

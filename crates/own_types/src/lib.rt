@@ -1,0 +1,12 @@
+//! Types of one's own, written by the public contracts alone.
+#![tactic(auto)]
+
+mod measurement;
+mod newtypes;
+mod pair;
+#[cfg(test)]
+mod tests;
+
+pub use measurement::Measurement;
+pub use newtypes::{Celsius, Tags};
+pub use pair::Pair;

@@ -1,0 +1,47 @@
+//! A struct.
+
+use amqp_base::{Error, Sink, Typed};
+use amqp_ser::{Serialize, Serializer};
+use std::alloc::Global;
+
+/// An amount and its unit, as a list of the two.
+#[derive(Drop)]
+pub struct Measurement {
+    /// How many units.
+    pub amount: u32,
+    /// The name of the unit.
+    pub unit: String,
+}
+
+impl Typed for Measurement {
+    ghost use Rattle.std.specs.Prelude.{◌∷◌, [], true, refl};
+    ghost use Rattle.amqp_base.specs.Shapes.{whole};
+    ghost use Rattle.amqp_base.specs.Fields.{takes_fields, means_fields, field, no_more, one_fields, one_more, one_last};
+    ghost use Rattle.amqp_base.specs.declared.shape.Shape.{Shape};
+    ghost use Rattle.amqp_base.specs.declared.shape.Setting.TheVariants.{Plain};
+
+    ghost item = { λ v _. whole Shape.List (⟦<u32 as Typed>⟧.item v.amount Plain ∷ ⟦<String as Typed>⟧.item v.unit Plain ∷ []) };
+
+    ghost takes = { takes_fields (⟦<u32 as Typed>⟧.takes ∷ ⟦<String as Typed>⟧.takes ∷ []) };
+
+    ghost means = { λ i v. means_fields (field ⟦<u32 as Typed>⟧.means v.amount (field ⟦<String as Typed>⟧.means v.unit no_more)) i };
+
+    ghost same = { λ v w. ⟦<u32 as Typed>⟧.same v.amount w.amount × ⟦<String as Typed>⟧.same v.unit w.unit };
+
+    ghost grows = { true };
+
+    ghost in_described_list = { λ _. refl };
+
+    ghost in_described_basic = { λ _. refl };
+
+    ghost one_value = { λ i v w. one_fields (one_more ⟦<u32 as Typed>⟧.one_value v.amount w.amount (one_last ⟦<String as Typed>⟧.one_value v.unit w.unit)) i };
+}
+
+impl Serialize for Measurement {
+    fn serialize<W: Sink>(&self, alloc: Global, ser: &mut Serializer<W>) -> Result<(), Error> {
+        let mut seq = ser.serialize_seq(alloc, Some(2))?;
+        seq.serialize_element(alloc, &self.amount)?;
+        seq.serialize_element(alloc, &self.unit)?;
+        seq.end()
+    }
+}

@@ -1,0 +1,61 @@
+//! Newtypes, each written as what it holds.
+
+use amqp_base::{Error, Sink, Typed};
+use amqp_ser::{Serialize, Serializer};
+use std::alloc::Global;
+
+/// Labels, as a list of strings.
+#[derive(Drop)]
+pub struct Tags(pub Vec<String>);
+
+impl Typed for Tags {
+    ghost item = { λ v setting. ⟦<Vec<String> as Typed>⟧.item v.0 setting };
+
+    ghost takes = { ⟦<Vec<String> as Typed>⟧.takes };
+
+    ghost means = { λ i v. ⟦<Vec<String> as Typed>⟧.means i v.0 };
+
+    ghost same = { λ v w. ⟦<Vec<String> as Typed>⟧.same v.0 w.0 };
+
+    ghost grows = { ⟦<Vec<String> as Typed>⟧.grows };
+
+    ghost in_described_list = { λ v. ⟦<Vec<String> as Typed>⟧.in_described_list v.0 };
+
+    ghost in_described_basic = { λ v. ⟦<Vec<String> as Typed>⟧.in_described_basic v.0 };
+
+    ghost one_value = { λ i v w. ⟦<Vec<String> as Typed>⟧.one_value i v.0 w.0 };
+}
+
+impl Serialize for Tags {
+    fn serialize<W: Sink>(&self, alloc: Global, ser: &mut Serializer<W>) -> Result<(), Error> {
+        ser.serialize_newtype_struct(alloc, "Tags", &self.0)
+    }
+}
+
+/// A temperature in degrees, as an int.
+#[derive(Drop)]
+pub struct Celsius(pub i32);
+
+impl Typed for Celsius {
+    ghost item = { λ v setting. ⟦<i32 as Typed>⟧.item v.0 setting };
+
+    ghost takes = { ⟦<i32 as Typed>⟧.takes };
+
+    ghost means = { λ i v. ⟦<i32 as Typed>⟧.means i v.0 };
+
+    ghost same = { λ v w. ⟦<i32 as Typed>⟧.same v.0 w.0 };
+
+    ghost grows = { ⟦<i32 as Typed>⟧.grows };
+
+    ghost in_described_list = { λ v. ⟦<i32 as Typed>⟧.in_described_list v.0 };
+
+    ghost in_described_basic = { λ v. ⟦<i32 as Typed>⟧.in_described_basic v.0 };
+
+    ghost one_value = { λ i v w. ⟦<i32 as Typed>⟧.one_value i v.0 w.0 };
+}
+
+impl Serialize for Celsius {
+    fn serialize<W: Sink>(&self, alloc: Global, ser: &mut Serializer<W>) -> Result<(), Error> {
+        ser.serialize_i32(alloc, self.0)
+    }
+}
