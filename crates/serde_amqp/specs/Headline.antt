@@ -1,0 +1,23 @@
+-- What whole calls promise.
+use Rattle.std.specs.Prelude.{◌≡◌, ℕ, Bool, IsTrue, List, Result, Ok, Err}
+use Rattle.amqp_base.specs.Item.{Item}
+use Rattle.amqp_base.specs.Wire.{Front, lenient, bare}
+use Rattle.amqp_base.specs.declared.error.Error.{Error}
+use Rattle.amqp_base.specs.declared.error.Error.TheVariants.{OutOfMemory}
+
+-- a front of the bytes spells an item that the type takes, and that means the value
+pub record ReadFrom (takes : Item → Bool) (means : Item → Type 0) (s : List ℕ) : Type 0 where
+  pub item : Item
+  pub length : ℕ
+  pub front : Front lenient bare s item length
+  pub taken : IsTrue (takes item)
+  pub value : means item
+
+-- the answer where the item stands at the front: its value, or want of memory where the type grows
+abbrev pub Answered : {T : Type 0} → (Item → T → Type 0) → Bool → Item → Result T Error → Type 0
+Answered means grows i (Ok v) = means i v
+Answered means grows i (Err e) = (e ≡ OutOfMemory) × IsTrue grows
+
+-- every item that the type takes and that stands at the front is answered
+pub record ReadsAll {T : Type 0} (takes : Item → Bool) (means : Item → T → Type 0) (grows : Bool) (s : List ℕ) (result : Result T Error) : Type 0 where
+  pub answer : (i : Item) (n : ℕ) → Front lenient bare s i n → IsTrue (takes i) → Answered means grows i result

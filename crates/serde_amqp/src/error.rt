@@ -1,0 +1,3 @@
+//! The refusals of the codec.
+
+pub use amqp_base::Error;

@@ -1,0 +1,3 @@
+//! Format codes.
+
+pub use amqp_base::{Category, EncodingCodes, IsDescribed};

@@ -1,0 +1,50 @@
+//! AMQP 1.0 values to bytes and back, proved: the canonical text of a value is written, and every text that the grammar
+//! allows is read.
+#![tactic(auto)]
+
+ghost use Rattle.std.specs.Prelude.{◌≡◌, ◌⊎◌, None, Some, IfOk, IfErr};
+ghost use Rattle.amqp_base.specs.Canon.{canon};
+ghost use Rattle.serde_amqp.specs.Headline.{ReadFrom, ReadsAll};
+ghost use Rattle.amqp_base.specs.declared.shape.Setting.{Setting};
+
+pub mod de;
+pub mod error;
+pub mod format_code;
+pub mod read;
+pub mod ser;
+
+pub use amqp_base::{
+    Category, Counted, DECIMAL32_WIDTH, DECIMAL64_WIDTH, DECIMAL128_WIDTH, DESCRIBED_BASIC,
+    DESCRIBED_LIST, DESCRIBED_MAP, DESCRIPTOR, EncodingCodes, EnumType, Error, FaultCount,
+    IsArrayElement, IsDescribed, MAX_ARRAY_COUNT, OFFSET_ARRAY8, OFFSET_ARRAY32, OFFSET_LIST8,
+    OFFSET_LIST32, OFFSET_MAP8, OFFSET_MAP32, Sink, Source, StructEncoding, Typed, UNTAGGED_ENUM,
+    UUID_WIDTH, VALUE, laws,
+};
+pub use amqp_de::{Deserialize, Deserializer, Ended, ListAccess, SeqAccess};
+pub use amqp_read::{Read, SliceReader, read_const_bytes};
+pub use amqp_ser::{SeqSerializer, Serialize, Serializer};
+use std::alloc::Global;
+
+/// The canonical text of a value. Refused where its item has none (`InvalidValue`; `Io(Other)` where a payload or a body is
+/// above 4,294,967,291 bytes), and as `OutOfMemory`.
+pub fn to_vec<T: Serialize>(alloc: Global, value: &T) -> Result<Vec<u8>, Error>
+    ensures ok { IfOk result (λ v. canon (T.item value.now Setting.Plain) ≡ Some v.items) }
+    ensures err { IfErr result (λ e. (e ≡ Error.OutOfMemory) ⊎ (canon (T.item value.now Setting.Plain) ≡ None)) }
+{
+    let mut ser = Serializer::new(Vec::new(alloc));
+    value.serialize(alloc, &mut ser)?;
+    Ok(ser.into_inner())
+}
+
+/// The value at the front of the bytes; bytes behind it are ignored. Refused where no item stands there that the type
+/// takes, and as `OutOfMemory` where reading the type takes memory.
+pub fn from_slice<'s, T: Deserialize<SliceReader<'s>>>(
+    alloc: Global,
+    slice: &'s [u8],
+) -> Result<T, Error>
+    ensures found { IfOk result (λ v. ReadFrom T.takes (λ i. T.means i v) slice.now) }
+    ensures only { ReadsAll T.takes T.means T.grows slice.now result }
+{
+    let mut de = Deserializer::new(SliceReader::new(slice));
+    T::deserialize(alloc, &mut de)
+}

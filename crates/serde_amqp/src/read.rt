@@ -1,0 +1,3 @@
+//! Readers.
+
+pub use amqp_read::{Read, SliceReader, read_const_bytes};
