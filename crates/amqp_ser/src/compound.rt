@@ -16,7 +16,8 @@ use std::io::ErrorKind;
 /// Room for so many bytes of parts is taken when a compound opens.
 const FIRST_CAPACITY: usize = 64;
 
-/// The parts so far of a compound that is being written.
+/// The parts so far of a compound that is being written: their bytes in a buffer, and how many they are. Each part of
+/// the compound is written to the buffer, under the plain setting.
 #[derive(Drop)]
 pub struct Parts {
     pub(crate) shape: Shape,
@@ -90,7 +91,8 @@ fn is_empty_list(shape: Shape, len: usize) -> bool
 }
 
 impl<W: Sink> Serializer<W> {
-    /// Writes a compound of so many parts, on a serializer that the compound holds.
+    /// Writes a compound of so many parts with this body, on a serializer that the compound holds. It answers again
+    /// where that succeeds. A body of more than 4,294,967,291 bytes is `Io(Other)`.
     pub(crate) fn finish(&mut self, shape: Shape, count: usize, body: &[u8]) -> Result<(), Error>
         ensures law { count ≤ length body.now → Pays (answering (state W.Write W.FaultCount self.old)) (whole_text shape (state W.Write W.FaultCount self.old).mark count body.now)
             (found_after (state W.Write W.FaultCount self.old).mark (Some (under (shape_code shape))) (state W.Write W.FaultCount self.old).found) [] (unwritten (length body.now)) result (state W.Write W.FaultCount self.new) }

@@ -14,7 +14,9 @@ use std::alloc::Global;
 use std::io::ErrorKind;
 
 impl<W: Sink> Serializer<W> {
-    /// The bytes of a text, behind a code and their length.
+    /// The bytes of a text, behind a code and their length: `narrow` is the byte of the code with one byte of length,
+    /// `code` the code with four.
+    #[inline(always)]
     fn payload(&mut self, narrow: u8, code: EncodingCodes, bytes: &[u8]) -> Result<(), Error>
         requires { self.old.stopped ≡ false }
         ensures law { Pays (state W.Write W.FaultCount self.old) (payload_at (state W.Write W.FaultCount self.old).mark narrow code bytes.now) (found_after (state W.Write W.FaultCount self.old).mark (Some (under code)) (state W.Write W.FaultCount self.old).found) ([]) (unwritten (length bytes.now)) result (state W.Write W.FaultCount self.new) }
@@ -36,7 +38,12 @@ impl<W: Sink> Serializer<W> {
         }
     }
 
-    /// Writes a text: a symbol under the symbol setting, else a string.
+    /// Writes a text: a symbol under the symbol setting (section 1.6.21), else a string (section 1.6.20). Outside arrays
+    /// up to 254 bytes stand behind one byte of length, else behind four. It takes no memory of its own.
+    ///
+    /// `Io(Other)`: the text has more than 4,294,967,291 bytes. `InvalidValue`: the array that it is to stand in has
+    /// elements under another constructor.
+    #[inline(always)]
     pub fn serialize_str(&mut self, alloc: Global, v: &str) -> Result<(), Error>
         ensures ok { OnOk result (Wrote (state W.Write W.FaultCount self.old) (text_item v.now (state W.Write W.FaultCount self.old).setting) (state W.Write W.FaultCount self.new)) }
         ensures err { IfErr result (λ e. Refused (state W.Write W.FaultCount self.old) (text_item v.now (state W.Write W.FaultCount self.old).setting) e (state W.Write W.FaultCount self.new)) }

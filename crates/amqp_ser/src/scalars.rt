@@ -13,7 +13,10 @@ use amqp_base::{EncodingCodes, Error, Sink};
 use std::alloc::Global;
 
 impl<W: Sink> Serializer<W> {
-    /// Writes a uint.
+    /// Writes a uint (section 1.6.5): outside arrays 43 for 0, 52 and a byte up to 255, else 70 and four bytes, highest
+    /// first; in an array four bytes. It takes no memory of its own.
+    ///
+    /// `InvalidValue`: the array that it is to stand in has elements under another constructor.
     #[inline(always)]
     pub fn serialize_u32(&mut self, alloc: Global, v: u32) -> Result<(), Error>
         ensures ok { OnOk result (Wrote (state W.Write W.FaultCount self.old) (scalar (uint v)) (state W.Write W.FaultCount self.new)) }
@@ -32,6 +35,7 @@ impl<W: Sink> Serializer<W> {
         Ok(())
     }
 
+    /// The text of a uint where it stands.
     #[inline(always)]
     fn uint(&mut self, v: u32) -> Result<(), Error>
         requires { self.old.stopped ≡ false }
@@ -49,7 +53,10 @@ impl<W: Sink> Serializer<W> {
         }
     }
 
-    /// Writes an int.
+    /// Writes an int in two's complement (section 1.6.9): outside arrays 54 and a byte from -128 to 127, else 71 and four
+    /// bytes, highest first; in an array four bytes. It takes no memory of its own.
+    ///
+    /// `InvalidValue`: the array that it is to stand in has elements under another constructor.
     #[inline(always)]
     pub fn serialize_i32(&mut self, alloc: Global, v: i32) -> Result<(), Error>
         ensures ok { OnOk result (Wrote (state W.Write W.FaultCount self.old) (scalar (int v)) (state W.Write W.FaultCount self.new)) }
@@ -68,6 +75,7 @@ impl<W: Sink> Serializer<W> {
         Ok(())
     }
 
+    /// The text of an int where it stands.
     #[inline(always)]
     fn int(&mut self, v: i32) -> Result<(), Error>
         requires { self.old.stopped ≡ false }

@@ -13,7 +13,8 @@ use crate::{Parts, Serialize, Serializer};
 use amqp_base::{Error, Setting, Shape, Sink};
 use std::alloc::Global;
 
-/// A list or an array that is being written. Its serializer answers nothing until `end` succeeded.
+/// A list or an array that is being written, element by element. Nothing of it reaches the writer before `end`. Until
+/// `end` succeeded its serializer answers nothing but `InvalidValue`, also where it is dropped.
 pub struct SeqSerializer<'a, W, B = Parts> {
     ser: &'a mut Serializer<W>,
     parts: B,
@@ -28,7 +29,9 @@ impl<W, B: Drop> Drop for SeqSerializer<'_, W, B> {
 }
 
 impl<W: Sink> Serializer<W> {
-    /// Opens a list. `len` is a hint and not used.
+    /// Opens a list (section 1.6.22). `len` is a hint and not used.
+    ///
+    /// `OutOfMemory`: there is no memory for its buffer.
     pub fn serialize_seq(
         &mut self,
         alloc: Global,
@@ -51,7 +54,9 @@ impl<W: Sink> Serializer<W> {
         }
     }
 
-    /// Opens an array. `len` is a hint and not used.
+    /// Opens an array (section 1.6.24). `len` is a hint and not used.
+    ///
+    /// `OutOfMemory`: there is no memory for its buffer.
     pub fn serialize_array(
         &mut self,
         alloc: Global,
@@ -76,7 +81,9 @@ impl<W: Sink> Serializer<W> {
 }
 
 impl<'a, W: Sink> SeqSerializer<'a, W> {
-    /// Writes one more element.
+    /// Writes one more element. It is refused as the element's own `serialize`; then the compound answers
+    /// `InvalidValue` to all that follows, `end` too. An element that can't stand in an array, or not behind the first
+    /// one, is `InvalidValue`.
     #[inline(always)]
     pub fn serialize_element<T: Serialize>(&mut self, alloc: Global, value: &T) -> Result<(), Error>
         ensures same_reference { self.new.ser.ghost_name ≡ self.old.ser.ghost_name }
@@ -99,7 +106,11 @@ impl<'a, W: Sink> SeqSerializer<'a, W> {
         Ok(())
     }
 
-    /// Writes the whole.
+    /// Writes the whole: its code, size and count, and the elements (a list without elements is the byte 45). Only then
+    /// does its serializer answer again.
+    ///
+    /// `Io(Other)`: the elements have more than 4,294,967,291 bytes. `InvalidValue`: an element was refused, or the array
+    /// that the whole is to stand in has elements under another constructor.
     pub fn end(self) -> Result<(), Error>
         ensures ok { OnOk result ((s : State) (shape : Shape) (xs : List Item) → Holds s shape xs (open_state W.Write W.FaultCount self.entry) →
             Wrote s (whole shape xs) (state W.Write W.FaultCount self.exit.0.now)) }

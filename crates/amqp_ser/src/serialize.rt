@@ -8,9 +8,13 @@ use crate::Serializer;
 use amqp_base::{Error, Sink, Typed};
 use std::alloc::Global;
 
-/// A type whose values can be written.
+/// A type whose values can be written: each as the item that `Typed` names for it.
+///
+/// A type of one's own writes itself by the calls of the serializer alone, each followed by `?`: then its contract is
+/// proved from theirs.
 pub trait Serialize: Typed {
-    /// Writes the value.
+    /// Writes the value's item, and nothing else. Where the item has a text at this place it is refused only for want of
+    /// memory or by the writer's fault. After a refusal by a call of the serializer, `ser` answers `InvalidValue`.
     fn serialize<W: Sink>(&self, alloc: Global, ser: &mut Serializer<W>) -> Result<(), Error>
         ensures ok { OnOk result (Wrote (state W.Write W.FaultCount ser.old) (Self.item self.now (state W.Write W.FaultCount ser.old).setting) (state W.Write W.FaultCount ser.new)) }
         ensures err { IfErr result (λ e. Refused (state W.Write W.FaultCount ser.old) (Self.item self.now (state W.Write W.FaultCount ser.old).setting) e (state W.Write W.FaultCount ser.new)) };

@@ -29,20 +29,33 @@ pub(crate) enum Mark {
     Other(EncodingCodes),
 }
 
-/// Writes values to a writer. After a refusal by one of its calls every later one answers `InvalidValue`;
-/// `into_inner` still gives the writer.
+/// Writes values to a writer, one item after the other, in the AMQP 1.0 encoding (part 1, section 1.2).
+///
+/// What is written for a value is the one canonical text of its item: the shortest code of its kind, save that a
+/// payload of 255 bytes has four bytes of length. Between two calls nothing is kept but the setting.
+///
+/// Once one of its calls was refused, or a compound was dropped without `end`, every later call answers
+/// `InvalidValue`, also those of its compounds. What the writer held before stays in front of what it holds;
+/// `into_inner` gives it.
+///
+/// Every call that writes may answer `Io` with the writer's own fault, or `OutOfMemory` where the writer can't grow or
+/// answers that fault. Its comment names the further errors.
 #[derive(Drop)]
 pub struct Serializer<W> {
-    /// The writer.
+    /// The writer, to which all bytes are appended.
     pub writer: W,
+    /// What is done with values that are handed to it directly.
     pub(crate) setting: Setting,
+    /// Where the next item stands.
     pub(crate) mark: Mark,
+    /// The constructor of the last item that was a first element.
     pub(crate) found: Option<EncodingCodes>,
+    /// Whether every call answers `InvalidValue`.
     pub(crate) stopped: bool,
 }
 
 impl<W: Sink> Serializer<W> {
-    /// A serializer that appends to `writer`.
+    /// A serializer that appends to `writer`, and writes values as they are.
     pub fn new(writer: W) -> Serializer<W>
         ensures { Fresh W.Write W.FaultCount writer Setting.Plain result }
     {
@@ -55,7 +68,8 @@ impl<W: Sink> Serializer<W> {
         }
     }
 
-    /// A serializer that appends to `writer`, and writes each text that it is handed directly as a symbol.
+    /// A serializer that appends to `writer`, and writes each text that it is handed directly as a symbol (section
+    /// 1.6.21). The parts of a compound are written as they are.
     pub fn symbol(writer: W) -> Serializer<W>
         ensures { Fresh W.Write W.FaultCount writer Setting.Symbol result }
     {
@@ -149,7 +163,7 @@ impl<W: Sink> Serializer<W> {
     }
 
     /// Appends the first element's data behind its constructor.
-    #[inline(never)]
+    #[inline(always)]
     fn first_element(&mut self, code: EncodingCodes, head: &[u8], body: &[u8]) -> Result<(), Error>
         requires answers { self.old.stopped ≡ false }
         requires marked { mark_of self.old.mark ≡ first }
@@ -176,7 +190,7 @@ impl<W: Sink> Serializer<W> {
         }
     }
 
-    /// Writes the value itself, as an option that holds it. Refused as the value's own `serialize`.
+    /// Writes the value itself, as an option that holds it. It is refused as the value's own `serialize`.
     pub fn serialize_some<T: Serialize>(&mut self, alloc: Global, value: &T) -> Result<(), Error>
         ensures ok { OnOk result (Wrote (state W.Write W.FaultCount self.old) (T.item value.now (state W.Write W.FaultCount self.old).setting) (state W.Write W.FaultCount self.new)) }
         ensures err { IfErr result (λ e. Refused (state W.Write W.FaultCount self.old) (T.item value.now (state W.Write W.FaultCount self.old).setting) e (state W.Write W.FaultCount self.new)) }
@@ -194,7 +208,8 @@ impl<W: Sink> Serializer<W> {
         }
     }
 
-    /// Writes the value itself, as a newtype that holds it. `name` isn't written. Refused as the value's own `serialize`.
+    /// Writes the value itself, as a newtype that holds it; `name` isn't written. It is refused as the value's own
+    /// `serialize`.
     pub fn serialize_newtype_struct<T: Serialize>(
         &mut self,
         alloc: Global,
