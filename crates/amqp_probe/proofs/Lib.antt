@@ -1,0 +1,6 @@
+pub mod Cuts
+pub mod Faults
+pub mod Pieces
+pub mod Split
+pub mod Transcripts
+pub mod Writes
