@@ -6,6 +6,8 @@ mod codec;
 mod kind;
 mod lines;
 mod run;
+#[cfg(test)]
+mod tests;
 
 use amqp_base::Counted;
 use std::process::ExitCode;
