@@ -1,0 +1,7 @@
+pub mod Cuts
+pub mod Faults
+pub mod Pieces
+pub mod Split
+pub mod Transcripts
+pub mod Uint
+pub mod Writes

@@ -1,0 +1,5 @@
+pub mod Answer
+pub mod Codec
+pub mod Lines
+pub mod Pieces
+pub mod Transcript

@@ -1,0 +1,51 @@
+-- What a run prints.
+use Rattle.std.specs.Prelude.{◌≡◌, ℕ, suc, ◌<◌, Bool, true, false, List, [], ◌∷◌, ◌++◌, length, codes, decimal, Option, None, Some, ⊤, ◌≤◌}
+use Rattle.std.specs.Io.KnownBytes.{Appends}
+use Rattle.amqp_base.specs.Faults.{Extends}
+use Rattle.amqp_probe.specs.Answer.{Answers, IsBad}
+use Rattle.amqp_probe.specs.Lines.{first_line, behind, Weighs}
+
+-- what is printed for a bad line
+abbrev pub bad_line : ℕ → List ℕ
+bad_line n = codes "bad line " ++ (decimal n ++ 10 ∷ [])
+
+-- What is printed for an input whose first line has the number n, and whether no line is bad. Each text ends in one
+-- line feed; behind a bad line nothing is answered.
+pub data Transcript : ℕ → List ℕ → List ℕ → Bool → Type 0 where
+  ended : (n : ℕ) → Transcript n [] [] true
+  answered : (n : ℕ) (input text texts : List ℕ) (good : Bool) → 0 < length input → Answers (first_line input) text
+      → Transcript (suc n) (behind input) texts good → Transcript n input (text ++ 10 ∷ texts) good
+  bad : (n : ℕ) (input : List ℕ) → 0 < length input → IsBad (first_line input)
+      → Transcript n input (bad_line n) false
+
+-- the whole transcript of an input went to the end of what a writer holds
+pub record Prints (input : List ℕ) (good : Bool) (old new : Option (List ℕ)) : Type 0 where
+  pub text : List ℕ
+  pub transcript : Transcript 1 input text good
+  pub appended : Appends old new text
+
+-- The first n lines were answered: what is printed for the rest goes behind what was printed.
+pub record Answered (input : List ℕ) (left : Option (List ℕ)) (n : ℕ) (old new : Option (List ℕ)) : Type 0 where
+  pub rest : List ℕ
+  pub known : left ≡ Some rest
+  pub printed : List ℕ
+  pub appended : Appends old new printed
+  pub goes_on : (text : List ℕ) (good : Bool) → Transcript (suc n) rest text good → Transcript 1 input (printed ++ text) good
+
+abbrev pub AnsweredIfKnown : Option (List ℕ) → Option (List ℕ) → ℕ → Option (List ℕ) → Option (List ℕ) → Type 0
+AnsweredIfKnown None left n old new = ⊤
+AnsweredIfKnown (Some input) left n old new = Answered input left n old new
+
+-- the state of a run between two lines
+pub record Running (input left old new : Option (List ℕ)) (n taken : ℕ) : Type 0 where
+  pub answered : AnsweredIfKnown input left n old new
+  pub weighs : Weighs input 0 left taken
+  pub numbered : n ≤ taken
+  pub extends : Extends old new
+
+-- the state of a writer that takes a text
+pub record Writing (bytes rest : List ℕ) (old new : Option (List ℕ)) (faults faults_now : ℕ) : Type 0 where
+  pub front : List ℕ
+  pub split : bytes ≡ front ++ rest
+  pub appended : Appends old new front
+  pub same : faults_now ≡ faults
