@@ -3,5 +3,5 @@ pub mod Faults
 pub mod Pieces
 pub mod Split
 pub mod Transcripts
-pub mod Uint
 pub mod Writes
+pub mod Recoding

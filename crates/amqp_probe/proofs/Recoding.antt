@@ -1,0 +1,116 @@
+-- What is read and written again.
+use Rattle.std.proofs.Common.{◌≡◌, ◌≢◌, ℕ, ◌+◌, ◌-◌, ◌≤◌, Bool, true, false, ◌||◌, IsTrue, ℤ, List, [], ◌∷◌, ◌++◌, length, take, drop, map, Option, Some, None, Result, Ok, Err, refl, sym, ap, subst, ◌∙◌, arith, inl, inr, ◌⊎◌}
+use Rattle.std.proofs.lemmas.List.{length-append, take_at, take-append-drop}
+use Rattle.std.proofs.lemmas.Option.{same_Some}
+use Rattle.std.specs.Prelude.{IfOk}
+use Rattle.std.specs.Io.KnownBytes.{Consumes}
+use Rattle.amqp_base.specs.declared.error.Error.{Error}
+use Rattle.amqp_base.specs.declared.error.Error.TheVariants.{OutOfMemory}
+use Rattle.amqp_base.specs.Codes.{Kind as ItemKind}
+use Rattle.amqp_base.specs.Item.{Scalar, uint, int, string, Item, scalar, list, map as map_item, array, described, Items, none, more, items_of}
+use Rattle.amqp_base.specs.Wire.{Wire, lenient, bare, Front}
+use Rattle.amqp_base.specs.Canon.{canon}
+use Rattle.amqp_base.specs.Typing.{all_mean, means_list}
+use Rattle.amqp_base.specs.Shapes.{whole}
+use Rattle.amqp_base.specs.declared.shape.Shape.{Shape}
+use Rattle.amqp_base.proofs.OneFront.{same_wire}
+use Rattle.amqp_read.specs.Reading.{Reading}
+use Rattle.amqp_de.specs.Decoding.{Decoding, stands_under}
+use Rattle.amqp_de.specs.Law.{Front as Found_front, Found, Missed, Excused, no_memory, faulted, uncounted}
+use Rattle.amqp_probe.specs.Codec.{HasText, Decoded, Recodes, Recoded, IsRefused, takes}
+use Rattle.amqp_probe.specs.declared.kind.Kind.{Kind}
+use Rattle.amqp_probe.specs.declared.codec.Outcome.{Outcome}
+use Rattle.amqp_probe.specs.declared.codec.Outcome.TheVariants.{Value, Refused}
+
+same_item : (s : List ℕ) (i j : Item) (m n : ℕ) → Front lenient bare s i m → Front lenient bare s j n → i ≡ j
+same_item s i j m n f g = (same_wire f.spelled g.spelled (drop m s) (drop n s) (take-append-drop m s ∙ sym (take-append-drop n s))).1
+
+consumed : (k l : Option (List ℕ)) (s x : List ℕ) → k ≡ Some s → Consumes k l x → (rest : List ℕ) × (s ≡ x ++ rest)
+consumed None l s x e c = absurd cc
+consumed (Some t) None s x e c = absurd c
+consumed (Some t) (Some u) s x e c = (u, sym (same_Some t s e) ∙ c)
+
+-- a deserializer over these bytes
+abbrev pub fresh : List ℕ → Decoding
+fresh s = record { reading = record { to_come = Some s; taken = 0; ahead = 0; faults = 0; honest = true; origin = [] }; answers = true; inherited = bare; described = false; begun = 0 }
+
+-- a value was read; it consumed so many bytes
+pub read_value : {T : Type 0} (taken_by : Item → Bool) (means : Item → T → Type 0) (written : T → Item) (s : List ℕ) (v : T) (t : Option (List ℕ)) (old new : Decoding) → old ≡ fresh s → Found taken_by (λ i. means i v) old new → canon (written v) ≡ t
+    → Recodes taken_by means written s t new.reading.taken × (new.reading.taken ≤ length s)
+read_value taken_by means written s v t old new e f c =
+    let g : Found taken_by (λ i. means i v) (fresh s) new = rw e at f in
+    let h = g.front refl in
+    let k = consumed (Some s) new.reading.to_come s h.text refl h.step.to_come in
+    let n : new.reading.taken ≡ length h.text = omega (arith, h.step.taken) in
+    let front : take (length h.text) s ≡ h.text = rw k.1 (take_at h.text k.0 (length h.text) refl) in
+    let within : length h.text ≤ length s = rw k.1 (omega (arith, length-append h.text k.0)) in
+    (record {
+      value = v;
+      item = h.item;
+      front = rw n (record { within = within; spelled = rw front h.spelled });
+      taken = h.taken;
+      meant = h.value;
+      text = c;
+    }, omega (arith, n, within))
+
+excused : (grows : Bool) (old new : Reading) (e : Error) → Excused grows false old new e → e ≡ OutOfMemory
+excused grows old new e (no_memory p q) = p
+excused grows old new e (faulted p q) = absurd cc
+excused grows old new e (uncounted p q o) = absurd cc
+
+-- no value was read, and not for want of memory
+pub read_none : (taken_by : Item → Bool) (grows : Bool) (s : List ℕ) (e : Error) (old new : Decoding) → old ≡ fresh s → e ≢ OutOfMemory → Missed taken_by (grows || false) false old new e → (i : Item) (n : ℕ) → Front lenient bare s i n → IsTrue (taken_by i) → ⊥
+read_none taken_by grows s e old new q d m i n f t =
+    let k : Missed taken_by (grows || false) false (fresh s) new e = rw q at m in
+    d (excused (grows || false) _ _ e (k.why refl i (take n s) (drop n s) f.spelled t (ap Some (sym (take-append-drop n s))) refl))
+
+-- ---- for a type whose values are written as the items that mean them
+
+pub decoded_as : {T : Type 0} (kind : Kind) (means : Item → T → Type 0) (written : T → Item) (s : List ℕ) (o : Outcome) → ((i : Item) (v : T) → means i v → written v ≡ i) → Recoded (takes kind) means written s o → Decoded kind s o
+decoded_as kind means written s (Value canonical rest) w (n, r, left) = record {
+  item = r.item;
+  consumed = n;
+  front = r.front;
+  taken = r.taken;
+  text = ap canon (sym (w r.item r.value r.meant)) ∙ r.text;
+  left = left;
+}
+decoded_as kind means written s (Refused e) w (d, inl f) = (d, λ canonical rest h. f h.item h.consumed h.front h.taken)
+decoded_as kind means written s (Refused e) w (d, inr (n, r)) = (d, λ canonical rest h.
+    let same = same_item s h.item r.item h.consumed n h.front r.front in
+    let none_is : canon h.item ≡ None = ap canon (same ∙ sym (w r.item r.value r.meant)) ∙ r.text in
+    absurd cc (none_is, h.text))
+
+-- a list of ints is written as the list that means it
+ints : (is : Items) (vs : List ℤ) → all_mean (λ i (v : ℤ). i ≡ scalar (int v)) is vs → items_of (map (λ v. scalar (int v)) vs) ≡ is
+ints none [] m = refl
+ints none (v ∷ vs) m = absurd m
+ints (more i is) [] m = absurd m
+ints (more i is) (v ∷ vs) m = let a = sym m.0 in let b = ints is vs m.1 in cc
+
+pub int_list : (i : Item) (vs : List ℤ) → means_list (λ i (v : ℤ). i ≡ scalar (int v)) i vs → whole Shape.List (map (λ v. scalar (int v)) vs) ≡ i
+unfolding whole
+int_list (list is) vs m = ap list (ints is vs m)
+int_list (scalar v) vs m = absurd m
+int_list (map_item ps) vs m = absurd m
+int_list (array is) vs m = absurd m
+int_list (described d v) vs m = absurd m
+
+pub decoded_ok : {T : Type 0} (kind : Kind) (means : Item → T → Type 0) (written : T → Item) (s : List ℕ) (r : Result Outcome Error) → ((i : Item) (v : T) → means i v → written v ≡ i)
+    → IfOk r (λ o. Recoded (takes kind) means written s o) → IfOk r (λ o. Decoded kind s o)
+decoded_ok kind means written s (Ok o) w d = decoded_as kind means written s o w d
+decoded_ok kind means written s (Err e) w d = tt
+
+-- a refusal where nothing was read, or what was read has no text
+pub none_recoded : {T : Type 0} (taken_by : Item → Bool) (means : Item → T → Type 0) (written : T → Item) (grows : Bool) (s : List ℕ) (e : Error) (r : Result Outcome Error) (old new : Decoding) → old ≡ fresh s → Missed taken_by (grows || false) false old new e
+    → IfOk r (λ o. IsRefused e o) → IfOk r (λ o. Recoded taken_by means written s o)
+none_recoded taken_by means written grows s e (Ok (Value c n)) old new q m k = absurd k
+none_recoded taken_by means written grows s e (Ok (Refused f)) old new q m k = (rw k.0 k.1, inl (read_none taken_by grows s e old new q k.1 m))
+none_recoded taken_by means written grows s e (Err f) old new q m k = tt
+
+pub textless : {T : Type 0} (taken_by : Item → Bool) (means : Item → T → Type 0) (written : T → Item) (s : List ℕ) (v : T) (e : Error) (r : Result Outcome Error) (old new : Decoding) → old ≡ fresh s → Found taken_by (λ i. means i v) old new
+    → (e ≡ OutOfMemory) ⊎ (canon (written v) ≡ None) → IfOk r (λ o. IsRefused e o) → IfOk r (λ o. Recoded taken_by means written s o)
+textless taken_by means written s v e (Ok (Value c n)) old new q f w k = absurd k
+textless taken_by means written s v e (Ok (Refused g)) old new q f (inl p) k = absurd (k.1 p)
+textless taken_by means written s v e (Ok (Refused g)) old new q f (inr p) k = (rw k.0 k.1, inr (new.reading.taken, (read_value taken_by means written s v None old new q f p).0))
+textless taken_by means written s v e (Err g) old new q f w k = tt
