@@ -43,15 +43,17 @@ read_value taken_by means written s v t old new e f c =
     let k = consumed (Some s) new.reading.to_come s h.text refl h.step.to_come in
     let n : new.reading.taken ≡ length h.text = omega (arith, h.step.taken) in
     let front : take (length h.text) s ≡ h.text = rw k.1 (take_at h.text k.0 (length h.text) refl) in
-    let within : length h.text ≤ length s = rw k.1 (omega (arith, length-append h.text k.0)) in
-    (record {
-      value = v;
-      item = h.item;
-      front = rw n (record { within = within; spelled = rw front h.spelled });
-      taken = h.taken;
-      meant = h.value;
-      text = c;
-    }, omega (arith, n, within))
+    let within : length h.text ≤ length s = rw k.1 (omega (arith, length-append h.text k.0)) in (
+      record {
+        value = v;
+        item = h.item;
+        front = rw n (record { within = within; spelled = rw front h.spelled });
+        taken = h.taken;
+        meant = h.value;
+        text = c;
+      },
+      omega (arith, n, within),
+    )
 
 excused : (grows : Bool) (old new : Reading) (e : Error) → Excused grows false old new e → e ≡ OutOfMemory
 excused grows old new e (no_memory p q) = p
@@ -76,10 +78,13 @@ decoded_as kind means written s (Value canonical rest) w (n, r, left) = record {
   left = left;
 }
 decoded_as kind means written s (Refused e) w (d, inl f) = (d, λ canonical rest h. f h.item h.consumed h.front h.taken)
-decoded_as kind means written s (Refused e) w (d, inr (n, r)) = (d, λ canonical rest h.
-    let same = same_item s h.item r.item h.consumed n h.front r.front in
-    let none_is : canon h.item ≡ None = ap canon (same ∙ sym (w r.item r.value r.meant)) ∙ r.text in
-    absurd cc (none_is, h.text))
+decoded_as kind means written s (Refused e) w (d, inr (n, r)) = (
+  d,
+  λ canonical rest h.
+      let same = same_item s h.item r.item h.consumed n h.front r.front in
+      let none_is : canon h.item ≡ None = ap canon (same ∙ sym (w r.item r.value r.meant)) ∙ r.text in
+      absurd cc (none_is, h.text),
+)
 
 -- a list of ints is written as the list that means it
 ints : (is : Items) (vs : List ℤ) → all_mean (λ i (v : ℤ). i ≡ scalar (int v)) is vs → items_of (map (λ v. scalar (int v)) vs) ≡ is

@@ -1,0 +1,177 @@
+//! Values and bytes, each as they stand in the standard's tables or follow from them.
+
+use crate::{Deserializer, Error, Read, SliceReader, from_slice, to_vec};
+use std::io::ErrorKind;
+use std::test::Fail;
+
+#[test]
+fn writes_numbers_in_their_shortest_form(rt: HostRuntime) -> Result<(), Fail> {
+    let alloc = rt.alloc();
+    assert_eq!(rt; to_vec(alloc, &0u32)?.as_slice(), [0x43].as_slice());
+    assert_eq!(rt; to_vec(alloc, &255u32)?.as_slice(), [0x52, 0xff].as_slice());
+    assert_eq!(rt;
+        to_vec(alloc, &256u32)?.as_slice(),
+        [0x70, 0, 0, 1, 0].as_slice()
+    );
+    assert_eq!(rt;
+        to_vec(alloc, &-128i32)?.as_slice(),
+        [0x54, 0x80].as_slice()
+    );
+    assert_eq!(rt;
+        to_vec(alloc, &128i32)?.as_slice(),
+        [0x71, 0, 0, 0, 0x80].as_slice()
+    );
+    Ok(())
+}
+
+#[test]
+fn writes_texts_of_254_and_255_bytes(rt: HostRuntime) -> Result<(), Fail> {
+    let alloc = rt.alloc();
+    let short = to_vec(alloc, &letters(alloc, 254)?)?;
+    assert_eq!(rt; short.len(), 256);
+    assert!(rt; short.as_slice().starts_with(&[0xa1, 0xfe, 0x61]));
+    let long = to_vec(alloc, &letters(alloc, 255)?)?;
+    assert_eq!(rt; long.len(), 260);
+    assert!(rt; long.as_slice().starts_with(&[0xb1, 0, 0, 0, 0xff, 0x61]));
+    assert_eq!(rt; from_slice::<String>(alloc, long.as_slice())?.len(), 255);
+    Ok(())
+}
+
+fn letters(alloc: std::alloc::Global, count: usize) -> Result<String, Fail> {
+    let mut text = String::new(alloc);
+    for _ in 0..count {
+        text.push('a')?;
+    }
+    Ok(text)
+}
+
+#[test]
+fn writes_lists(rt: HostRuntime) -> Result<(), Fail> {
+    let alloc = rt.alloc();
+    let none: Vec<i32> = Vec::new(alloc);
+    assert_eq!(rt; to_vec(alloc, &none)?.as_slice(), [0x45].as_slice());
+    let two = vec![in alloc; 1i32, 2]?;
+    assert_eq!(rt;
+        to_vec(alloc, &two)?.as_slice(),
+        [0xc0, 5, 2, 0x54, 1, 0x54, 2].as_slice()
+    );
+    Ok(())
+}
+
+#[test]
+fn writes_list8_up_to_254_bytes_of_elements(rt: HostRuntime) -> Result<(), Fail> {
+    let alloc = rt.alloc();
+    let mut numbers = Vec::new(alloc);
+    for n in 0..127i32 {
+        numbers.push(n)?;
+    }
+    let text = to_vec(alloc, &numbers)?;
+    assert_eq!(rt; text.len(), 257);
+    assert!(rt; text.as_slice().starts_with(&[0xc0, 0xff, 0x7f]));
+    numbers.push(127)?;
+    let text = to_vec(alloc, &numbers)?;
+    assert_eq!(rt; text.len(), 265);
+    assert!(rt;
+        text.as_slice()
+            .starts_with(&[0xd0, 0, 0, 1, 4, 0, 0, 0, 0x80])
+    );
+    assert_eq!(rt;
+        from_slice::<Vec<i32>>(alloc, text.as_slice())?.as_slice(),
+        numbers.as_slice()
+    );
+    Ok(())
+}
+
+#[test]
+fn reads_forms_that_are_not_canonical(rt: HostRuntime) -> Result<(), Fail> {
+    let alloc = rt.alloc();
+    assert_eq!(rt; from_slice::<u32>(alloc, &[0x70, 0, 0, 0, 0xff])?, 255);
+    let list = [0xc0, 2, 1, 0x71, 0, 0, 0, 5];
+    assert_eq!(rt;
+        from_slice::<Vec<i32>>(alloc, &list)?.as_slice(),
+        [5].as_slice()
+    );
+    let text = [0xb1, 0, 0, 0, 4, 0x61, 0x6d, 0x71, 0x70];
+    assert_eq!(rt; from_slice::<String>(alloc, &text)?.as_str(), "amqp");
+    Ok(())
+}
+
+#[test]
+fn reads_what_it_writes_at_every_nesting(rt: HostRuntime) -> Result<(), Fail> {
+    let alloc = rt.alloc();
+    let inner = vec![in alloc; String::from_str(alloc, "a")?, String::new(alloc)]?;
+    let nested = vec![in alloc; inner, Vec::new(alloc)]?;
+    let text = to_vec(alloc, &nested)?;
+    let again = from_slice::<Vec<Vec<String>>>(alloc, text.as_slice())?;
+    assert_eq!(rt; again.len(), 2);
+    assert_eq!(rt; again[0].len(), 2);
+    assert_eq!(rt; again[0][0].as_str(), "a");
+    assert_eq!(rt; again[0][1].as_str(), "");
+    assert!(rt; again[1].is_empty());
+    Ok(())
+}
+
+#[test]
+fn refuses_by_the_first_rule_broken(rt: HostRuntime) {
+    let alloc = rt.alloc();
+    assert!(rt;
+        matches!(
+            &from_slice::<Vec<i32>>(alloc, &[0xc0, 0, 0]),
+            Err(Error::InvalidLength)
+        )
+    );
+    assert!(rt;
+        matches!(
+            &from_slice::<Vec<i32>>(alloc, &[0xc0, 0]),
+            Err(Error::Io(ErrorKind::UnexpectedEof))
+        )
+    );
+    assert!(rt;
+        matches!(
+            &from_slice::<Vec<i32>>(alloc, &[0xd0, 0, 0, 0, 4, 0, 1, 0, 1]),
+            Err(Error::InvalidValue)
+        )
+    );
+    assert!(rt;
+        matches!(
+            &from_slice::<String>(alloc, &[0xa1, 1, 0xff]),
+            Err(Error::InvalidUtf8Encoding)
+        )
+    );
+    assert!(rt;
+        matches!(
+            &from_slice::<String>(alloc, &[0xa1, 5, 0x61]),
+            Err(Error::Io(ErrorKind::UnexpectedEof))
+        )
+    );
+    assert!(rt;
+        matches!(
+            &from_slice::<u32>(alloc, &[0x57]),
+            Err(Error::InvalidFormatCode)
+        )
+    );
+    assert!(rt;
+        matches!(
+            &from_slice::<u32>(alloc, &[0x54, 1]),
+            Err(Error::InvalidFormatCode)
+        )
+    );
+    assert!(rt;
+        matches!(
+            &from_slice::<u32>(alloc, &[]),
+            Err(Error::Io(ErrorKind::UnexpectedEof))
+        )
+    );
+}
+
+#[test]
+fn leaves_what_stands_behind(rt: HostRuntime) -> Result<(), Fail> {
+    let alloc = rt.alloc();
+    let bytes = [0xc0, 2, 1, 0x71, 0, 0, 0, 5, 0, 0x43];
+    let mut de = Deserializer::new(SliceReader::new(&bytes));
+    let _list: Vec<i32> = crate::Deserialize::deserialize(alloc, &mut de)?;
+    let mut reader = de.into_reader();
+    assert_eq!(rt; reader.bytes_consumed(), 8);
+    assert!(rt; matches!(&reader.next(), Ok(Some(0))));
+    Ok(())
+}
