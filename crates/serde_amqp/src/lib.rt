@@ -10,6 +10,7 @@ ghost use Rattle.amqp_base.specs.declared.shape.Setting.{Setting};
 pub mod de;
 pub mod error;
 pub mod format_code;
+pub mod primitives;
 pub mod read;
 pub mod ser;
 #[cfg(test)]
@@ -25,6 +26,7 @@ pub use amqp_base::{
 pub use amqp_de::{Deserialize, Deserializer, Ended, ListAccess, SeqAccess};
 pub use amqp_read::{Read, SliceReader, read_const_bytes};
 pub use amqp_ser::{SeqSerializer, Serialize, Serializer};
+pub use amqp_types::{Boolean, Byte, Char, Int, List, Long, Short, Ubyte, Uint, Ulong, Ushort};
 use std::alloc::Global;
 
 /// The canonical text of a value. Refused where its item has none (`InvalidValue`; `Io(Other)` where a payload or a body is
