@@ -1,7 +1,7 @@
 -- The law of writing.
-use Rattle.std.specs.Prelude.{◌≡◌, ◌≢◌, ◌⊎◌, ℕ, ◌+◌, ◌^◌, ◌<◌, ◌≤◌, nat_lt, ◌==◌, ◌&&◌, Bool, true, false, if◌then◌else◌, List, [], ◌∷◌, ◌++◌, length, drop, Option, None, Some, Result, Err, OnErr, IfErr, ⊤}
+use Rattle.std.specs.Prelude.{◌≡◌, ◌⊎◌, ℕ, ◌+◌, ◌^◌, ◌<◌, ◌≤◌, nat_lt, ◌==◌, ◌&&◌, Bool, true, false, if◌then◌else◌, List, [], ◌∷◌, ◌++◌, length, drop, Option, None, Some, Result, Err, OnErr, IfErr, ⊤}
 use Rattle.std.specs.Io.KnownBytes.{Appends}
-use Rattle.std.specs.declared.io.ErrorKind.TheVariants.{UnexpectedEof, Other}
+use Rattle.std.specs.declared.io.ErrorKind.TheVariants.{Other}
 use Rattle.amqp_base.specs.Item.{Item}
 use Rattle.amqp_base.specs.Wire.{Constructor}
 use Rattle.amqp_base.specs.Canon.{◌>>=◌, when, limit, canon, body, kind_code, constructor_text, is_under}
@@ -9,6 +9,7 @@ use Rattle.amqp_base.specs.Sizes.{Size, sizes}
 use Rattle.amqp_base.specs.Faults.{Extends}
 use Rattle.amqp_base.specs.declared.error.Error.{Error}
 use Rattle.amqp_base.specs.declared.error.Error.TheVariants.{Io, OutOfMemory, InvalidValue}
+pub use Rattle.amqp_base.specs.Refusals.{IsDevice}
 use Rattle.amqp_ser.specs.State.{State, Mark, unmarked, first, other, Counted}
 
 -- data behind its constructor, as the mark has it
@@ -79,11 +80,6 @@ pub record Took (s : State) (i : Item) (t : State) : Type 0 where
 abbrev pub IsIo : Error → Type 0
 IsIo (Io kind) = ⊤
 IsIo e = ⊥
-
--- a fault of the device
-abbrev pub IsDevice : Error → Type 0
-IsDevice (Io kind) = (kind ≢ UnexpectedEof) × (kind ≢ Other)
-IsDevice e = ⊥
 
 -- why an item may be refused
 abbrev pub MayRefuse : State → Item → Error → State → Type 0
