@@ -16,7 +16,7 @@ pub struct Measurement {
 impl Typed for Measurement {
     ghost use Rattle.std.specs.Prelude.{◌∷◌, [], true, refl};
     ghost use Rattle.amqp_base.specs.Shapes.{whole};
-    ghost use Rattle.amqp_base.specs.Fields.{takes_fields, means_fields, field, no_more, one_fields, one_more, one_last};
+    ghost use Rattle.amqp_base.specs.Fields.{takes_fields, means_fields, field, one_fields, one_more, one_last};
     ghost use Rattle.amqp_base.specs.declared.shape.Shape.{Shape};
     ghost use Rattle.amqp_base.specs.declared.shape.Setting.TheVariants.{Plain};
 
@@ -24,7 +24,7 @@ impl Typed for Measurement {
 
     ghost takes = { takes_fields (⟦<u32 as Typed>⟧.takes ∷ ⟦<String as Typed>⟧.takes ∷ []) };
 
-    ghost means = { λ i v. means_fields (field ⟦<u32 as Typed>⟧.means v.amount (field ⟦<String as Typed>⟧.means v.unit no_more)) i };
+    ghost means = { λ i v. means_fields (field ⟦<u32 as Typed>⟧.means v.amount ∷ field ⟦<String as Typed>⟧.means v.unit ∷ []) i };
 
     ghost same = { λ v w. ⟦<u32 as Typed>⟧.same v.amount w.amount × ⟦<String as Typed>⟧.same v.unit w.unit };
 
@@ -34,7 +34,7 @@ impl Typed for Measurement {
 
     ghost in_described_basic = { λ _. refl };
 
-    ghost one_value = { λ i v w. one_fields (one_more ⟦<u32 as Typed>⟧.one_value v.amount w.amount (one_last ⟦<String as Typed>⟧.one_value v.unit w.unit)) i };
+    ghost one_value = { λ i v w. one_fields _ _ (one_more _ _ ⟦<u32 as Typed>⟧.one_value v.amount w.amount (one_last ⟦<String as Typed>⟧.one_value v.unit w.unit)) i };
 }
 
 impl Serialize for Measurement {
