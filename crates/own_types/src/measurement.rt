@@ -1,6 +1,8 @@
 //! A struct.
 
 use amqp_base::{Error, Sink, Typed};
+use amqp_de::{Deserialize, Deserializer};
+use amqp_read::Read;
 use amqp_ser::{Serialize, Serializer};
 use std::alloc::Global;
 
@@ -43,5 +45,19 @@ impl Serialize for Measurement {
         seq.serialize_element(alloc, &self.amount)?;
         seq.serialize_element(alloc, &self.unit)?;
         seq.end()
+    }
+}
+
+impl<R: Read> Deserialize<R> for Measurement {
+    fn deserialize(alloc: Global, de: &mut Deserializer<R>) -> Result<Measurement, Error> {
+        let mut list = de.deserialize_seq(alloc)?.into_elements();
+        let Some(amount) = list.next_element(alloc)? else {
+            return Err(Error::SequenceLengthMismatch);
+        };
+        let Some(unit) = list.next_element(alloc)? else {
+            return Err(Error::SequenceLengthMismatch);
+        };
+        list.end()?;
+        Ok(Measurement { amount, unit })
     }
 }

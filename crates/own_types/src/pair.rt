@@ -1,6 +1,8 @@
 //! A generic struct.
 
 use amqp_base::{Error, Sink, Typed};
+use amqp_de::{Deserialize, Deserializer};
+use amqp_read::Read;
 use amqp_ser::{Serialize, Serializer};
 use std::alloc::Global;
 
@@ -43,5 +45,19 @@ impl<A: Serialize, B: Serialize> Serialize for Pair<A, B> {
         seq.serialize_element(alloc, &self.first)?;
         seq.serialize_element(alloc, &self.second)?;
         seq.end()
+    }
+}
+
+impl<R: Read, A: Deserialize<R>, B: Deserialize<R>> Deserialize<R> for Pair<A, B> {
+    fn deserialize(alloc: Global, de: &mut Deserializer<R>) -> Result<Pair<A, B>, Error> {
+        let mut list = de.deserialize_seq(alloc)?.into_elements();
+        let Some(first) = list.next_element(alloc)? else {
+            return Err(Error::SequenceLengthMismatch);
+        };
+        let Some(second) = list.next_element(alloc)? else {
+            return Err(Error::SequenceLengthMismatch);
+        };
+        list.end()?;
+        Ok(Pair { first, second })
     }
 }
