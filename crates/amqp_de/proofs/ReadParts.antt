@@ -312,3 +312,10 @@ progress_begun old (Err e) l p = p
 pub reads_begun : {A : Type 0} (old : Decoding) (r : Result A Error) (l : A → Listing) → IfOk r (λ o. Opens old (l o)) → IfOk r (λ o. (all : List (Item → Bool)) → HasRead old all all (l o))
 reads_begun old (Ok o) l p = reads_start old (l o) p
 reads_begun old (Err e) l p = p
+
+-- where the deserializer stands in the end
+pub missed_at : {takes : Item → Bool} {grows buffers : Bool} {old : Decoding} {e : Error} (last x : Decoding) → last ≡ x → Missed takes grows buffers old x e → Missed takes grows buffers old last e
+missed_at last x l m = rw l m
+
+pub found_at : {takes : Item → Bool} {means : Item → Type 0} {old : Decoding} (last x : Decoding) → last ≡ x → Found takes means old x → Found takes means old last
+found_at last x l m = rw l m
