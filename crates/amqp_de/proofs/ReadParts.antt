@@ -14,7 +14,7 @@ use Rattle.amqp_de.specs.Decoding.{Decoding, stands_under}
 use Rattle.amqp_de.specs.Law.{Found, Missed, Excused, Spent, free}
 use Rattle.amqp_de.specs.Parse.{list_data}
 use Rattle.amqp_de.specs.Access.{Listing, Within, HasParts, items_of_all, cost, Opens, OpensNot, Part, NoPart, Next, Ends, ended}
-use Rattle.amqp_de.specs.ReadParts.{Progress, HasRead, Told, MoreRead, RefusesParts, and_last, joined}
+use Rattle.amqp_de.specs.ReadParts.{Progress, HasRead, MoreRead, RefusesParts, and_last, joined}
 use Rattle.amqp_de.proofs.Readings.{takes_nothing, steady_then, takes_then, behind, excused_before, excused_more}
 use Rattle.amqp_de.proofs.Answered.{free_refused, one_refused}
 use Rattle.amqp_de.proofs.Sequence.{both, left_of, right_of, within_less, within_all, stands_is, cost_step, refused_two}
@@ -79,7 +79,6 @@ fields_unopened fields buffers old last e o = record {
 }
 
 pub parts_refused : {A : Type 0} (buffers : Bool) (old last : Decoding) (r : Result A Error) → IfErr r (λ e. OpensNot list_data buffers old last e) → IfErr r (λ e. RefusesParts buffers old last e)
-unfolding Told
 parts_refused buffers old last (Ok v) o = o
 parts_refused buffers old last (Err e) o = record { not_opened = o; missed = λ fields. fields_unopened fields buffers old last e o }
 
@@ -104,8 +103,7 @@ progress_start old l o all = record {
 }
 
 pub reads_start : (old : Decoding) (l : Listing) → Opens old l → (all : List (Item → Bool)) → HasRead old all all l
-unfolding HasRead
-reads_start old l o all = (none, progress_start old l o all)
+reads_start old l o all = record { parts = none; progress = progress_start old l o all }
 
 module _ (old : Decoding) (all others : List (Item → Bool)) (parts : Items) (now : Listing) (s : Progress old all others parts now) where
   here : stands_under now.state ≡ s.from.state.inherited
@@ -269,8 +267,7 @@ some_same e = cc
 module _ (buffers : Bool) (now : Listing) where
   -- a value is the next part
   pub next_part : {T : Type 0} (t : Item → Bool) (means : Item → T → Type 0) (grows : Bool) (next : Listing) (r : Result (Option T) Error) → Next t means grows buffers now r next → next.outer ≡ now.outer → next.limit ≡ now.limit
-      → IfOk r (λ o. (v : T) → o ≡ Some v → (old : Decoding) (all rest : List (Item → Bool)) (parts : Items) → Told (Progress old all (t ∷ rest) parts now) → MoreRead old all rest parts (λ i. means i v) next)
-  unfolding Told
+      → IfOk r (λ o. (v : T) → o ≡ Some v → (old : Decoding) (all rest : List (Item → Bool)) (parts : Items) → Progress old all (t ∷ rest) parts now → MoreRead old all rest parts (λ i. means i v) next)
   next_part t means grows next (Ok None) n outer limit = λ v e. absurd cc
   next_part {T} t means grows next (Ok (Some w)) n outer limit = λ v e old all rest parts s.
       let p = subst (λ (x : T). Part t (λ i. means i x) now next) (some_same e) n.0 in
@@ -279,42 +276,36 @@ module _ (buffers : Bool) (now : Listing) where
 
   pub next_reads : {T : Type 0} (t : Item → Bool) (means : Item → T → Type 0) (grows : Bool) (next : Listing) (r : Result (Option T) Error) → Next t means grows buffers now r next → next.outer ≡ now.outer → next.limit ≡ now.limit
       → IfOk r (λ o. (v : T) → o ≡ Some v → (old : Decoding) (all rest : List (Item → Bool)) → HasRead old all (t ∷ rest) now → HasRead old all rest next)
-  unfolding HasRead
   next_reads t means grows next (Ok None) n outer limit = λ v e. absurd cc
   next_reads t means grows next (Ok (Some w)) n outer limit = λ v e old all rest s.
-      (and_last s.0 n.0.front.item, progress_more old all (t ∷ rest) s.0 now s.1 t (λ i. means i w) rest next refl n.0 outer limit)
+      record { parts = and_last s.parts n.0.front.item; progress = progress_more old all (t ∷ rest) s.parts now s.progress t (λ i. means i w) rest next refl n.0 outer limit }
   next_reads t means grows next (Err e) n outer limit = tt
 
   -- none is left, though one is wanted
   pub next_none : {T : Type 0} (t : Item → Bool) (means : Item → T → Type 0) (grows : Bool) (next : Listing) (r : Result (Option T) Error) → Next t means grows buffers now r next
       → IfOk r (λ o. o ≡ None → (old : Decoding) (all rest : List (Item → Bool)) → HasRead old all (t ∷ rest) now → Missed (takes_fields all) true buffers old next.state SequenceLengthMismatch)
-  unfolding HasRead
-  next_none t means grows next (Ok None) n = λ e old all rest s. too_few old all (t ∷ rest) s.0 now s.1 t rest buffers next.state refl n.0 (ap (λ (l : Listing). l.state) n.1)
+  next_none t means grows next (Ok None) n = λ e old all rest s. too_few old all (t ∷ rest) s.parts now s.progress t rest buffers next.state refl n.0 (ap (λ (l : Listing). l.state) n.1)
   next_none t means grows next (Ok (Some w)) n = λ e. absurd cc
   next_none t means grows next (Err e) n = tt
 
   -- the next part is refused
   pub next_missed : {T : Type 0} (t : Item → Bool) (means : Item → T → Type 0) (grows : Bool) (next : Listing) (r : Result (Option T) Error) → Next t means grows buffers now r next
       → IfErr r (λ e. (old : Decoding) (all rest : List (Item → Bool)) → HasRead old all (t ∷ rest) now → Missed (takes_fields all) true buffers old next.state e)
-  unfolding HasRead
   next_missed t means grows next (Ok o) n = tt
-  next_missed t means grows next (Err e) n = λ old all rest s. field_missed old all (t ∷ rest) s.0 now s.1 t rest grows buffers next next.state e refl n refl
+  next_missed t means grows next (Err e) n = λ old all rest s. field_missed old all (t ∷ rest) s.parts now s.progress t rest grows buffers next next.state e refl n refl
 
   -- the end of what was read
   pub end_found : (r : Result (Unit {0}) Error) (last : Decoding) → Ends now r last
-      → OnOk r ((old : Decoding) (all : List (Item → Bool)) (parts : Items) → Told (Progress old all [] parts now) → Found (takes_fields all) (λ i. HasParts i parts) old last)
-  unfolding Told
+      → OnOk r ((old : Decoding) (all : List (Item → Bool)) (parts : Items) → Progress old all [] parts now → Found (takes_fields all) (λ i. HasParts i parts) old last)
   end_found (Ok u) last n = λ old all parts s. fields_found old all [] parts now s last refl n.1 n.2
   end_found (Err e) last n = tt
 
   pub end_missed : (r : Result (Unit {0}) Error) (last : Decoding) → Ends now r last
       → IfErr r (λ e. (old : Decoding) (all : List (Item → Bool)) → HasRead old all [] now → Missed (takes_fields all) true buffers old last e)
-  unfolding HasRead
   end_missed (Ok u) last n = tt
-  end_missed (Err e) last n = λ old all s. too_many old all [] s.0 now s.1 buffers last e refl n
+  end_missed (Err e) last n = λ old all s. too_many old all [] s.parts now s.progress buffers last e refl n
 
-pub progress_begun : {A : Type 0} (old : Decoding) (r : Result A Error) (l : A → Listing) → IfOk r (λ o. Opens old (l o)) → IfOk r (λ o. (all : List (Item → Bool)) → Told (Progress old all all none (l o)))
-unfolding Told
+pub progress_begun : {A : Type 0} (old : Decoding) (r : Result A Error) (l : A → Listing) → IfOk r (λ o. Opens old (l o)) → IfOk r (λ o. (all : List (Item → Bool)) → Progress old all all none (l o))
 progress_begun old (Ok o) l p = progress_start old (l o) p
 progress_begun old (Err e) l p = p
 

@@ -53,20 +53,17 @@ pub record Progress (old : Decoding) (all rest : List (Item → Bool)) (parts : 
       → (js : Items) × (y : List ℕ) × Parts lenient from.state.inherited y js × (is ≡ joined parts js) × (count js ≡ now.left) × (now.state.reading.to_come ≡ Some (y ++ behind)) × (now.state.reading.taken + length y ≡ from.state.reading.taken + length x)
 
 -- Of an item with the fields `all`, which was opened since `old`, all but the fields `rest` were read.
-unfoldable pub HasRead : Decoding → List (Item → Bool) → List (Item → Bool) → Listing → Type 0
-HasRead old all rest now = (parts : Items) × Progress old all rest parts now
-
--- a fact that is told whole: tactics don't look inside, unless they are told to unfold this word
-unfoldable pub Told : Type 0 → Type 0
-Told fact = fact
+pub record HasRead (old : Decoding) (all rest : List (Item → Bool)) (now : Listing) : Type 0 where
+  pub parts : Items
+  pub progress : Progress old all rest parts now
 
 -- one more part was read, of this meaning
 pub record MoreRead (old : Decoding) (all rest : List (Item → Bool)) (parts : Items) (means : Item → Type 0) (now : Listing) : Type 0 where
   pub item : Item
   pub meant : means item
-  pub more : Told (Progress old all rest (and_last parts item) now)
+  pub more : Progress old all rest (and_last parts item) now
 
 -- no item with parts was opened: so a list of any fields is missed
 pub record RefusesParts (buffers : Bool) (old last : Decoding) (e : Error) : Type 0 where
-  pub not_opened : Told (OpensNot list_data buffers old last e)
+  pub not_opened : OpensNot list_data buffers old last e
   pub missed : (fields : List (Item → Bool)) → Missed (takes_fields fields) true buffers old last e

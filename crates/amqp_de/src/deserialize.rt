@@ -41,7 +41,7 @@ impl<R: Read, T: Deserialize<R>> Deserialize<R> for Vec<T> {
     fn deserialize(alloc: Global, de: &mut Deserializer<R>) -> Result<Vec<T>, Error> {
         let mut access = de.deserialize_list()?;
         let mut items = Vec::new(alloc);
-        'items: while let Some(item) = access.next_part(alloc)? {
+        'items: while let Some(item) = access.next_element(alloc)? {
             items.push(item)?;
         }
         access.end()?;

@@ -11,7 +11,7 @@ ghost use Rattle.amqp_de.specs.Decoding.{Decoding};
 ghost use Rattle.amqp_de.specs.Law.{Found, Missed};
 ghost use Rattle.amqp_de.specs.Parse.{list_data};
 ghost use Rattle.amqp_de.specs.Places.{constructor_of, limit_of};
-ghost use Rattle.amqp_de.specs.ReadParts.{Progress, HasRead, Told, MoreRead, RefusesParts, open_list};
+ghost use Rattle.amqp_de.specs.ReadParts.{Progress, HasRead, MoreRead, RefusesParts, open_list};
 ghost use Rattle.amqp_de.specs.Seq.{listing};
 ghost use Rattle.amqp_de.specs.contracts.deserializer.Deserializer.{the_row};
 
@@ -92,7 +92,7 @@ impl<R: Read> Deserializer<R> {
         ensures err { IfErr result (λ e. OpensNot list_data R.buffers self.old self.new e) }
         ensures missed { IfErr result (λ e. RefusesParts R.buffers self.old self.new e) }
         ensures reads { IfOk result (λ o. (all : List (Item → Bool)) → HasRead self.old all all (record { state = self.new; left = o.left; answers = true; outer = constructor_of o.beyond.outer; limit = limit_of o.beyond.limit })) }
-        ensures progress { IfOk result (λ o. (all : List (Item → Bool)) → Told (Progress self.old all all none (record { state = self.new; left = o.left; answers = true; outer = constructor_of o.beyond.outer; limit = limit_of o.beyond.limit }))) }
+        ensures progress { IfOk result (λ o. (all : List (Item → Bool)) → Progress self.old all all none (record { state = self.new; left = o.left; answers = true; outer = constructor_of o.beyond.outer; limit = limit_of o.beyond.limit })) }
     {
         self.begin_list()
     }
@@ -146,9 +146,9 @@ impl<'a, R: Read> ListAccess<'a, R> {
         ensures kept_outer { constructor_of self.new.beyond.outer ≡ constructor_of self.old.beyond.outer }
         ensures kept_limit { limit_of self.new.beyond.limit ≡ limit_of self.old.beyond.limit }
         ensures closed { self.old.de.now.answers ≡ false → self.new.de.now.answers ≡ false }
-        ensures next { Told (Next T.takes T.means (T.grows || R.buffers) R.buffers (listing self.old) result (listing self.new)) }
+        ensures next { Next T.takes T.means (T.grows || R.buffers) R.buffers (listing self.old) result (listing self.new) }
         ensures reads { IfOk result (λ o. (v : T) → o ≡ Some v → (old : Decoding) (all rest : List (Item → Bool)) → HasRead old all (T.takes ∷ rest) (open_list self.old) → HasRead old all rest (open_list self.new)) }
-        ensures part { IfOk result (λ o. (v : T) → o ≡ Some v → (old : Decoding) (all rest : List (Item → Bool)) (parts : Items) → Told (Progress old all (T.takes ∷ rest) parts (open_list self.old)) →
+        ensures part { IfOk result (λ o. (v : T) → o ≡ Some v → (old : Decoding) (all rest : List (Item → Bool)) (parts : Items) → Progress old all (T.takes ∷ rest) parts (open_list self.old) →
             MoreRead old all rest parts (λ i. T.means i v) (open_list self.new)) }
         ensures too_few { IfOk result (λ o. o ≡ None → (old : Decoding) (all rest : List (Item → Bool)) → HasRead old all (T.takes ∷ rest) (open_list self.old) →
             Missed (takes_fields all) true R.buffers old self.new.de.now SequenceLengthMismatch) }
@@ -159,7 +159,7 @@ impl<'a, R: Read> ListAccess<'a, R> {
     }
 
     #[inline(always)]
-    pub(crate) fn next_part<T: Deserialize<R>>(&mut self, alloc: Global) -> Result<Option<T>, Error>
+    fn next_part<T: Deserialize<R>>(&mut self, alloc: Global) -> Result<Option<T>, Error>
         ensures same_reference { self.new.de.ghost_name ≡ self.old.de.ghost_name }
         ensures kept_outer { constructor_of self.new.beyond.outer ≡ constructor_of self.old.beyond.outer }
         ensures kept_limit { limit_of self.new.beyond.limit ≡ limit_of self.old.beyond.limit }
@@ -195,7 +195,7 @@ impl<'a, R: Read> ListAccess<'a, R> {
     #[inline(always)]
     pub fn end(self) -> Result<(), Error>
         ensures ends { Ends (listing self.entry) result self.exit.0.now }
-        ensures found { OnOk result ((old : Decoding) (all : List (Item → Bool)) (parts : Items) → Told (Progress old all [] parts (open_list self.entry)) → Found (takes_fields all) (λ i. HasParts i parts) old self.exit.0.now) }
+        ensures found { OnOk result ((old : Decoding) (all : List (Item → Bool)) (parts : Items) → Progress old all [] parts (open_list self.entry) → Found (takes_fields all) (λ i. HasParts i parts) old self.exit.0.now) }
         ensures missed { IfErr result (λ e. (old : Decoding) (all : List (Item → Bool)) → HasRead old all [] (open_list self.entry) → Missed (takes_fields all) true R.buffers old self.exit.0.now e) }
     {
         let ListAccess {

@@ -6,7 +6,7 @@ ghost use Rattle.amqp_de.specs.Access.{Listing, Next, Ends, Opens, OpensExactly,
 ghost use Rattle.amqp_base.specs.Item.{Item, Items, none};
 ghost use Rattle.amqp_de.specs.Decoding.{Decoding};
 ghost use Rattle.amqp_de.specs.Parse.{list_data};
-ghost use Rattle.amqp_de.specs.ReadParts.{Progress, HasRead, Told, RefusesParts, open_list, open_seq};
+ghost use Rattle.amqp_de.specs.ReadParts.{Progress, HasRead, RefusesParts, open_list, open_seq};
 ghost use Rattle.amqp_de.specs.Seq.{listing, lender_of, seq_listing};
 ghost use Rattle.amqp_de.specs.contracts.deserializer.Deserializer.{the_row};
 
@@ -30,10 +30,10 @@ impl<R: Read> Deserializer<R> {
     pub fn deserialize_seq(&mut self, alloc: Global) -> Result<SeqAccess<'_, R>, Error>
         ensures* refused { sem 𝓛 (RestsIfErr (the_row R.row R.Read) self.entry (λ a. (lender_of a).ghost_name) result (λ last. IfErr result (λ e. RefusesParts R.buffers self.old last e))) }
         ensures same_reference { IfOk result (λ a. (lender_of a).ghost_name ≡ self.entry.ghost_name) }
-        ensures opened { IfOk result (λ a. Told (Opens self.old (seq_listing a))) }
-        ensures exact { IfOk result (λ a. Told (OpensExactly list_data self.old (seq_listing a))) }
+        ensures opened { IfOk result (λ a. Opens self.old (seq_listing a)) }
+        ensures exact { IfOk result (λ a. OpensExactly list_data self.old (seq_listing a)) }
         ensures reads { IfOk result (λ a. (all : List (Item → Bool)) → HasRead self.old all all (open_seq a)) }
-        ensures progress { IfOk result (λ a. (all : List (Item → Bool)) → Told (Progress self.old all all none (open_seq a))) }
+        ensures progress { IfOk result (λ a. (all : List (Item → Bool)) → Progress self.old all all none (open_seq a)) }
     {
         let _ = alloc;
         let opened = self.open_list()?;
@@ -52,7 +52,7 @@ impl<'a, R: Read> SeqAccess<'a, R> {
     pub fn next_element<T: Deserialize<R>>(&mut self, alloc: Global) -> Result<Option<T>, Error>
         ensures same_reference { (lender_of self.new).ghost_name ≡ (lender_of self.old).ghost_name }
         ensures closed { (lender_of self.old).now.answers ≡ false → (lender_of self.new).now.answers ≡ false }
-        ensures next { Told (Next T.takes T.means (T.grows || R.buffers) R.buffers (seq_listing self.old) result (seq_listing self.new)) }
+        ensures next { Next T.takes T.means (T.grows || R.buffers) R.buffers (seq_listing self.old) result (seq_listing self.new) }
     {
         match self {
             SeqAccess::List(list) => list.next_element(alloc),
@@ -78,7 +78,7 @@ impl<'a, R: Read> SeqAccess<'a, R> {
         ensures same_reference { result.de.ghost_name ≡ (lender_of self.entry).ghost_name }
         ensures value { listing result ≡ seq_listing self.entry }
         ensures reads { (old : Decoding) (all rest : List (Item → Bool)) → HasRead old all rest (open_seq self.entry) → HasRead old all rest (open_list result) }
-        ensures progress { (old : Decoding) (all rest : List (Item → Bool)) (parts : Items) → Told (Progress old all rest parts (open_seq self.entry)) → Told (Progress old all rest parts (open_list result)) }
+        ensures progress { (old : Decoding) (all rest : List (Item → Bool)) (parts : Items) → Progress old all rest parts (open_seq self.entry) → Progress old all rest parts (open_list result) }
     {
         match self {
             SeqAccess::List(list) => list,
