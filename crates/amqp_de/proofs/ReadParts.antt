@@ -1,5 +1,5 @@
 -- Reading an item part by part, each part by a type of its own.
-use Rattle.std.proofs.Common.{◌≡◌, ℕ, suc, ◌+◌, ◌*◌, ◌<◌, ◌≤◌, min, Bool, true, false, ◌&&◌, List, [], ◌∷◌, ◌++◌, length, Option, Some, None, Result, Ok, Err, IfOk, IfErr, OnOk, refl, sym, ap, subst, ◌∙◌, arith, inl, inr, ◌⊎◌, append_assoc, IsTrue}
+use Rattle.std.proofs.Common.{◌≡◌, ℕ, suc, ◌+◌, ◌*◌, ◌<◌, ◌≤◌, min, Bool, true, false, ◌&&◌, List, [], ◌∷◌, ◌++◌, length, Option, Some, None, Result, Ok, Err, IfOk, IfErr, IsErrAnd, OnOk, refl, sym, ap, subst, ◌∙◌, arith, inl, inr, ◌⊎◌, append_assoc, IsTrue}
 use Rattle.std.proofs.lemmas.List.{length-append, append-nil}
 use Rattle.amqp_base.specs.declared.error.Error.{Error}
 use Rattle.amqp_base.specs.declared.error.Error.TheVariants.{InvalidValue, SequenceLengthMismatch}
@@ -319,3 +319,8 @@ missed_at last x l m = rw l m
 
 pub found_at : {takes : Item → Bool} {means : Item → Type 0} {old : Decoding} (last x : Decoding) → last ≡ x → Found takes means old x → Found takes means old last
 found_at last x l m = rw l m
+
+-- a refusal that `?` passes on
+pub missed_on : {A : Type 0} {takes : Item → Bool} {grows buffers : Bool} {old : Decoding} {e : Error} (r : Result A Error) (last x : Decoding) → IsErrAnd r (λ y. y ≡ e) → last ≡ x → Missed takes grows buffers old x e → IfErr r (λ y. Missed takes grows buffers old last y)
+missed_on (Ok v) last x h l m = absurd h
+missed_on (Err y) last x h l m = rw (h, l) m
