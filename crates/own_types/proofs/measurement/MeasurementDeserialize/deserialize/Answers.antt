@@ -13,29 +13,29 @@ returns-in_err-deserialize_seq-clause-err g c =
 pub returns-in_err-amount-clause-err : goal.returns-in_err-amount-clause-err
 returns-in_err-amount-clause-err g c =
     missed_on _ _ _ c.from_residual-in_err-amount.ensures.1 (search rules)
-      (c.in_err-amount.ensures.missed _ _ _ (c.into_elements-list.ensures.reads _ _ _ (c.in_ok-deserialize_seq.ensures.reads _)))
+    (c.in_err-amount.ensures.missed _ _ _ (c.into_elements-list.ensures.reads _ _ _ (c.in_ok-deserialize_seq.ensures.reads _)))
 
 pub returns-in_default-clause-err : goal.returns-in_default-clause-err
 returns-in_default-clause-err g c =
     missed_at _ _ (search rules)
-      (c.in_ok-amount.ensures.too_few c.in_default.is _ _ _ (c.into_elements-list.ensures.reads _ _ _ (c.in_ok-deserialize_seq.ensures.reads _)))
+    (c.in_ok-amount.ensures.too_few c.in_default.is _ _ _ (c.into_elements-list.ensures.reads _ _ _ (c.in_ok-deserialize_seq.ensures.reads _)))
 
 -- unit
 pub returns-in_err-unit-clause-err : goal.returns-in_err-unit-clause-err
 returns-in_err-unit-clause-err g c =
     missed_on _ _ _ c.from_residual-in_err-unit.ensures.1 (search rules)
-      (c.in_err-unit.ensures.missed _ _ _ (c.in_ok-amount.ensures.reads _ c.in-Some.is _ _ _ (c.into_elements-list.ensures.reads _ _ _ (c.in_ok-deserialize_seq.ensures.reads _))))
+    (c.in_err-unit.ensures.missed _ _ _ (c.in_ok-amount.ensures.reads _ c.in-Some.is _ _ _ (c.into_elements-list.ensures.reads _ _ _ (c.in_ok-deserialize_seq.ensures.reads _))))
 
 pub returns-in_default-2-clause-err : goal.returns-in_default-2-clause-err
 returns-in_default-2-clause-err g c =
     missed_at _ _ (search rules)
-      (c.in_ok-unit.ensures.too_few c.in_default-2.is _ _ _ (c.in_ok-amount.ensures.reads _ c.in-Some.is _ _ _ (c.into_elements-list.ensures.reads _ _ _ (c.in_ok-deserialize_seq.ensures.reads _))))
+    (c.in_ok-unit.ensures.too_few c.in_default-2.is _ _ _ (c.in_ok-amount.ensures.reads _ c.in-Some.is _ _ _ (c.into_elements-list.ensures.reads _ _ _ (c.in_ok-deserialize_seq.ensures.reads _))))
 
 -- the end
 pub returns-in_err-end-clause-err : goal.returns-in_err-end-clause-err
 returns-in_err-end-clause-err g c =
     missed_on _ _ _ c.from_residual-in_err-end.ensures.1 (search rules)
-      (c.in_err-end.ensures.missed _ _ (c.in_ok-unit.ensures.reads _ c.in-Some-2.is _ _ _ (c.in_ok-amount.ensures.reads _ c.in-Some.is _ _ _ (c.into_elements-list.ensures.reads _ _ _ (c.in_ok-deserialize_seq.ensures.reads _)))))
+    (c.in_err-end.ensures.missed _ _ (c.in_ok-unit.ensures.reads _ c.in-Some-2.is _ _ _ (c.in_ok-amount.ensures.reads _ c.in-Some.is _ _ _ (c.into_elements-list.ensures.reads _ _ _ (c.in_ok-deserialize_seq.ensures.reads _)))))
 
 -- the value
 pub returns-clause-ok : goal.returns-clause-ok
