@@ -8,4 +8,5 @@ pub mod Sized
 pub mod Headers
 pub mod Opening
 pub mod Sequence
+pub mod ReadParts
 pub mod Looking

@@ -17,18 +17,18 @@ use Rattle.amqp_de.specs.Access.{Listing, Within, HasParts, items_of_all, cost, 
 use Rattle.amqp_de.proofs.Readings.{takes_nothing, steady_then, takes_then, behind, excused_before, excused_more}
 use Rattle.amqp_de.proofs.Answered.{free_refused, one_refused}
 
-both : (a b : Bool) → IsTrue a → IsTrue b → IsTrue (a && b)
+pub both : (a b : Bool) → IsTrue a → IsTrue b → IsTrue (a && b)
 both a b p q = rw (p, q) refl
 
-left_of : (a b : Bool) → IsTrue (a && b) → IsTrue a
+pub left_of : (a b : Bool) → IsTrue (a && b) → IsTrue a
 left_of true b p = refl
 left_of false b p = absurd cc
 
-right_of : (a b : Bool) → IsTrue (a && b) → IsTrue b
+pub right_of : (a b : Bool) → IsTrue (a && b) → IsTrue b
 right_of true b p = p
 right_of false b p = absurd cc
 
-within_less : (l : Option ℕ) (m n : ℕ) → m ≤ n → Within l n → Within l m
+pub within_less : (l : Option ℕ) (m n : ℕ) → m ≤ n → Within l n → Within l m
 within_less None m n h w = tt
 within_less (Some x) m n h w = omega (arith, h, w)
 
@@ -51,12 +51,12 @@ under_is (under_pair d e) = refl
 pub stands_is : (d : Decoding) → d.described ≡ false → stands_under d ≡ d.inherited
 stands_is d h = ap (λ (b : Bool). behind_descriptor d.inherited b) h ∙ under_is d.inherited
 
-cost_step : (c : Constructor) (n : ℕ) → cost c (suc n) ≡ free c + cost c n
+pub cost_step : (c : Constructor) (n : ℕ) → cost c (suc n) ≡ free c + cost c n
 cost_step bare n = refl
 cost_step (under e) n = omega arith
 cost_step (under_pair d e) n = omega arith
 
-refused_two : (c : Constructor) → refused_free c ≤ 2
+pub refused_two : (c : Constructor) → refused_free c ≤ 2
 refused_two bare = omega arith
 refused_two (under e) = omega arith
 refused_two (under_pair d e) = omega arith
@@ -170,7 +170,7 @@ meant_of means (scalar v) js vs p t = absurd p
 meant_of means (map ps) js vs p t = absurd p
 meant_of means (described d v) js vs p t = absurd p
 
-within_all : (l : Option ℕ) (m n : ℕ) → m ≡ n → Within l n → Within l m
+pub within_all : (l : Option ℕ) (m n : ℕ) → m ≡ n → Within l n → Within l m
 within_all l m n e w = rw e w
 
 -- no list was opened

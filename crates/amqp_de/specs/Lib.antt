@@ -5,4 +5,5 @@ pub mod Steps
 pub mod Places
 pub mod Access
 pub mod Seq
+pub mod ReadParts
 pub mod Look

@@ -1,5 +1,5 @@
 //! Reading values from the wire.
-#![tactic(auto)]
+#![tactic(auto, unfolding(crate::specs::ReadParts::open_list, crate::specs::ReadParts::open_seq))]
 
 mod any;
 mod constructor;

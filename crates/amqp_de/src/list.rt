@@ -1,12 +1,17 @@
 //! The parts of a list, one at a time.
 
-ghost use Rattle.std.specs.Prelude.{◌≡◌, ℕ, ◌+◌, Bool, true, false, ◌||◌, None, IsTrue, OnOk, Ok, Err, IfOk, IfErr};
+ghost use Rattle.std.specs.Prelude.{◌≡◌, ℕ, ◌+◌, Bool, true, false, ◌||◌, Option, Some, None, List, [], ◌∷◌, IsTrue, OnOk, Ok, Err, IfOk, IfErr};
 ghost use Rattle.std.specs.Borrow.{sem, RestsIfErr};
+ghost use Rattle.amqp_base.specs.Item.{Item, Items, none};
+ghost use Rattle.amqp_base.specs.Fields.{takes_fields};
+ghost use Rattle.amqp_base.specs.declared.error.Error.TheVariants.{SequenceLengthMismatch};
 ghost use Rattle.amqp_base.specs.Wire.{bare};
-ghost use Rattle.amqp_de.specs.Access.{Listing, Within, Next, Ends, Opens, OpensExactly, OpensNot, shut};
+ghost use Rattle.amqp_de.specs.Access.{Listing, Within, HasParts, Next, Ends, Opens, OpensExactly, OpensNot, shut};
 ghost use Rattle.amqp_de.specs.Decoding.{Decoding};
+ghost use Rattle.amqp_de.specs.Law.{Found, Missed};
 ghost use Rattle.amqp_de.specs.Parse.{list_data};
 ghost use Rattle.amqp_de.specs.Places.{constructor_of, limit_of};
+ghost use Rattle.amqp_de.specs.ReadParts.{Progress, HasRead, MoreRead, RefusesParts, open_list};
 ghost use Rattle.amqp_de.specs.Seq.{listing};
 ghost use Rattle.amqp_de.specs.contracts.deserializer.Deserializer.{the_row};
 
@@ -85,6 +90,18 @@ impl<R: Read> Deserializer<R> {
         ensures ok { IfOk result (λ o. Opens self.old (record { state = self.new; left = o.left; answers = true; outer = constructor_of o.beyond.outer; limit = limit_of o.beyond.limit })) }
         ensures exact { IfOk result (λ o. OpensExactly list_data self.old (record { state = self.new; left = o.left; answers = true; outer = constructor_of o.beyond.outer; limit = limit_of o.beyond.limit })) }
         ensures err { IfErr result (λ e. OpensNot list_data R.buffers self.old self.new e) }
+        ensures missed { IfErr result (λ e. RefusesParts R.buffers self.old self.new e) }
+        ensures reads { IfOk result (λ o. (all : List (Item → Bool)) → HasRead self.old all all (record { state = self.new; left = o.left; answers = true; outer = constructor_of o.beyond.outer; limit = limit_of o.beyond.limit })) }
+        ensures progress { IfOk result (λ o. (all : List (Item → Bool)) → Progress self.old all all none (record { state = self.new; left = o.left; answers = true; outer = constructor_of o.beyond.outer; limit = limit_of o.beyond.limit })) }
+    {
+        self.begin_list()
+    }
+
+    #[inline(always)]
+    fn begin_list(&mut self) -> Result<Opened, Error>
+        ensures ok { IfOk result (λ o. Opens self.old (record { state = self.new; left = o.left; answers = true; outer = constructor_of o.beyond.outer; limit = limit_of o.beyond.limit })) }
+        ensures exact { IfOk result (λ o. OpensExactly list_data self.old (record { state = self.new; left = o.left; answers = true; outer = constructor_of o.beyond.outer; limit = limit_of o.beyond.limit })) }
+        ensures err { IfErr result (λ e. OpensNot list_data R.buffers self.old self.new e) }
     {
         if !self.answers {
             return Err(Error::InvalidValue);
@@ -130,6 +147,24 @@ impl<'a, R: Read> ListAccess<'a, R> {
         ensures kept_limit { limit_of self.new.beyond.limit ≡ limit_of self.old.beyond.limit }
         ensures closed { self.old.de.now.answers ≡ false → self.new.de.now.answers ≡ false }
         ensures next { Next T.takes T.means (T.grows || R.buffers) R.buffers (listing self.old) result (listing self.new) }
+        ensures reads { IfOk result (λ o. (v : T) → o ≡ Some v → (old : Decoding) (all rest : List (Item → Bool)) → HasRead old all (T.takes ∷ rest) (open_list self.old) → HasRead old all rest (open_list self.new)) }
+        ensures part { IfOk result (λ o. (v : T) → o ≡ Some v → (old : Decoding) (all rest : List (Item → Bool)) (parts : Items) → Progress old all (T.takes ∷ rest) parts (open_list self.old) →
+            MoreRead old all rest parts (λ i. T.means i v) (open_list self.new)) }
+        ensures too_few { IfOk result (λ o. o ≡ None → (old : Decoding) (all rest : List (Item → Bool)) → HasRead old all (T.takes ∷ rest) (open_list self.old) →
+            Missed (takes_fields all) true R.buffers old self.new.de.now SequenceLengthMismatch) }
+        ensures missed { IfErr result (λ e. (old : Decoding) (all rest : List (Item → Bool)) → HasRead old all (T.takes ∷ rest) (open_list self.old) →
+            Missed (takes_fields all) true R.buffers old self.new.de.now e) }
+    {
+        self.next_part(alloc)
+    }
+
+    #[inline(always)]
+    fn next_part<T: Deserialize<R>>(&mut self, alloc: Global) -> Result<Option<T>, Error>
+        ensures same_reference { self.new.de.ghost_name ≡ self.old.de.ghost_name }
+        ensures kept_outer { constructor_of self.new.beyond.outer ≡ constructor_of self.old.beyond.outer }
+        ensures kept_limit { limit_of self.new.beyond.limit ≡ limit_of self.old.beyond.limit }
+        ensures closed { self.old.de.now.answers ≡ false → self.new.de.now.answers ≡ false }
+        ensures next { Next T.takes T.means (T.grows || R.buffers) R.buffers (listing self.old) result (listing self.new) }
     {
         if !self.answers {
             return Err(Error::InvalidValue);
@@ -159,7 +194,9 @@ impl<'a, R: Read> ListAccess<'a, R> {
     /// `InvalidValue` after a refusal; then the deserializer is ended too.
     #[inline(always)]
     pub fn end(self) -> Result<(), Error>
-        ensures { Ends (listing self.entry) result self.exit.0.now }
+        ensures ends { Ends (listing self.entry) result self.exit.0.now }
+        ensures found { OnOk result ((old : Decoding) (all : List (Item → Bool)) (parts : Items) → Progress old all [] parts (open_list self.entry) → Found (takes_fields all) (λ i. HasParts i parts) old self.exit.0.now) }
+        ensures missed { IfErr result (λ e. (old : Decoding) (all : List (Item → Bool)) → HasRead old all [] (open_list self.entry) → Missed (takes_fields all) true R.buffers old self.exit.0.now e) }
     {
         let ListAccess {
             de,

@@ -1,9 +1,12 @@
 //! Sequences, in whichever form they stand.
 
-ghost use Rattle.std.specs.Prelude.{◌≡◌, Bool, true, false, ◌||◌, Ok, Err, IfOk, IfErr};
+ghost use Rattle.std.specs.Prelude.{◌≡◌, List, Bool, true, false, ◌||◌, Ok, Err, IfOk, IfErr};
 ghost use Rattle.std.specs.Borrow.{sem, RestsIfErr};
-ghost use Rattle.amqp_de.specs.Access.{Listing, Next, Ends, Opens, OpensExactly, OpensNot, shut};
+ghost use Rattle.amqp_de.specs.Access.{Listing, Next, Ends, Opens, OpensExactly, shut};
+ghost use Rattle.amqp_base.specs.Item.{Item, Items, none};
+ghost use Rattle.amqp_de.specs.Decoding.{Decoding};
 ghost use Rattle.amqp_de.specs.Parse.{list_data};
+ghost use Rattle.amqp_de.specs.ReadParts.{Progress, HasRead, RefusesParts, open_list, open_seq};
 ghost use Rattle.amqp_de.specs.Seq.{listing, lender_of, seq_listing};
 ghost use Rattle.amqp_de.specs.contracts.deserializer.Deserializer.{the_row};
 
@@ -25,10 +28,12 @@ impl<R: Read> Deserializer<R> {
     /// and the refusals of the header. A refusal ends the deserializer.
     #[inline(always)]
     pub fn deserialize_seq(&mut self, alloc: Global) -> Result<SeqAccess<'_, R>, Error>
-        ensures* refused { sem 𝓛 (RestsIfErr (the_row R.row R.Read) self.entry (λ a. (lender_of a).ghost_name) result (λ last. IfErr result (λ e. OpensNot list_data R.buffers self.old last e))) }
+        ensures* refused { sem 𝓛 (RestsIfErr (the_row R.row R.Read) self.entry (λ a. (lender_of a).ghost_name) result (λ last. IfErr result (λ e. RefusesParts R.buffers self.old last e))) }
         ensures same_reference { IfOk result (λ a. (lender_of a).ghost_name ≡ self.entry.ghost_name) }
         ensures opened { IfOk result (λ a. Opens self.old (seq_listing a)) }
         ensures exact { IfOk result (λ a. OpensExactly list_data self.old (seq_listing a)) }
+        ensures reads { IfOk result (λ a. (all : List (Item → Bool)) → HasRead self.old all all (open_seq a)) }
+        ensures progress { IfOk result (λ a. (all : List (Item → Bool)) → Progress self.old all all none (open_seq a)) }
     {
         let _ = alloc;
         let opened = self.open_list()?;
@@ -72,6 +77,8 @@ impl<'a, R: Read> SeqAccess<'a, R> {
     pub fn into_elements(self) -> ListAccess<'a, R>
         ensures same_reference { result.de.ghost_name ≡ (lender_of self.entry).ghost_name }
         ensures value { listing result ≡ seq_listing self.entry }
+        ensures reads { (old : Decoding) (all rest : List (Item → Bool)) → HasRead old all rest (open_seq self.entry) → HasRead old all rest (open_list result) }
+        ensures progress { (old : Decoding) (all rest : List (Item → Bool)) (parts : Items) → Progress old all rest parts (open_seq self.entry) → Progress old all rest parts (open_list result) }
     {
         match self {
             SeqAccess::List(list) => list,

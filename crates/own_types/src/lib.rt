@@ -1,4 +1,4 @@
-//! Types of one's own, written by the public contracts alone.
+//! Types of one's own, written and read by the public contracts alone.
 #![tactic(auto)]
 
 mod measurement;

@@ -1,6 +1,8 @@
 //! A struct.
 
 use amqp_base::{Error, Sink, Typed};
+use amqp_de::{Deserialize, Deserializer};
+use amqp_read::Read;
 use amqp_ser::{Serialize, Serializer};
 use std::alloc::Global;
 
@@ -16,7 +18,7 @@ pub struct Measurement {
 impl Typed for Measurement {
     ghost use Rattle.std.specs.Prelude.{◌∷◌, [], true, refl};
     ghost use Rattle.amqp_base.specs.Shapes.{whole};
-    ghost use Rattle.amqp_base.specs.Fields.{takes_fields, means_fields, field, no_more, one_fields, one_more, one_last};
+    ghost use Rattle.amqp_base.specs.Fields.{takes_fields, means_fields, field, one_fields, one_more, one_last};
     ghost use Rattle.amqp_base.specs.declared.shape.Shape.{Shape};
     ghost use Rattle.amqp_base.specs.declared.shape.Setting.TheVariants.{Plain};
 
@@ -24,7 +26,7 @@ impl Typed for Measurement {
 
     ghost takes = { takes_fields (⟦<u32 as Typed>⟧.takes ∷ ⟦<String as Typed>⟧.takes ∷ []) };
 
-    ghost means = { λ i v. means_fields (field ⟦<u32 as Typed>⟧.means v.amount (field ⟦<String as Typed>⟧.means v.unit no_more)) i };
+    ghost means = { λ i v. means_fields (field ⟦<u32 as Typed>⟧.means v.amount ∷ field ⟦<String as Typed>⟧.means v.unit ∷ []) i };
 
     ghost same = { λ v w. ⟦<u32 as Typed>⟧.same v.amount w.amount × ⟦<String as Typed>⟧.same v.unit w.unit };
 
@@ -34,7 +36,7 @@ impl Typed for Measurement {
 
     ghost in_described_basic = { λ _. refl };
 
-    ghost one_value = { λ i v w. one_fields (one_more ⟦<u32 as Typed>⟧.one_value v.amount w.amount (one_last ⟦<String as Typed>⟧.one_value v.unit w.unit)) i };
+    ghost one_value = { λ i v w. one_fields _ _ (one_more _ _ ⟦<u32 as Typed>⟧.one_value v.amount w.amount (one_last ⟦<String as Typed>⟧.one_value v.unit w.unit)) i };
 }
 
 impl Serialize for Measurement {
@@ -43,5 +45,19 @@ impl Serialize for Measurement {
         seq.serialize_element(alloc, &self.amount)?;
         seq.serialize_element(alloc, &self.unit)?;
         seq.end()
+    }
+}
+
+impl<R: Read> Deserialize<R> for Measurement {
+    fn deserialize(alloc: Global, de: &mut Deserializer<R>) -> Result<Measurement, Error> {
+        let mut list = de.deserialize_seq(alloc)?.into_elements();
+        let Some(amount) = list.next_element(alloc)? else {
+            return Err(Error::SequenceLengthMismatch);
+        };
+        let Some(unit) = list.next_element(alloc)? else {
+            return Err(Error::SequenceLengthMismatch);
+        };
+        list.end()?;
+        Ok(Measurement { amount, unit })
     }
 }

@@ -1,6 +1,8 @@
 //! Newtypes, each written as what it holds.
 
 use amqp_base::{Error, Sink, Typed};
+use amqp_de::{Deserialize, Deserializer};
+use amqp_read::Read;
 use amqp_ser::{Serialize, Serializer};
 use std::alloc::Global;
 
@@ -32,6 +34,12 @@ impl Serialize for Tags {
     }
 }
 
+impl<R: Read> Deserialize<R> for Tags {
+    fn deserialize(alloc: Global, de: &mut Deserializer<R>) -> Result<Tags, Error> {
+        Ok(Tags(de.deserialize_newtype_struct(alloc, "Tags")?))
+    }
+}
+
 /// A temperature in degrees, as an int.
 #[derive(Drop)]
 pub struct Celsius(pub i32);
@@ -57,5 +65,11 @@ impl Typed for Celsius {
 impl Serialize for Celsius {
     fn serialize<W: Sink>(&self, alloc: Global, ser: &mut Serializer<W>) -> Result<(), Error> {
         ser.serialize_i32(alloc, self.0)
+    }
+}
+
+impl<R: Read> Deserialize<R> for Celsius {
+    fn deserialize(_alloc: Global, de: &mut Deserializer<R>) -> Result<Celsius, Error> {
+        Ok(Celsius(de.deserialize_i32()?))
     }
 }

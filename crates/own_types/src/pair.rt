@@ -1,6 +1,8 @@
 //! A generic struct.
 
 use amqp_base::{Error, Sink, Typed};
+use amqp_de::{Deserialize, Deserializer};
+use amqp_read::Read;
 use amqp_ser::{Serialize, Serializer};
 use std::alloc::Global;
 
@@ -16,7 +18,7 @@ pub struct Pair<A, B> {
 impl<A: Typed, B: Typed> Typed for Pair<A, B> {
     ghost use Rattle.std.specs.Prelude.{◌∷◌, [], true, refl};
     ghost use Rattle.amqp_base.specs.Shapes.{whole};
-    ghost use Rattle.amqp_base.specs.Fields.{takes_fields, means_fields, field, no_more, one_fields, one_more, one_last};
+    ghost use Rattle.amqp_base.specs.Fields.{takes_fields, means_fields, field, one_fields, one_more, one_last};
     ghost use Rattle.amqp_base.specs.declared.shape.Shape.{Shape};
     ghost use Rattle.amqp_base.specs.declared.shape.Setting.TheVariants.{Plain};
 
@@ -24,7 +26,7 @@ impl<A: Typed, B: Typed> Typed for Pair<A, B> {
 
     ghost takes = { takes_fields (A.takes ∷ B.takes ∷ []) };
 
-    ghost means = { λ i v. means_fields (field A.means v.first (field B.means v.second no_more)) i };
+    ghost means = { λ i v. means_fields (field A.means v.first ∷ field B.means v.second ∷ []) i };
 
     ghost same = { λ v w. A.same v.first w.first × B.same v.second w.second };
 
@@ -34,7 +36,7 @@ impl<A: Typed, B: Typed> Typed for Pair<A, B> {
 
     ghost in_described_basic = { λ _. refl };
 
-    ghost one_value = { λ i v w. one_fields (one_more A.one_value v.first w.first (one_last B.one_value v.second w.second)) i };
+    ghost one_value = { λ i v w. one_fields _ _ (one_more _ _ A.one_value v.first w.first (one_last B.one_value v.second w.second)) i };
 }
 
 impl<A: Serialize, B: Serialize> Serialize for Pair<A, B> {
@@ -43,5 +45,19 @@ impl<A: Serialize, B: Serialize> Serialize for Pair<A, B> {
         seq.serialize_element(alloc, &self.first)?;
         seq.serialize_element(alloc, &self.second)?;
         seq.end()
+    }
+}
+
+impl<R: Read, A: Deserialize<R>, B: Deserialize<R>> Deserialize<R> for Pair<A, B> {
+    fn deserialize(alloc: Global, de: &mut Deserializer<R>) -> Result<Pair<A, B>, Error> {
+        let mut list = de.deserialize_seq(alloc)?.into_elements();
+        let Some(first) = list.next_element(alloc)? else {
+            return Err(Error::SequenceLengthMismatch);
+        };
+        let Some(second) = list.next_element(alloc)? else {
+            return Err(Error::SequenceLengthMismatch);
+        };
+        list.end()?;
+        Ok(Pair { first, second })
     }
 }

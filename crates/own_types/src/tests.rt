@@ -1,7 +1,9 @@
-//! The bytes of types of one's own.
+//! The bytes of types of one's own, and what is read from them.
 
 use crate::{Celsius, Measurement, Pair, Tags};
 use amqp_base::Error;
+use amqp_de::{Deserialize, Deserializer};
+use amqp_read::SliceReader;
 use amqp_ser::{Serialize, Serializer};
 use std::alloc::Global;
 use std::test::Fail;
@@ -46,5 +48,66 @@ fn own_types(rt: HostRuntime) -> Result<(), Fail> {
         written(alloc, &pair)?.as_slice(),
         b"\xc0\x16\x02\xc0\x04\x02\x43\x54\x01\xc0\x0d\x01\xc0\x0a\x02\x70\x00\x00\x01\x2c\xa1\x02kg".as_slice()
     );
+    Ok(())
+}
+
+fn read<'s, T: Deserialize<SliceReader<'s>>>(alloc: Global, bytes: &'s [u8]) -> Result<T, Error> {
+    let mut de = Deserializer::new(SliceReader::new(bytes));
+    T::deserialize(alloc, &mut de)
+}
+
+/// What comes of reading these bytes as a `Measurement`.
+fn outcome(alloc: Global, bytes: &[u8]) -> &'static str {
+    match read::<Measurement>(alloc, bytes) {
+        Ok(_) => "read",
+        Err(Error::SequenceLengthMismatch) => "length",
+        Err(Error::InvalidFormatCode) => "code",
+        Err(_) => "another refusal",
+    }
+}
+
+/// The tags that are read from these bytes, written.
+fn tags_again(alloc: Global, bytes: &[u8]) -> Result<Vec<u8>, Error> {
+    let tags = read::<Tags>(alloc, bytes)?;
+    written(alloc, &tags)
+}
+
+/// The pair that is read from these bytes, written.
+fn pair_again(alloc: Global, bytes: &[u8]) -> Result<Vec<u8>, Error> {
+    let pair = read::<Pair<Pair<u32, Celsius>, Vec<Measurement>>>(alloc, bytes)?;
+    written(alloc, &pair)
+}
+
+#[test]
+fn own_types_are_read_back(rt: HostRuntime) -> Result<(), Fail> {
+    let alloc = rt.alloc();
+    let bytes = b"\xc0\x0a\x02\x70\x00\x00\x01\x2c\xa1\x02kg";
+    let weight = read::<Measurement>(alloc, bytes)?;
+    assert_eq!(rt; weight.amount, 300);
+    assert_eq!(rt; weight.unit.as_str(), "kg");
+    assert_eq!(rt; read::<Celsius>(alloc, b"\x54\xfe")?.0, -2);
+    let bytes = b"\xc0\x07\x02\xa1\x01a\xa1\x01b";
+    assert_eq!(rt; tags_again(alloc, bytes)?.as_slice(), bytes.as_slice());
+    let bytes =
+        b"\xc0\x16\x02\xc0\x04\x02\x43\x54\x01\xc0\x0d\x01\xc0\x0a\x02\x70\x00\x00\x01\x2c\xa1\x02kg";
+    assert_eq!(rt; pair_again(alloc, bytes)?.as_slice(), bytes.as_slice());
+    Ok(())
+}
+
+#[test]
+fn other_items_are_refused(rt: HostRuntime) -> Result<(), Fail> {
+    let alloc = rt.alloc();
+    // no element, one, three
+    assert_eq!(rt; outcome(alloc, b"\x45"), "length");
+    assert_eq!(rt; outcome(alloc, b"\xc0\x03\x01\x52\x07"), "length");
+    assert_eq!(rt;
+        outcome(alloc, b"\xc0\x07\x03\x52\x07\xa1\x01m\x43"),
+        "length"
+    );
+    // another kind than a list, an amount that is a string, a unit that is a symbol
+    assert_eq!(rt; outcome(alloc, b"\x52\x07"), "code");
+    assert_eq!(rt; outcome(alloc, b"\xc0\x07\x02\xa1\x01m\xa1\x01m"), "code");
+    assert_eq!(rt; outcome(alloc, b"\xc0\x06\x02\x52\x07\xa3\x01m"), "code");
+    assert_eq!(rt; outcome(alloc, b"\xc0\x06\x02\x52\x07\xa1\x01m"), "read");
     Ok(())
 }

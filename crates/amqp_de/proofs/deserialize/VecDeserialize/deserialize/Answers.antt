@@ -30,4 +30,4 @@ pub returns-clause-ok : goal.returns-clause-ok
 returns-clause-ok g c =
     let f = rw c.in_default.is at c.in_ok-item.ensures.next in
     let s = subst (λ (l : Listing). Sofar g.T.Typed.takes g.T.Typed.means (listing c.in_ok-access.access) l c.items.items.items) (sym f.1) c.items.invariant.sofar in
-    seq_found g.T.Typed.takes g.T.Typed.means g.R.Read.buffers c.args.de.now (listing c.in_ok-access.access) (listing c.next_element.new.self) c.items.items.items c.in_ok-access.ensures.opened s c.items.items.items _ refl c.in_ok-end.ensures.1 (search rules)
+    seq_found g.T.Typed.takes g.T.Typed.means g.R.Read.buffers c.args.de.now (listing c.in_ok-access.access) (listing c.next_element.new.self) c.items.items.items c.in_ok-access.ensures.opened s c.items.items.items _ refl c.in_ok-end.ensures.ends.1 (search rules)

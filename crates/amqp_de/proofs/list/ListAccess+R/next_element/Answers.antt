@@ -1,13 +1,20 @@
-use Rattle.std.proofs.Common.{rules, ◌||◌, refl, ap, arith, IsTrue}
-use Rattle.amqp_de.specs.Decoding.{Decoding}
-use Rattle.amqp_de.proofs.Sequence.{over_long}
+use Rattle.std.proofs.Common.{◌||◌}
+use Rattle.amqp_de.specs.ReadParts.{open_list}
+use Rattle.amqp_de.proofs.ReadParts.{next_part, next_reads, next_none, next_missed}
 use Rattle.amqp_de.proofs.list.ListAccess+R.next_element.Goals as goal
 
-pub returns-then-not-within-clause-next : goal.returns-then-not-within-clause-next
-returns-then-not-within-clause-next g c =
-    let a : IsTrue c.args.self.now.answers = search rules in
-    let f = rw c.set_answers.ensures at c.in-Ok.ensures.ok in
-    let r = ap (λ (d : Decoding). d.reading) c.set_answers-2.ensures in
-    let b = ap (λ (d : Decoding). d.begun) c.set_answers-2.ensures in
-    let no = rw (c.bytes_consumed-consumed.ensures, r) at c.is_within-within.ensures.no c.if-not-within.true in
-    over_long g.T.Typed.takes (λ i. g.T.Typed.means i c.in-Ok.item) (g.T.Typed.grows || g.R.Read.buffers) g.R.Read.buffers _ _ c.deserialize-item.new.de a (omega (arith, c.if-self-eq0.false)) f no refl r b
+pub returns-clause-reads : goal.returns-clause-reads
+unfolding open_list
+returns-clause-reads g c = next_reads g.R.Read.buffers _ g.T.Typed.takes g.T.Typed.means (g.T.Typed.grows || g.R.Read.buffers) _ _ c.next_part.ensures.next c.next_part.ensures.kept_outer c.next_part.ensures.kept_limit
+
+pub returns-clause-part : goal.returns-clause-part
+unfolding open_list
+returns-clause-part g c = next_part g.R.Read.buffers _ g.T.Typed.takes g.T.Typed.means (g.T.Typed.grows || g.R.Read.buffers) _ _ c.next_part.ensures.next c.next_part.ensures.kept_outer c.next_part.ensures.kept_limit
+
+pub returns-clause-too_few : goal.returns-clause-too_few
+unfolding open_list
+returns-clause-too_few g c = next_none g.R.Read.buffers _ g.T.Typed.takes g.T.Typed.means (g.T.Typed.grows || g.R.Read.buffers) _ _ c.next_part.ensures.next
+
+pub returns-clause-missed : goal.returns-clause-missed
+unfolding open_list
+returns-clause-missed g c = next_missed g.R.Read.buffers _ g.T.Typed.takes g.T.Typed.means (g.T.Typed.grows || g.R.Read.buffers) _ _ c.next_part.ensures.next

@@ -1,0 +1,69 @@
+-- What was read of an item part by part, each part by a type of its own.
+use Rattle.std.specs.Prelude.{◌≡◌, ℕ, suc, ◌+◌, ◌*◌, ◌≤◌, min, Bool, true, false, List, [], ◌∷◌, ◌++◌, length, IsTrue, Some}
+use Rattle.amqp_base.specs.declared.error.Error.{Error}
+use Rattle.amqp_base.specs.Item.{Item, Items, none, more, count}
+use Rattle.amqp_base.specs.Wire.{lenient, Parts}
+use Rattle.amqp_base.specs.Fields.{all_fields, takes_fields}
+use Rattle.amqp_read.specs.Reading.{Takes}
+use Rattle.amqp_de.specs.Decoding.{Decoding}
+use Rattle.amqp_de.specs.Law.{Missed}
+use Rattle.amqp_de.specs.Parse.{list_data}
+use Rattle.amqp_de.specs.Seq.{listing, seq_listing}
+use Rattle.amqp_de.specs.Access.{Listing, Within, Opens, OpensNot, items_of_all, cost}
+use Rattle.amqp_de.specs.declared.list.ListAccess.{ListAccess}
+use Rattle.amqp_de.specs.declared.list.Beyond.{Beyond}
+use Rattle.amqp_de.specs.declared.seq.SeqAccess.{SeqAccess}
+
+-- one more part behind these
+abbrev pub and_last : Items → Item → Items
+and_last none i = more i none
+and_last (more j js) i = more j (and_last js i)
+
+-- these, and those behind them
+abbrev pub joined : Items → Items → Items
+joined none js = js
+joined (more i is) js = more i (joined is js)
+
+-- an access, as contracts see what was read of it
+unfoldable pub open_list : {X : Type 0} → ListAccess X Beyond → Listing
+open_list a = listing a
+
+unfoldable pub open_seq : {X : Type 0} → SeqAccess X → Listing
+open_seq a = seq_listing a
+
+-- Since `old` an item with parts was opened, and these parts of it were read. A list of the fields `all` has the fields
+-- `rest` behind them, and what is left of the parts that stood at the front stands at the front now.
+pub record Progress (old : Decoding) (all rest : List (Item → Bool)) (parts : Items) (now : Listing) : Type 0 where
+  pub from : Listing
+  pub opened : Opens old from
+  pub text : List ℕ
+  pub step : Takes from.state.reading now.state.reading text
+  pub spelled : Parts lenient from.state.inherited text parts
+  pub fields : (js : Items) → all_fields all (joined parts js) ≡ all_fields rest js
+  pub left : count parts + now.left ≡ from.left
+  pub begun : now.state.begun ≡ from.state.begun + items_of_all from.state.inherited parts
+  pub inherited : now.state.inherited ≡ from.state.inherited
+  pub described : now.state.described ≡ false
+  pub outer : now.outer ≡ from.outer
+  pub limit : now.limit ≡ from.limit
+  pub answers : IsTrue now.answers
+  pub within : Within from.limit now.state.reading.taken
+  pub spent : now.state.begun + 16384 * from.state.reading.taken + cost from.state.inherited now.left + min 2 (2 * now.left) ≤ from.state.begun + 16384 * now.state.reading.taken + cost from.state.inherited from.left + min 2 (2 * from.left)
+  pub tracks : (is : Items) (x behind : List ℕ) → Parts lenient from.state.inherited x is → count is ≡ from.left → from.state.reading.to_come ≡ Some (x ++ behind)
+      → (js : Items) × (y : List ℕ) × Parts lenient from.state.inherited y js × (is ≡ joined parts js) × (count js ≡ now.left) × (now.state.reading.to_come ≡ Some (y ++ behind)) × (now.state.reading.taken + length y ≡ from.state.reading.taken + length x)
+
+-- Of an item with the fields `all`, which was opened since `old`, all but the fields `rest` were read.
+pub record HasRead (old : Decoding) (all rest : List (Item → Bool)) (now : Listing) : Type 0 where
+  pub parts : Items
+  pub progress : Progress old all rest parts now
+
+-- one more part was read, of this meaning
+pub record MoreRead (old : Decoding) (all rest : List (Item → Bool)) (parts : Items) (means : Item → Type 0) (now : Listing) : Type 0 where
+  pub item : Item
+  pub meant : means item
+  pub more : Progress old all rest (and_last parts item) now
+
+-- no item with parts was opened: so a list of any fields is missed
+pub record RefusesParts (buffers : Bool) (old last : Decoding) (e : Error) : Type 0 where
+  pub not_opened : OpensNot list_data buffers old last e
+  pub missed : (fields : List (Item → Bool)) → Missed (takes_fields fields) true buffers old last e
