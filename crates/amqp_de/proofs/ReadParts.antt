@@ -1,5 +1,5 @@
 -- Reading an item part by part, each part by a type of its own.
-use Rattle.std.proofs.Common.{◌≡◌, ℕ, suc, ◌+◌, ◌*◌, ◌<◌, ◌≤◌, min, Bool, true, false, ◌&&◌, List, [], ◌∷◌, ◌++◌, length, Option, Some, None, Result, Ok, Err, IfOk, IfErr, IsErrAnd, OnOk, refl, sym, ap, subst, ◌∙◌, arith, inl, inr, ◌⊎◌, append_assoc, IsTrue}
+use Rattle.std.proofs.Common.{◌≡◌, ℕ, suc, ◌+◌, Bool, true, false, List, [], ◌∷◌, ◌++◌, length, Option, Some, None, Result, Ok, Err, IfOk, IfErr, IsErrAnd, OnOk, refl, sym, ap, subst, ◌∙◌, arith, inl, inr, ◌⊎◌, append_assoc, IsTrue}
 use Rattle.std.proofs.lemmas.List.{length-append, append-nil}
 use Rattle.amqp_base.specs.declared.error.Error.{Error}
 use Rattle.amqp_base.specs.declared.error.Error.TheVariants.{InvalidValue, SequenceLengthMismatch}
@@ -13,11 +13,11 @@ use Rattle.amqp_read.specs.Reading.{Steady}
 use Rattle.amqp_de.specs.Decoding.{Decoding, stands_under}
 use Rattle.amqp_de.specs.Law.{Found, Missed, Excused, Spent, free}
 use Rattle.amqp_de.specs.Parse.{list_data}
-use Rattle.amqp_de.specs.Access.{Listing, Within, HasParts, items_of_all, cost, Opens, OpensNot, Part, NoPart, Next, Ends, ended}
+use Rattle.amqp_de.specs.Access.{Listing, Within, HasParts, items_of_all, Opens, OpensNot, Part, NoPart, Next, Ends, ended}
 use Rattle.amqp_de.specs.ReadParts.{Progress, HasRead, MoreRead, RefusesParts, and_last, joined}
 use Rattle.amqp_de.proofs.Readings.{takes_nothing, steady_then, takes_then, behind, excused_before, excused_more}
 use Rattle.amqp_de.proofs.Answered.{free_refused, one_refused}
-use Rattle.amqp_de.proofs.Sequence.{both, left_of, right_of, within_less, within_all, stands_is, cost_step, refused_two}
+use Rattle.amqp_de.proofs.Sequence.{left_of, within_less, within_all, stands_is, cost_step, refused_two}
 
 -- ---- lists of parts
 
