@@ -9,9 +9,15 @@ use amqp_base::{Error, Typed};
 use amqp_read::Read;
 use std::alloc::Global;
 
-/// A type that is read from a reader.
+/// A type that is read from a reader. Types of one's own implement it generically over `R`, by the calls of the
+/// `Deserializer` alone; `Typed` says which items the type takes, and which value each of them is.
 pub trait Deserialize<R: Read>: Typed + Sized {
-    /// Reads the value of the next item.
+    /// Reads the value of the next item, and consumes just that item's bytes.
+    ///
+    /// A value is answered only where a front of the bytes spells an item that the type takes. Where such an item
+    /// stands there, the only refusals are `OutOfMemory` (of a type that takes memory, or a reader that buffers), a
+    /// fault of the source, and `Io(Other)` where the bytes can't be counted. An error leaves the reader at most behind
+    /// the item.
     fn deserialize(alloc: Global, de: &mut Deserializer<R>) -> Result<Self, Error>
         ensures ok { IfOk result (λ v. Found Self.takes (λ i. Self.means i v) de.old de.new) }
         ensures err { IfErr result (λ e. Missed Self.takes (Self.grows || R.buffers) R.buffers de.old de.new e) };

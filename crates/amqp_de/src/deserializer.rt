@@ -16,8 +16,14 @@ use amqp_read::Read;
 use std::io::ErrorKind;
 use std::marker::Model;
 
-/// Reads values from a reader, one after the other. After a refusal, and after an access that was dropped without its
-/// `end`, every call is refused as `InvalidValue`; `into_reader` still gives the reader.
+/// Reads values from a reader, one after the other.
+///
+/// After a refusal by one of its calls, and after an access that was dropped without its `end`, the deserializer is
+/// ended: every call is refused as `InvalidValue` and changes nothing, and `into_reader` still gives the reader.
+///
+/// Bytes are looked at from left to right, and the first rule broken names the refusal. Over a reader that buffers,
+/// every call that reads may also answer `OutOfMemory`, `Io` of the source's own kind, and `Io(Other)` where the count
+/// of the bytes consumed would pass `usize::MAX`; no received byte is lost then.
 #[derive(Drop)]
 pub struct Deserializer<R: Read> {
     pub(crate) reader: R,
@@ -37,7 +43,7 @@ impl<R: Read> Model for Deserializer<R> {
 }
 
 impl<R: Read> Deserializer<R> {
-    /// Reads from where `reader` stands.
+    /// A deserializer that reads from where `reader` stands. Nothing is consumed.
     pub fn new(reader: R) -> Deserializer<R>
         ensures { result ≡ record { reading = R.reading reader; answers = true; inherited = bare; described = false; begun = 0 } }
     {
@@ -50,7 +56,7 @@ impl<R: Read> Deserializer<R> {
         }
     }
 
-    /// The reader, where it stands.
+    /// The reader, where it stands, also behind a refusal. What it has received and not consumed is still in it.
     pub fn into_reader(self) -> R
         ensures { R.reading result ≡ self.reading }
     {
@@ -64,7 +70,7 @@ impl<R: Read> Deserializer<R> {
         reader
     }
 
-    /// False: the format is binary.
+    /// Whether the format is for humans to read: false, as it is binary.
     pub fn is_human_readable(&self) -> bool
         ensures { result ≡ false }
     {

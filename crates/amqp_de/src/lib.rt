@@ -11,6 +11,8 @@ mod list;
 mod payloads;
 mod scalars;
 mod seq;
+#[cfg(test)]
+mod tests;
 
 pub use deserialize::Deserialize;
 pub use deserializer::Deserializer;

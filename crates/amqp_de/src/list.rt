@@ -23,7 +23,8 @@ use amqp_read::Read;
 use std::alloc::Global;
 use std::mem;
 
-/// The elements of a list, one at a time. Its deserializer answers nothing until `end` succeeded.
+/// The elements of a list (part 1, section 1.6.22), one at a time. Its deserializer answers nothing until `end`
+/// succeeded; where the access is dropped before, the deserializer is ended.
 pub struct ListAccess<'a, R: Read, B = Beyond> {
     pub(crate) de: &'a mut Deserializer<R>,
     pub(crate) left: u32,
@@ -138,8 +139,10 @@ impl<R: Read> Deserializer<R> {
 }
 
 impl<'a, R: Read> ListAccess<'a, R> {
-    /// The next element; `None` where all were read. A refusal by the element's type, or one of this call
-    /// (`InvalidValue` where the element ends behind its array), ends the deserializer.
+    /// The next element; `None` where all were read, and then nothing is consumed.
+    ///
+    /// The refusals are those of `T`, and `InvalidValue` where the elements so far take more bytes than their array
+    /// has, or after a refusal. Each of them ends the access and its deserializer: every later call is `InvalidValue`.
     #[inline(always)]
     pub fn next_element<T: Deserialize<R>>(&mut self, alloc: Global) -> Result<Option<T>, Error>
         ensures same_reference { self.new.de.ghost_name ≡ self.old.de.ghost_name }
@@ -190,8 +193,10 @@ impl<'a, R: Read> ListAccess<'a, R> {
         Ok(Some(item))
     }
 
-    /// Ends the list: the deserializer answers again. `SequenceLengthMismatch` where elements were left unread,
-    /// `InvalidValue` after a refusal; then the deserializer is ended too.
+    /// Ends the list: its deserializer answers again. Nothing is consumed.
+    ///
+    /// `SequenceLengthMismatch` where elements were left unread, `InvalidValue` after a refusal; the deserializer is
+    /// ended then.
     #[inline(always)]
     pub fn end(self) -> Result<(), Error>
         ensures ends { Ends (listing self.entry) result self.exit.0.now }
@@ -208,7 +213,7 @@ impl<'a, R: Read> ListAccess<'a, R> {
     }
 }
 
-/// The deserializer behind an access that ended. It answers again.
+/// What `SeqAccess::end` answers: the deserializer behind an access that ended. It answers again once this is dropped.
 #[derive(Drop)]
 pub struct Ended<'a, R: Read> {
     de: &'a mut Deserializer<R>,

@@ -91,9 +91,11 @@ impl Leaf for AsString {
 }
 
 impl<R: Read> Deserializer<R> {
-    /// A string (part 1, section 1.6.20). `InvalidFormatCode` where another item stands, a symbol too,
-    /// `Io(UnexpectedEof)` where bytes are missing, `InvalidUtf8Encoding` where they aren't UTF-8. A refusal ends the
-    /// deserializer.
+    /// A string (part 1, section 1.6.20), with a length of 1 or of 4 bytes, which counts bytes.
+    ///
+    /// `Io(UnexpectedEof)` where bytes are missing, `InvalidFormatCode` where another item stands, a symbol or a binary
+    /// too, `InvalidUtf8Encoding` where all bytes are there and aren't UTF-8, `OutOfMemory` where the text finds no
+    /// memory. A refusal ends the deserializer.
     pub fn deserialize_string(&mut self, alloc: Global) -> Result<String, Error>
         ensures ok { IfOk result (λ s. Found (is_of Kind.string) (λ i. i ≡ scalar (string (string_bytes s))) self.old self.new) }
         ensures err { IfErr result (λ e. Missed (is_of Kind.string) true R.buffers self.old self.new e) }

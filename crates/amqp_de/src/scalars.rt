@@ -85,8 +85,10 @@ impl Leaf for AsInt {
 }
 
 impl<R: Read> Deserializer<R> {
-    /// A uint, in any of its three encodings (part 1, section 1.6.5). `InvalidFormatCode` where another item stands,
-    /// `Io(UnexpectedEof)` where bytes are missing. A refusal ends the deserializer.
+    /// A uint, in any of its three encodings (part 1, section 1.6.5).
+    ///
+    /// `Io(UnexpectedEof)` where bytes are missing, `InvalidFormatCode` where another item stands. A refusal ends the
+    /// deserializer.
     #[inline(always)]
     pub fn deserialize_u32(&mut self) -> Result<u32, Error>
         ensures ok { IfOk result (λ n. Found (is_of Kind.uint) (λ i. i ≡ scalar (uint n)) self.old self.new) }
@@ -97,7 +99,10 @@ impl<R: Read> Deserializer<R> {
         self.leaf(AsUint)
     }
 
-    /// An int, in either of its two encodings (part 1, section 1.6.9), refused as a uint is.
+    /// An int, in either of its two encodings (part 1, section 1.6.9): two's complement in 1 or 4 bytes.
+    ///
+    /// `Io(UnexpectedEof)` where bytes are missing, `InvalidFormatCode` where another item stands. A refusal ends the
+    /// deserializer.
     #[inline(always)]
     pub fn deserialize_i32(&mut self) -> Result<i32, Error>
         ensures ok { IfOk result (λ n. Found (is_of Kind.int) (λ i. i ≡ scalar (int n)) self.old self.new) }

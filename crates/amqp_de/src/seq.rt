@@ -16,7 +16,8 @@ use amqp_base::Error;
 use amqp_read::Read;
 use std::alloc::Global;
 
-/// The parts of a list. Its deserializer answers nothing until `end` succeeded.
+/// The parts of a sequence, in the form that the item has. Its deserializer answers nothing until `end` succeeded;
+/// where the access is dropped before, the deserializer is ended.
 #[derive(Drop)]
 pub enum SeqAccess<'a, R: Read> {
     /// The item is a list.
@@ -24,8 +25,12 @@ pub enum SeqAccess<'a, R: Read> {
 }
 
 impl<R: Read> Deserializer<R> {
-    /// Opens a list (part 1, section 1.6.22): its header is consumed. `InvalidFormatCode` where another item stands,
-    /// and the refusals of the header. A refusal ends the deserializer.
+    /// Opens a list (part 1, sections 1.6.22 to 1.6.24): its code, size and count are consumed. The size is not
+    /// compared with the bytes that are there.
+    ///
+    /// In this order: `Io(UnexpectedEof)` where there is no byte, `InvalidFormatCode` where it is no list's code,
+    /// `Io(UnexpectedEof)` where size or count are missing, `InvalidValue` where the count is above 65,536,
+    /// `InvalidLength` where the size doesn't cover the count's own bytes. A refusal ends the deserializer.
     #[inline(always)]
     pub fn deserialize_seq(&mut self, alloc: Global) -> Result<SeqAccess<'_, R>, Error>
         ensures* refused { sem 𝓛 (RestsIfErr (the_row R.row R.Read) self.entry (λ a. (lender_of a).ghost_name) result (λ last. IfErr result (λ e. RefusesParts R.buffers self.old last e))) }
@@ -47,7 +52,9 @@ impl<R: Read> Deserializer<R> {
 }
 
 impl<'a, R: Read> SeqAccess<'a, R> {
-    /// The next part, as `ListAccess::next_element`.
+    /// The next part; `None` where all were read, and then nothing is consumed.
+    ///
+    /// Its refusals are those of `ListAccess::next_element`, and each of them ends the access and its deserializer.
     #[inline(always)]
     pub fn next_element<T: Deserialize<R>>(&mut self, alloc: Global) -> Result<Option<T>, Error>
         ensures same_reference { (lender_of self.new).ghost_name ≡ (lender_of self.old).ghost_name }
@@ -59,7 +66,10 @@ impl<'a, R: Read> SeqAccess<'a, R> {
         }
     }
 
-    /// Ends the access, as `ListAccess::end`; the deserializer comes back where all parts were read.
+    /// Ends the access where all parts were read: the deserializer answers again. Nothing is consumed.
+    ///
+    /// `SequenceLengthMismatch` where parts were left unread, `InvalidValue` after a refusal; the deserializer is ended
+    /// then.
     #[inline(always)]
     pub fn end(self) -> Result<Ended<'a, R>, Error>
         ensures* refused { sem 𝓛 (RestsIfErr (the_row R.row R.Read) (lender_of self.entry) (λ d. d.de.ghost_name) result (λ last. last ≡ shut (seq_listing self.entry))) }
@@ -72,7 +82,7 @@ impl<'a, R: Read> SeqAccess<'a, R> {
         }
     }
 
-    /// The parts, whichever form they stand in: for loops that return early.
+    /// The parts that are left, whichever form they stand in. Generic code that returns early reads through these.
     #[inline(always)]
     pub fn into_elements(self) -> ListAccess<'a, R>
         ensures same_reference { result.de.ghost_name ≡ (lender_of self.entry).ghost_name }
