@@ -20,6 +20,27 @@ pub trait Serialize: Typed {
         ensures err { IfErr result (λ e. Refused (state W.Write W.FaultCount ser.old) (Self.item self.now (state W.Write W.FaultCount ser.old).setting) e (state W.Write W.FaultCount ser.new)) };
 }
 
+impl Serialize for bool {
+    #[inline(always)]
+    fn serialize<W: Sink>(&self, alloc: Global, ser: &mut Serializer<W>) -> Result<(), Error> {
+        ser.serialize_bool(alloc, *self)
+    }
+}
+
+impl Serialize for u8 {
+    #[inline(always)]
+    fn serialize<W: Sink>(&self, alloc: Global, ser: &mut Serializer<W>) -> Result<(), Error> {
+        ser.serialize_u8(alloc, *self)
+    }
+}
+
+impl Serialize for u16 {
+    #[inline(always)]
+    fn serialize<W: Sink>(&self, alloc: Global, ser: &mut Serializer<W>) -> Result<(), Error> {
+        ser.serialize_u16(alloc, *self)
+    }
+}
+
 impl Serialize for u32 {
     #[inline(always)]
     fn serialize<W: Sink>(&self, alloc: Global, ser: &mut Serializer<W>) -> Result<(), Error> {
@@ -27,10 +48,52 @@ impl Serialize for u32 {
     }
 }
 
+impl Serialize for u64 {
+    #[inline(always)]
+    fn serialize<W: Sink>(&self, alloc: Global, ser: &mut Serializer<W>) -> Result<(), Error> {
+        ser.serialize_u64(alloc, *self)
+    }
+}
+
+impl Serialize for i8 {
+    #[inline(always)]
+    fn serialize<W: Sink>(&self, alloc: Global, ser: &mut Serializer<W>) -> Result<(), Error> {
+        ser.serialize_i8(alloc, *self)
+    }
+}
+
+impl Serialize for i16 {
+    #[inline(always)]
+    fn serialize<W: Sink>(&self, alloc: Global, ser: &mut Serializer<W>) -> Result<(), Error> {
+        ser.serialize_i16(alloc, *self)
+    }
+}
+
 impl Serialize for i32 {
     #[inline(always)]
     fn serialize<W: Sink>(&self, alloc: Global, ser: &mut Serializer<W>) -> Result<(), Error> {
         ser.serialize_i32(alloc, *self)
+    }
+}
+
+impl Serialize for i64 {
+    #[inline(always)]
+    fn serialize<W: Sink>(&self, alloc: Global, ser: &mut Serializer<W>) -> Result<(), Error> {
+        ser.serialize_i64(alloc, *self)
+    }
+}
+
+impl Serialize for char {
+    #[inline(always)]
+    fn serialize<W: Sink>(&self, alloc: Global, ser: &mut Serializer<W>) -> Result<(), Error> {
+        ser.serialize_char(alloc, *self)
+    }
+}
+
+impl Serialize for () {
+    #[inline(always)]
+    fn serialize<W: Sink>(&self, alloc: Global, ser: &mut Serializer<W>) -> Result<(), Error> {
+        ser.serialize_unit(alloc)
     }
 }
 
