@@ -1,6 +1,6 @@
 //! Data of a fixed width.
 
-ghost use Rattle.std.specs.Prelude.{◌≡◌, ◌∷◌, [], false, Some};
+ghost use Rattle.std.specs.Prelude.{◌≡◌, ◌∷◌, [], false, length, Some};
 ghost use Rattle.amqp_base.specs.Codes.{row};
 ghost use Rattle.amqp_base.specs.Wire.{under};
 ghost use Rattle.amqp_ser.specs.State.{state};
@@ -49,6 +49,7 @@ impl<W: Sink> Serializer<W> {
     #[inline(always)]
     pub(crate) fn four_bytes(&mut self, code: EncodingCodes, bytes: [u8; 4]) -> Result<(), Error>
         requires { self.old.stopped ≡ false }
+        ensures width { length bytes ≡ 4 }
         ensures law { Pays (state W.Write W.FaultCount self.old) (fixed_at (state W.Write W.FaultCount self.old).mark code bytes) (found_after (state W.Write W.FaultCount self.old).mark (Some (under code)) (state W.Write W.FaultCount self.old).found) ([]) Error.InvalidValue result (state W.Write W.FaultCount self.new) }
     {
         let text = [code.byte(), bytes[0], bytes[1], bytes[2], bytes[3]];
@@ -59,6 +60,7 @@ impl<W: Sink> Serializer<W> {
     #[inline(always)]
     pub(crate) fn eight_bytes(&mut self, code: EncodingCodes, bytes: [u8; 8]) -> Result<(), Error>
         requires { self.old.stopped ≡ false }
+        ensures width { length bytes ≡ 8 }
         ensures law { Pays (state W.Write W.FaultCount self.old) (fixed_at (state W.Write W.FaultCount self.old).mark code bytes) (found_after (state W.Write W.FaultCount self.old).mark (Some (under code)) (state W.Write W.FaultCount self.old).found) ([]) Error.InvalidValue result (state W.Write W.FaultCount self.new) }
     {
         let text = [
@@ -83,6 +85,7 @@ impl<W: Sink> Serializer<W> {
         bytes: [u8; 16],
     ) -> Result<(), Error>
         requires { self.old.stopped ≡ false }
+        ensures width { length bytes ≡ 16 }
         ensures law { Pays (state W.Write W.FaultCount self.old) (fixed_at (state W.Write W.FaultCount self.old).mark code bytes) (found_after (state W.Write W.FaultCount self.old).mark (Some (under code)) (state W.Write W.FaultCount self.old).found) ([]) Error.InvalidValue result (state W.Write W.FaultCount self.new) }
     {
         let text = [

@@ -3,6 +3,7 @@
 
 mod compound;
 mod fixed;
+mod floats;
 mod numbers;
 mod payloads;
 mod scalars;

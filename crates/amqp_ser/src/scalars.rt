@@ -1,7 +1,7 @@
-//! Null, booleans, characters and times.
+//! Null, booleans, characters, times and uuids.
 
 ghost use Rattle.std.specs.Prelude.{◌≡◌, [], false, IfErr, OnOk};
-ghost use Rattle.amqp_base.specs.Item.{scalar, null, boolean, char, timestamp};
+ghost use Rattle.amqp_base.specs.Item.{scalar, null, boolean, char, timestamp, uuid};
 ghost use Rattle.amqp_base.specs.Canon.{kind_code};
 ghost use Rattle.amqp_ser.specs.State.{state};
 ghost use Rattle.amqp_ser.specs.Law.{Wrote, Refused, Stops, Spares, Named, marked, found_after};
@@ -10,6 +10,7 @@ ghost use Rattle.amqp_ser.specs.Appending.{Pays};
 use crate::Serializer;
 use crate::serializer::Mark;
 use amqp_base::{EncodingCodes, Error, Sink};
+use amqp_types::Uuid;
 use std::alloc::Global;
 
 impl<W: Sink> Serializer<W> {
@@ -140,6 +141,27 @@ impl<W: Sink> Serializer<W> {
             return Err(Error::InvalidValue);
         }
         if let Err(e) = self.eight_bytes(EncodingCodes::Timestamp, v.to_be_bytes()) {
+            return Err(e);
+        }
+        Ok(())
+    }
+
+    /// Writes a uuid (section 1.6.18): 98 and its sixteen bytes; in an array the sixteen bytes. It takes no memory of its own.
+    ///
+    /// `InvalidValue`: the array that it is to stand in has elements under another constructor.
+    #[inline(always)]
+    pub fn serialize_uuid(&mut self, alloc: Global, v: &Uuid) -> Result<(), Error>
+        ensures ok { OnOk result (Wrote (state W.Write W.FaultCount self.old) (scalar (uuid v.now)) (state W.Write W.FaultCount self.new)) }
+        ensures err { IfErr result (λ e. Refused (state W.Write W.FaultCount self.old) (scalar (uuid v.now)) e (state W.Write W.FaultCount self.new)) }
+        ensures named { IfErr result (λ e. Named (state W.Write W.FaultCount self.old) 0 e (state W.Write W.FaultCount self.new)) }
+        ensures stops { Stops (state W.Write W.FaultCount self.old) result (state W.Write W.FaultCount self.new) }
+        ensures spares { Spares (state W.Write W.FaultCount self.old) result (state W.Write W.FaultCount self.new) }
+    {
+        let _ = alloc;
+        if self.stopped {
+            return Err(Error::InvalidValue);
+        }
+        if let Err(e) = self.sixteen_bytes(EncodingCodes::Uuid, *v.as_inner()) {
             return Err(e);
         }
         Ok(())

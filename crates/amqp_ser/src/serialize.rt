@@ -6,6 +6,9 @@ ghost use Rattle.amqp_ser.specs.Law.{Wrote, Refused};
 
 use crate::Serializer;
 use amqp_base::{Error, Sink, Typed};
+use amqp_types::{
+    Binary, BinaryRef, Dec32, Dec64, Dec128, Double, Float, Symbol, SymbolRef, Timestamp, Uuid,
+};
 use std::alloc::Global;
 
 /// A type whose values can be written: each as the item that `Typed` names for it.
@@ -101,6 +104,83 @@ impl Serialize for String {
     #[inline(always)]
     fn serialize<W: Sink>(&self, alloc: Global, ser: &mut Serializer<W>) -> Result<(), Error> {
         ser.serialize_str(alloc, self.as_str())
+    }
+}
+
+impl Serialize for Float {
+    #[inline(always)]
+    fn serialize<W: Sink>(&self, alloc: Global, ser: &mut Serializer<W>) -> Result<(), Error> {
+        ser.serialize_f32(alloc, *self)
+    }
+}
+
+impl Serialize for Double {
+    #[inline(always)]
+    fn serialize<W: Sink>(&self, alloc: Global, ser: &mut Serializer<W>) -> Result<(), Error> {
+        ser.serialize_f64(alloc, *self)
+    }
+}
+
+impl Serialize for Dec32 {
+    #[inline(always)]
+    fn serialize<W: Sink>(&self, alloc: Global, ser: &mut Serializer<W>) -> Result<(), Error> {
+        ser.serialize_decimal32(alloc, self)
+    }
+}
+
+impl Serialize for Dec64 {
+    #[inline(always)]
+    fn serialize<W: Sink>(&self, alloc: Global, ser: &mut Serializer<W>) -> Result<(), Error> {
+        ser.serialize_decimal64(alloc, self)
+    }
+}
+
+impl Serialize for Dec128 {
+    #[inline(always)]
+    fn serialize<W: Sink>(&self, alloc: Global, ser: &mut Serializer<W>) -> Result<(), Error> {
+        ser.serialize_decimal128(alloc, self)
+    }
+}
+
+impl Serialize for Timestamp {
+    #[inline(always)]
+    fn serialize<W: Sink>(&self, alloc: Global, ser: &mut Serializer<W>) -> Result<(), Error> {
+        ser.serialize_timestamp(alloc, self.milliseconds())
+    }
+}
+
+impl Serialize for Uuid {
+    #[inline(always)]
+    fn serialize<W: Sink>(&self, alloc: Global, ser: &mut Serializer<W>) -> Result<(), Error> {
+        ser.serialize_uuid(alloc, self)
+    }
+}
+
+impl Serialize for Symbol {
+    #[inline(always)]
+    fn serialize<W: Sink>(&self, alloc: Global, ser: &mut Serializer<W>) -> Result<(), Error> {
+        ser.serialize_symbol(alloc, self.as_str())
+    }
+}
+
+impl Serialize for SymbolRef<'_> {
+    #[inline(always)]
+    fn serialize<W: Sink>(&self, alloc: Global, ser: &mut Serializer<W>) -> Result<(), Error> {
+        ser.serialize_symbol(alloc, self.as_str())
+    }
+}
+
+impl Serialize for Binary {
+    #[inline(always)]
+    fn serialize<W: Sink>(&self, alloc: Global, ser: &mut Serializer<W>) -> Result<(), Error> {
+        ser.serialize_bytes(alloc, self.as_slice())
+    }
+}
+
+impl Serialize for BinaryRef<'_> {
+    #[inline(always)]
+    fn serialize<W: Sink>(&self, alloc: Global, ser: &mut Serializer<W>) -> Result<(), Error> {
+        ser.serialize_bytes(alloc, self.0)
     }
 }
 
