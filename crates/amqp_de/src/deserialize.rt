@@ -23,6 +23,34 @@ pub trait Deserialize<R: Read>: Typed + Sized {
         ensures err { IfErr result (λ e. Missed Self.takes (Self.grows || R.buffers) R.buffers de.old de.new e) };
 }
 
+impl<R: Read> Deserialize<R> for () {
+    #[inline(always)]
+    fn deserialize(_alloc: Global, de: &mut Deserializer<R>) -> Result<(), Error> {
+        de.deserialize_unit()
+    }
+}
+
+impl<R: Read> Deserialize<R> for bool {
+    #[inline(always)]
+    fn deserialize(_alloc: Global, de: &mut Deserializer<R>) -> Result<bool, Error> {
+        de.deserialize_bool()
+    }
+}
+
+impl<R: Read> Deserialize<R> for u8 {
+    #[inline(always)]
+    fn deserialize(_alloc: Global, de: &mut Deserializer<R>) -> Result<u8, Error> {
+        de.deserialize_u8()
+    }
+}
+
+impl<R: Read> Deserialize<R> for u16 {
+    #[inline(always)]
+    fn deserialize(_alloc: Global, de: &mut Deserializer<R>) -> Result<u16, Error> {
+        de.deserialize_u16()
+    }
+}
+
 impl<R: Read> Deserialize<R> for u32 {
     #[inline(always)]
     fn deserialize(_alloc: Global, de: &mut Deserializer<R>) -> Result<u32, Error> {
@@ -30,10 +58,45 @@ impl<R: Read> Deserialize<R> for u32 {
     }
 }
 
+impl<R: Read> Deserialize<R> for u64 {
+    #[inline(always)]
+    fn deserialize(_alloc: Global, de: &mut Deserializer<R>) -> Result<u64, Error> {
+        de.deserialize_u64()
+    }
+}
+
+impl<R: Read> Deserialize<R> for i8 {
+    #[inline(always)]
+    fn deserialize(_alloc: Global, de: &mut Deserializer<R>) -> Result<i8, Error> {
+        de.deserialize_i8()
+    }
+}
+
+impl<R: Read> Deserialize<R> for i16 {
+    #[inline(always)]
+    fn deserialize(_alloc: Global, de: &mut Deserializer<R>) -> Result<i16, Error> {
+        de.deserialize_i16()
+    }
+}
+
 impl<R: Read> Deserialize<R> for i32 {
     #[inline(always)]
     fn deserialize(_alloc: Global, de: &mut Deserializer<R>) -> Result<i32, Error> {
         de.deserialize_i32()
+    }
+}
+
+impl<R: Read> Deserialize<R> for i64 {
+    #[inline(always)]
+    fn deserialize(_alloc: Global, de: &mut Deserializer<R>) -> Result<i64, Error> {
+        de.deserialize_i64()
+    }
+}
+
+impl<R: Read> Deserialize<R> for char {
+    #[inline(always)]
+    fn deserialize(_alloc: Global, de: &mut Deserializer<R>) -> Result<char, Error> {
+        de.deserialize_char()
     }
 }
 

@@ -8,7 +8,9 @@ mod deserializer;
 mod header;
 mod leaf;
 mod list;
+mod numbers;
 mod payloads;
+mod plain;
 mod scalars;
 mod seq;
 #[cfg(test)]
