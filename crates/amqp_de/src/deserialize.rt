@@ -7,6 +7,7 @@ ghost use Rattle.amqp_de.specs.Law.{Found, Missed};
 use crate::Deserializer;
 use amqp_base::{Error, Typed};
 use amqp_read::Read;
+use amqp_types::{Binary, Double, Float, Symbol, Timestamp, Uuid};
 use std::alloc::Global;
 
 /// A type that is read from a reader. Types of one's own implement it generically over `R`, by the calls of the
@@ -103,6 +104,52 @@ impl<R: Read> Deserialize<R> for char {
 impl<R: Read> Deserialize<R> for String {
     fn deserialize(alloc: Global, de: &mut Deserializer<R>) -> Result<String, Error> {
         de.deserialize_string(alloc)
+    }
+}
+
+impl<R: Read> Deserialize<R> for Float {
+    #[inline(always)]
+    fn deserialize(_alloc: Global, de: &mut Deserializer<R>) -> Result<Float, Error> {
+        de.deserialize_f32()
+    }
+}
+
+impl<R: Read> Deserialize<R> for Double {
+    #[inline(always)]
+    fn deserialize(_alloc: Global, de: &mut Deserializer<R>) -> Result<Double, Error> {
+        de.deserialize_f64()
+    }
+}
+
+impl<R: Read> Deserialize<R> for Timestamp {
+    #[inline(always)]
+    fn deserialize(_alloc: Global, de: &mut Deserializer<R>) -> Result<Timestamp, Error> {
+        de.deserialize_timestamp()
+    }
+}
+
+impl<R: Read> Deserialize<R> for Uuid {
+    #[inline(always)]
+    fn deserialize(_alloc: Global, de: &mut Deserializer<R>) -> Result<Uuid, Error> {
+        de.deserialize_uuid()
+    }
+}
+
+impl<R: Read> Deserialize<R> for Binary {
+    fn deserialize(alloc: Global, de: &mut Deserializer<R>) -> Result<Binary, Error> {
+        match de.deserialize_byte_buf(alloc) {
+            Ok(value) => Ok(Binary(value)),
+            Err(e) => Err(e),
+        }
+    }
+}
+
+impl<R: Read> Deserialize<R> for Symbol {
+    fn deserialize(alloc: Global, de: &mut Deserializer<R>) -> Result<Symbol, Error> {
+        match de.deserialize_symbol(alloc) {
+            Ok(value) => Ok(Symbol(value)),
+            Err(e) => Err(e),
+        }
     }
 }
 

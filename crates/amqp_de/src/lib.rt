@@ -5,6 +5,7 @@ mod any;
 mod constructor;
 mod deserialize;
 mod deserializer;
+mod fixed;
 mod header;
 mod leaf;
 mod list;
