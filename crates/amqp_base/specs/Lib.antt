@@ -15,6 +15,7 @@ pub mod Shapes
 pub mod Typing
 pub mod OneValue
 pub mod ReadBack
+pub mod Options
 pub mod Fields
 pub mod Faults
 pub mod Refusals

@@ -3,6 +3,7 @@
 ghost use Rattle.std.specs.Prelude.{◌≡◌, Bool, false, IsTrue};
 
 mod numbers;
+mod options;
 mod others;
 
 /// The meaning of a type: which item each of its values is written as, which items it takes, and which value it
