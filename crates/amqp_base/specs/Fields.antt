@@ -4,9 +4,12 @@
 --   means = λ i v. means_fields (field A.means v.a ∷ field B.means v.b ∷ []) i
 --   same  = λ v w. A.same v.a w.a × B.same v.b w.b, with three fields A.same v.a w.a × (B.same v.b w.b × C.same v.c w.c)
 --   one_value = λ i v w. one_fields _ _ (one_more _ _ A.one_value v.a w.a (one_last B.one_value v.b w.b)) i
-use Rattle.std.specs.Prelude.{Bool, true, false, ◌&&◌, List, [], ◌∷◌}
-use Rattle.amqp_base.specs.Item.{Item, scalar, list, map, array, described, Items, none, more}
-use Rattle.amqp_base.specs.Typing.{OneValue}
+use Rattle.std.specs.Prelude.{◌≡◌, ℕ, Bool, true, false, ◌&&◌, IsTrue, List, [], ◌∷◌}
+use Rattle.std.proofs.Common.{refl}
+use Rattle.amqp_base.specs.Item.{Item, scalar, list, map, array, described, Items, none, more, items_of}
+use Rattle.amqp_base.specs.Shapes.{whole}
+use Rattle.amqp_base.specs.declared.shape.Shape.{Shape}
+use Rattle.amqp_base.specs.Typing.{OneValue, is_null}
 
 -- as many parts as fields, each taken by its field
 abbrev pub all_fields : List (Item → Bool) → Items → Bool
@@ -56,3 +59,53 @@ one_fields P Q rows (scalar v) p q = absurd p
 one_fields P Q rows (map ps) p q = absurd p
 one_fields P Q rows (array is) p q = absurd p
 one_fields P Q rows (described d v) p q = absurd p
+
+-- ---- a row of values is read back as it was written
+
+both : (a b : Bool) → IsTrue a → IsTrue b → IsTrue (a && b)
+both true b p q = q
+both false b p q = p
+
+-- each item is taken by its field
+pub record TakenBack (fields : List (Item → Bool)) (xs : List Item) : Type 0 where
+  pub all : IsTrue (all_fields fields (items_of xs))
+
+pub taken_none : TakenBack [] []
+taken_none = record { all = refl }
+
+pub taken_more : {takes : Item → Bool} {rest : List (Item → Bool)} {x : Item} {xs : List Item} → IsTrue (takes x) → TakenBack rest xs → TakenBack (takes ∷ rest) (x ∷ xs)
+taken_more {takes} {rest} {x} {xs} p q = record { all = both (takes x) (all_fields rest (items_of xs)) p q.all }
+
+-- each item has the meaning of its field
+pub record ReadBack (fields : List {1} (Item → Type 0)) (xs : List Item) : Type 0 where
+  pub all : all_meanings fields (items_of xs)
+
+pub read_none : ReadBack [] []
+unfolding all_meanings
+read_none = record { all = tt }
+
+pub read_more : {P : Item → Type 0} {rest : List {1} (Item → Type 0)} {x : Item} {xs : List Item} → P x → ReadBack rest xs → ReadBack (P ∷ rest) (x ∷ xs)
+unfolding all_meanings
+read_more p q = record { all = (p, q.all) }
+
+-- in a list
+pub list_of_taken : {fields : List (Item → Bool)} {xs : List Item} → TakenBack fields xs → IsTrue (takes_fields fields (whole Shape.List xs))
+unfolding whole takes_fields
+list_of_taken h = h.all
+
+pub list_of_read : {fields : List {1} (Item → Type 0)} {xs : List Item} → ReadBack fields xs → means_fields fields (whole Shape.List xs)
+unfolding whole means_fields
+list_of_read h = h.all
+
+-- in a tuple
+pub tuple_of_taken : (n : ℕ) {fields : List (Item → Bool)} {xs : List Item} → TakenBack fields xs → IsTrue (takes_fields fields (whole (Shape.Tuple n) xs))
+unfolding whole takes_fields
+tuple_of_taken n h = h.all
+
+pub tuple_of_read : (n : ℕ) {fields : List {1} (Item → Type 0)} {xs : List Item} → ReadBack fields xs → means_fields fields (whole (Shape.Tuple n) xs)
+unfolding whole means_fields
+tuple_of_read n h = h.all
+
+pub tuple_not_null : (n : ℕ) (xs : List Item) → is_null (whole (Shape.Tuple n) xs) ≡ false
+unfolding whole
+tuple_not_null n xs = refl

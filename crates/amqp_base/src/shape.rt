@@ -22,4 +22,8 @@ pub enum Shape {
     List,
     /// An array of its parts.
     Array,
+    /// A list of just so many parts.
+    Tuple(usize),
+    /// A map whose keys and values are its parts in turn.
+    Map,
 }

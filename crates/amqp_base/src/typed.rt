@@ -5,6 +5,7 @@ ghost use Rattle.std.specs.Prelude.{◌≡◌, Bool, false, IsTrue};
 mod numbers;
 mod options;
 mod others;
+mod tuples;
 
 /// The meaning of a type: which item each of its values is written as, which items it takes, and which value it
 /// reads from each. Contracts alone see it.
