@@ -2,9 +2,11 @@ pub mod Readings
 pub mod Begun
 pub mod Data
 pub mod Answered
-pub mod Fixed
+pub mod FixedWidth
 pub mod KindCodes
 pub mod Sized
+pub mod ByteNumbers
+pub mod OnlyCode
 pub mod Headers
 pub mod Opening
 pub mod Sequence

@@ -19,7 +19,7 @@ use Rattle.amqp_de.specs.Parse.{Parsed, any_code, code_or_refusal, behind_byte, 
 use Rattle.amqp_de.specs.Look.{item_kind, Peeks, PeeksNot, Looks}
 use Rattle.amqp_de.proofs.Data.{any_code_is, data_kind}
 use Rattle.amqp_de.proofs.KindCodes.{code_byte}
-use Rattle.amqp_de.proofs.Fixed.{not_device}
+use Rattle.amqp_de.proofs.FixedWidth.{not_device}
 
 described_byte : any_code (row DescribedType).byte ≡ Ok DescribedType
 unfolding any_code row

@@ -7,3 +7,4 @@ pub mod Access
 pub mod Seq
 pub mod ReadParts
 pub mod Look
+pub mod OneCode

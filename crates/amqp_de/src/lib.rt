@@ -5,10 +5,13 @@ mod any;
 mod constructor;
 mod deserialize;
 mod deserializer;
+mod fixed;
 mod header;
 mod leaf;
 mod list;
+mod numbers;
 mod payloads;
+mod plain;
 mod scalars;
 mod seq;
 #[cfg(test)]

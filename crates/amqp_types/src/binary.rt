@@ -20,7 +20,8 @@ impl Binary {
     pub fn into_vec(self) -> Vec<u8>
         ensures { result ≡ self.0 }
     {
-        self.0
+        let Binary(own) = self;
+        own
     }
 
     /// Its bytes, lent.

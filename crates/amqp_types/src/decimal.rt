@@ -45,7 +45,8 @@ impl Dec32 {
     pub fn into_inner(self) -> [u8; DECIMAL32_WIDTH]
         ensures { result ≡ self }
     {
-        self.0
+        let Dec32(own) = self;
+        own
     }
 
     /// Its 4 bytes, lent.
@@ -53,7 +54,8 @@ impl Dec32 {
     pub fn as_inner(&self) -> &[u8; DECIMAL32_WIDTH]
         ensures { result.now ≡ self.now }
     {
-        &self.0
+        let Dec32(lent) = self;
+        lent
     }
 }
 
@@ -70,8 +72,8 @@ impl From<Dec32> for [u8; DECIMAL32_WIDTH] {
     ghost from_gives = { λ d bytes. bytes ≡ d };
 
     #[inline(always)]
-    fn from(value: Dec32) -> [u8; DECIMAL32_WIDTH] {
-        value.0
+    fn from(dec32: Dec32) -> [u8; DECIMAL32_WIDTH] {
+        dec32.into_inner()
     }
 }
 
@@ -85,9 +87,9 @@ impl TryFrom<&[u8]> for Dec32 {
         if bytes.len() != DECIMAL32_WIDTH {
             return Err(Error::InvalidLength);
         }
-        let mut own = [0; DECIMAL32_WIDTH];
-        own.copy_from_slice(bytes);
-        Ok(Dec32(own))
+        let mut copied = [0; DECIMAL32_WIDTH];
+        copied.copy_from_slice(bytes);
+        Ok(Dec32(copied))
     }
 }
 
@@ -139,7 +141,8 @@ impl Dec64 {
     pub fn into_inner(self) -> [u8; DECIMAL64_WIDTH]
         ensures { result ≡ self }
     {
-        self.0
+        let Dec64(own) = self;
+        own
     }
 
     /// Its 8 bytes, lent.
@@ -147,7 +150,8 @@ impl Dec64 {
     pub fn as_inner(&self) -> &[u8; DECIMAL64_WIDTH]
         ensures { result.now ≡ self.now }
     {
-        &self.0
+        let Dec64(lent) = self;
+        lent
     }
 }
 
@@ -164,8 +168,8 @@ impl From<Dec64> for [u8; DECIMAL64_WIDTH] {
     ghost from_gives = { λ d bytes. bytes ≡ d };
 
     #[inline(always)]
-    fn from(value: Dec64) -> [u8; DECIMAL64_WIDTH] {
-        value.0
+    fn from(dec64: Dec64) -> [u8; DECIMAL64_WIDTH] {
+        dec64.into_inner()
     }
 }
 
@@ -179,9 +183,9 @@ impl TryFrom<&[u8]> for Dec64 {
         if bytes.len() != DECIMAL64_WIDTH {
             return Err(Error::InvalidLength);
         }
-        let mut own = [0; DECIMAL64_WIDTH];
-        own.copy_from_slice(bytes);
-        Ok(Dec64(own))
+        let mut copied = [0; DECIMAL64_WIDTH];
+        copied.copy_from_slice(bytes);
+        Ok(Dec64(copied))
     }
 }
 
@@ -233,7 +237,8 @@ impl Dec128 {
     pub fn into_inner(self) -> [u8; DECIMAL128_WIDTH]
         ensures { result ≡ self }
     {
-        self.0
+        let Dec128(own) = self;
+        own
     }
 
     /// Its 16 bytes, lent.
@@ -241,7 +246,8 @@ impl Dec128 {
     pub fn as_inner(&self) -> &[u8; DECIMAL128_WIDTH]
         ensures { result.now ≡ self.now }
     {
-        &self.0
+        let Dec128(lent) = self;
+        lent
     }
 }
 
@@ -258,8 +264,8 @@ impl From<Dec128> for [u8; DECIMAL128_WIDTH] {
     ghost from_gives = { λ d bytes. bytes ≡ d };
 
     #[inline(always)]
-    fn from(value: Dec128) -> [u8; DECIMAL128_WIDTH] {
-        value.0
+    fn from(dec128: Dec128) -> [u8; DECIMAL128_WIDTH] {
+        dec128.into_inner()
     }
 }
 
@@ -273,9 +279,9 @@ impl TryFrom<&[u8]> for Dec128 {
         if bytes.len() != DECIMAL128_WIDTH {
             return Err(Error::InvalidLength);
         }
-        let mut own = [0; DECIMAL128_WIDTH];
-        own.copy_from_slice(bytes);
-        Ok(Dec128(own))
+        let mut copied = [0; DECIMAL128_WIDTH];
+        copied.copy_from_slice(bytes);
+        Ok(Dec128(copied))
     }
 }
 

@@ -13,16 +13,14 @@ use std::marker::Model;
 /// A binary floating point number of 32 bits, IEEE 754-2008 (part 1, section 1.6.11): its bits, the sign first. Two of them are
 /// equal where their bits are: so each NaN equals itself, and 0 doesn't equal -0. A contract sees the bits as a number.
 #[derive(Debug, Clone, Copy, PartialEq, Eq, Hash)]
-pub struct Float {
-    bits: u32,
-}
+pub struct Float(u32);
 
 impl Model for Float {
     ghost Value = { ℕ };
 
-    ghost view = { λ f. f.bits };
+    ghost view = { λ f. f.0 };
 
-    ghost inverse = { λ n. record { bits = n } };
+    ghost inverse = { λ n. record { 0 = n } };
 }
 
 impl Float {
@@ -31,7 +29,7 @@ impl Float {
     pub fn from_bits(bits: u32) -> Float
         ensures { result ≡ bits }
     {
-        Float { bits }
+        Float(bits)
     }
 
     /// Its bits.
@@ -39,7 +37,8 @@ impl Float {
     pub fn to_bits(self) -> u32
         ensures { result ≡ self }
     {
-        self.bits
+        let Float(own) = self;
+        own
     }
 }
 
@@ -74,16 +73,14 @@ impl NeverNull for Float {
 /// A binary floating point number of 64 bits, IEEE 754-2008 (part 1, section 1.6.12): its bits, the sign first. Two of them are
 /// equal where their bits are: so each NaN equals itself, and 0 doesn't equal -0. A contract sees the bits as a number.
 #[derive(Debug, Clone, Copy, PartialEq, Eq, Hash)]
-pub struct Double {
-    bits: u64,
-}
+pub struct Double(u64);
 
 impl Model for Double {
     ghost Value = { ℕ };
 
-    ghost view = { λ f. f.bits };
+    ghost view = { λ f. f.0 };
 
-    ghost inverse = { λ n. record { bits = n } };
+    ghost inverse = { λ n. record { 0 = n } };
 }
 
 impl Double {
@@ -92,7 +89,7 @@ impl Double {
     pub fn from_bits(bits: u64) -> Double
         ensures { result ≡ bits }
     {
-        Double { bits }
+        Double(bits)
     }
 
     /// Its bits.
@@ -100,7 +97,8 @@ impl Double {
     pub fn to_bits(self) -> u64
         ensures { result ≡ self }
     {
-        self.bits
+        let Double(own) = self;
+        own
     }
 }
 

@@ -6,6 +6,8 @@ mod binary;
 mod decimal;
 mod float;
 mod symbol;
+#[cfg(test)]
+mod tests;
 mod timestamp;
 mod uuid;
 

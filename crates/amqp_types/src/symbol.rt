@@ -45,7 +45,8 @@ impl Symbol {
     pub fn into_inner(self) -> String
         ensures { result ≡ self.0 }
     {
-        self.0
+        let Symbol(own) = self;
+        own
     }
 
     /// Its text, lent.
@@ -69,7 +70,7 @@ impl From<String> for Symbol {
     ghost from_gives = { λ text s. s.0 ≡ text };
 
     fn from(text: String) -> Symbol {
-        Symbol(text)
+        Symbol::new(text)
     }
 }
 
@@ -138,7 +139,8 @@ impl<'a> SymbolRef<'a> {
     pub fn as_str(&self) -> &'a str
         ensures { result.now ≡ self.now.0.now }
     {
-        self.0
+        let SymbolRef(own) = self;
+        *own
     }
 }
 

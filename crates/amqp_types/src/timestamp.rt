@@ -45,7 +45,8 @@ impl Timestamp {
     pub fn into_inner(self) -> i64
         ensures { result ≡ self }
     {
-        self.0
+        let Timestamp(own) = self;
+        own
     }
 }
 
@@ -54,7 +55,7 @@ impl From<i64> for Timestamp {
 
     #[inline(always)]
     fn from(milliseconds: i64) -> Timestamp {
-        Timestamp(milliseconds)
+        Timestamp::from_milliseconds(milliseconds)
     }
 }
 

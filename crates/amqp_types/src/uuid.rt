@@ -7,6 +7,9 @@ ghost use Rattle.amqp_base.specs.Item.{scalar, uuid};
 ghost use Rattle.amqp_base.specs.OneValue.{one_of, bytes_in};
 ghost use Rattle.amqp_base.specs.ReadBack.{of_own_kind};
 ghost use Rattle.amqp_base.specs.Typing.{is_of};
+ghost use Rattle.std.specs.Borrow.{Lends, sem};
+ghost use Rattle.amqp_types.specs.contracts.uuid.Uuid.{the_row};
+ghost use Rattle.amqp_types.specs.Rows.{uuid_bytes};
 
 use amqp_base::{Error, NeverNull, RoundTrip, Typed, UUID_WIDTH};
 use std::convert::TryFrom;
@@ -18,6 +21,8 @@ use std::marker::Model;
 pub struct Uuid([u8; UUID_WIDTH]);
 
 impl Model for Uuid {
+    ghost use Rattle.std.specs.Prelude.{ℕ, List};
+
     ghost Value = { List ℕ };
 
     ghost view = { λ d. d.0 };
@@ -31,7 +36,8 @@ impl Uuid {
     pub fn into_inner(self) -> [u8; UUID_WIDTH]
         ensures { result ≡ self }
     {
-        self.0
+        let Uuid(own) = self;
+        own
     }
 
     /// Its 16 bytes, lent.
@@ -39,12 +45,14 @@ impl Uuid {
     pub fn as_inner(&self) -> &[u8; UUID_WIDTH]
         ensures { result.now ≡ self.now }
     {
-        &self.0
+        let Uuid(lent) = self;
+        lent
     }
 
     /// Its 16 bytes, lent to be written.
     pub fn as_inner_mut(&mut self) -> &mut [u8; UUID_WIDTH]
         ensures shows { result.now ≡ self.old }
+        ensures* writes_back { sem 𝓛 (Lends the_row uuid_bytes self.entry result (λ b. b)) }
     {
         &mut self.0
     }
@@ -63,8 +71,8 @@ impl From<Uuid> for [u8; UUID_WIDTH] {
     ghost from_gives = { λ d bytes. bytes ≡ d };
 
     #[inline(always)]
-    fn from(value: Uuid) -> [u8; UUID_WIDTH] {
-        value.0
+    fn from(uuid: Uuid) -> [u8; UUID_WIDTH] {
+        uuid.into_inner()
     }
 }
 
@@ -78,9 +86,9 @@ impl TryFrom<&[u8]> for Uuid {
         if bytes.len() != UUID_WIDTH {
             return Err(Error::InvalidLength);
         }
-        let mut own = [0; UUID_WIDTH];
-        own.copy_from_slice(bytes);
-        Ok(Uuid(own))
+        let mut copied = [0; UUID_WIDTH];
+        copied.copy_from_slice(bytes);
+        Ok(Uuid(copied))
     }
 }
 
