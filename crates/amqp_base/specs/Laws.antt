@@ -1,5 +1,5 @@
 -- What holds of the wire. Each is the contract of a law function.
-use Rattle.std.specs.Prelude.{◌≡◌, ℕ, ◌≤◌, ◌<◌, ◌-◌, ◌*◌, max, List, ◌++◌, length, take, get_or, Some}
+use Rattle.std.specs.Prelude.{◌≡◌, ℕ, Bool, IsTrue, ◌≤◌, ◌<◌, ◌-◌, ◌*◌, max, List, ◌++◌, length, take, get_or, Some}
 use Rattle.amqp_base.specs.Item.{Scalar, binary, string, symbol, descriptor_item, Item, scalar, list, map, array, described, Items, none, more, Pairs, no_pairs, pair, Capped, items}
 use Rattle.amqp_base.specs.Wire.{Rules, lenient, strict, Constructor, bare, under, under_pair, Wire, Front}
 use Rattle.amqp_base.specs.Canon.{canon}
@@ -98,3 +98,7 @@ ItemsBoundedPlain = (c : Constructor) (s : List ℕ) (i : Item) (n : ℕ) → Ar
 -- a canonical text is read again, whatever follows it
 abbrev pub CanonFront : Type 0
 CanonFront = (i : Item) (b rest : List ℕ) → canon i ≡ Some b → Capped i → Front lenient bare (b ++ rest) i (length b)
+
+-- so is a value of a type whose values are read back
+abbrev pub RoundTrips : {T : Type 0} → (T → Item) → (Item → Bool) → (Item → T → Type 0) → Type 0
+RoundTrips {T} item takes means = (v : T) (b rest : List ℕ) → canon (item v) ≡ Some b → Capped (item v) → Front lenient bare (b ++ rest) (item v) (length b) × IsTrue (takes (item v)) × means (item v) v

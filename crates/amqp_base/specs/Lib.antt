@@ -14,6 +14,7 @@ pub mod Sizes
 pub mod Shapes
 pub mod Typing
 pub mod OneValue
+pub mod ReadBack
 pub mod Fields
 pub mod Faults
 pub mod Refusals

@@ -1,35 +1,48 @@
 -- An item is read as one value at most.
-use Rattle.std.specs.Prelude.{◌≡◌, ℕ, ℤ, pos, List, [], ◌∷◌}
+use Rattle.std.specs.Prelude.{◌≡◌, ℕ, ℤ, pos, Bool, false, List, [], ◌∷◌}
 use Rattle.std.proofs.Common.{sym, ap, ◌∙◌}
-use Rattle.amqp_base.specs.Item.{uint, int, string, Item, scalar, list, map, array, described, Items, none, more}
+use Rattle.amqp_base.specs.Item.{boolean, ubyte, ushort, uint, ulong, byte, short, int, long, float, double, char, timestamp, decimal32, decimal64, decimal128, uuid, binary, string, symbol, Scalar, Item, scalar, list, map, array, described, Items, none, more}
 use Rattle.amqp_base.specs.Typing.{OneValue, all_mean, all_same, means_list}
 
--- the number of a uint
-abbrev uint_in : Item → ℕ
-uint_in (scalar (uint n)) = n
-uint_in i = 0
+-- the truth value of a boolean
+abbrev pub truth_in : Item → Bool
+truth_in (scalar (boolean b)) = b
+truth_in i = false
 
--- the number of an int
-abbrev int_in : Item → ℤ
-int_in (scalar (int z)) = z
-int_in i = pos 0
+-- the number of an unsigned kind, the bits of a float or a double, the code point of a character
+abbrev pub natural_in : Item → ℕ
+natural_in (scalar (ubyte n)) = n
+natural_in (scalar (ushort n)) = n
+natural_in (scalar (uint n)) = n
+natural_in (scalar (ulong n)) = n
+natural_in (scalar (float n)) = n
+natural_in (scalar (double n)) = n
+natural_in (scalar (char n)) = n
+natural_in i = 0
 
--- the bytes of a string
-abbrev string_in : Item → List ℕ
-string_in (scalar (string b)) = b
-string_in i = []
+-- the number of a signed kind, the milliseconds of a timestamp
+abbrev pub integer_in : Item → ℤ
+integer_in (scalar (byte z)) = z
+integer_in (scalar (short z)) = z
+integer_in (scalar (int z)) = z
+integer_in (scalar (long z)) = z
+integer_in (scalar (timestamp z)) = z
+integer_in i = pos 0
 
--- a uint means one number
-pub one_uint : (i : Item) (m n : ℕ) → i ≡ scalar (uint m) → i ≡ scalar (uint n) → m ≡ n
-one_uint i m n p q = ap uint_in (sym p ∙ q)
+-- the bytes of a decimal, a uuid or a payload
+abbrev pub bytes_in : Item → List ℕ
+bytes_in (scalar (decimal32 b)) = b
+bytes_in (scalar (decimal64 b)) = b
+bytes_in (scalar (decimal128 b)) = b
+bytes_in (scalar (uuid b)) = b
+bytes_in (scalar (binary b)) = b
+bytes_in (scalar (string b)) = b
+bytes_in (scalar (symbol b)) = b
+bytes_in i = []
 
--- an int means one number
-pub one_int : (i : Item) (m n : ℤ) → i ≡ scalar (int m) → i ≡ scalar (int n) → m ≡ n
-one_int i m n p q = ap int_in (sym p ∙ q)
-
--- a string means one text
-pub one_string : (i : Item) (a b : List ℕ) → i ≡ scalar (string a) → i ≡ scalar (string b) → a ≡ b
-one_string i a b p q = ap string_in (sym p ∙ q)
+-- an item of a kind means one content
+pub one_of : {A : Type 0} (kind : A → Scalar) (inside : Item → A) → ((a : A) → inside (scalar (kind a)) ≡ a) → (i : Item) (a b : A) → i ≡ scalar (kind a) → i ≡ scalar (kind b) → a ≡ b
+one_of kind inside back i a b p q = sym (back a) ∙ (ap inside (sym p ∙ q) ∙ back b)
 
 -- parts that mean one value each mean one list of values
 one_all : {T : Type 0} (means : Item → T → Type 0) (same : T → T → Type 0) → OneValue means same

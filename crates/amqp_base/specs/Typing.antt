@@ -5,7 +5,7 @@ use Rattle.amqp_base.specs.SameKind.{same_kind}
 use Rattle.amqp_base.specs.Canon.{kind_of}
 use Rattle.amqp_base.specs.declared.shape.Setting.{Setting}
 use Rattle.amqp_base.specs.declared.shape.Setting.TheVariants.{Plain, Symbol, DescribedList, DescribedMap, DescribedBasic}
-use Rattle.amqp_base.specs.Item.{string, symbol, Item, scalar, list, Items, none, more}
+use Rattle.amqp_base.specs.Item.{null, string, symbol, Item, scalar, list, Items, none, more}
 
 -- a text: a symbol (1.6.21) under the symbol setting, else a string (1.6.20)
 abbrev pub text_item : List ℕ → Setting → Item
@@ -23,6 +23,11 @@ OneValue {T} means same = (i : Item) (v w : T) → means i v → means i w → s
 abbrev pub is_of : Kind → Item → Bool
 is_of k (scalar v) = same_kind (kind_of v) k
 is_of k i = false
+
+-- the null item (1.6.1)
+abbrev pub is_null : Item → Bool
+is_null (scalar null) = true
+is_null i = false
 
 -- every part is taken
 abbrev pub all_taken : (Item → Bool) → Items → Bool

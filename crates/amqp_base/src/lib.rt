@@ -24,4 +24,4 @@ pub use error::Error;
 pub use fault::{Counted, FaultCount, Sink, Source};
 pub use format_code::{Category, EncodingCodes, IsDescribed};
 pub use shape::{Setting, Shape};
-pub use typed::Typed;
+pub use typed::{NeverNull, RoundTrip, Typed};

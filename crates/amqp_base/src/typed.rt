@@ -1,6 +1,9 @@
 //! What the values of a type mean on the wire.
 
-ghost use Rattle.std.specs.Prelude.{◌≡◌, Bool, true, false, map, string_bytes};
+ghost use Rattle.std.specs.Prelude.{◌≡◌, Bool, false, IsTrue};
+
+mod numbers;
+mod others;
 
 /// The meaning of a type: which item each of its values is written as, which items it takes, and which value it
 /// reads from each. Contracts alone see it.
@@ -35,99 +38,23 @@ pub trait Typed: Drop {
     ghost one_value: { OneValue means same };
 }
 
-impl Typed for u32 {
-    ghost use Rattle.std.specs.Prelude.{refl};
-    ghost use Rattle.amqp_base.specs.Item.{scalar, uint};
-    ghost use Rattle.amqp_base.specs.Codes.{Kind};
-    ghost use Rattle.amqp_base.specs.Typing.{is_of};
-    ghost use Rattle.amqp_base.specs.OneValue.{one_uint};
-
-    ghost item = { λ v _. scalar (uint v) };
-
-    ghost takes = { is_of Kind.uint };
-
-    ghost means = { λ i v. i ≡ scalar (uint v) };
-
-    ghost same = { λ v w. v ≡ w };
-
-    ghost grows = { false };
-
-    ghost in_described_list = { λ _. refl };
-
-    ghost in_described_basic = { λ _. refl };
-
-    ghost one_value = { one_uint };
-}
-
-impl Typed for i32 {
-    ghost use Rattle.std.specs.Prelude.{refl};
-    ghost use Rattle.amqp_base.specs.Item.{scalar, int};
-    ghost use Rattle.amqp_base.specs.Codes.{Kind};
-    ghost use Rattle.amqp_base.specs.Typing.{is_of};
-    ghost use Rattle.amqp_base.specs.OneValue.{one_int};
-
-    ghost item = { λ v _. scalar (int v) };
-
-    ghost takes = { is_of Kind.int };
-
-    ghost means = { λ i v. i ≡ scalar (int v) };
-
-    ghost same = { λ v w. v ≡ w };
-
-    ghost grows = { false };
-
-    ghost in_described_list = { λ _. refl };
-
-    ghost in_described_basic = { λ _. refl };
-
-    ghost one_value = { one_int };
-}
-
-impl Typed for String {
-    ghost use Rattle.std.specs.Prelude.{refl};
-    ghost use Rattle.amqp_base.specs.Item.{scalar, string};
-    ghost use Rattle.amqp_base.specs.Typing.{is_of, text_item};
-    ghost use Rattle.amqp_base.specs.Codes.{Kind};
-    ghost use Rattle.amqp_base.specs.OneValue.{one_string};
-
-    ghost item = { λ v setting. text_item (string_bytes v) setting };
-
-    ghost takes = { is_of Kind.string };
-
-    ghost means = { λ i v. i ≡ scalar (string (string_bytes v)) };
-
-    ghost same = { λ v w. string_bytes v ≡ string_bytes w };
-
-    ghost grows = { true };
-
-    ghost in_described_list = { λ _. refl };
-
-    ghost in_described_basic = { λ _. refl };
-
-    ghost one_value = { λ i v w p q. one_string i (string_bytes v) (string_bytes w) p q };
-}
-
-impl<T: Typed> Typed for Vec<T> {
-    ghost use Rattle.std.specs.Prelude.{refl};
-    ghost use Rattle.amqp_base.specs.Shapes.{whole};
-    ghost use Rattle.amqp_base.specs.declared.shape.Shape.{Shape};
+/// A type whose values are read back from what is written for them: the item that a value is written as by itself is
+/// one that the type takes, and it is read as that value. `laws::round_trip` says what follows for bytes.
+pub trait RoundTrip: Typed {
     ghost use Rattle.amqp_base.specs.declared.shape.Setting.TheVariants.{Plain};
-    ghost use Rattle.amqp_base.specs.Typing.{is_list_of, means_list, all_same};
-    ghost use Rattle.amqp_base.specs.OneValue.{one_list};
 
-    ghost item = { λ v _. whole Shape.List (map (λ x. T.item x Plain) v.items) };
+    /// The item of a value is taken.
+    ghost taken_back: { (v : Self) → IsTrue (Self.takes (Self.item v Plain)) };
 
-    ghost takes = { is_list_of T.takes };
+    /// It is read as that value.
+    ghost read_back: { (v : Self) → Self.means (Self.item v Plain) v };
+}
 
-    ghost means = { λ i v. means_list T.means i v.items };
+/// A type whose values are never written as null (part 1, section 1.6.1). So an option of them is read back, too.
+pub trait NeverNull: Typed {
+    ghost use Rattle.amqp_base.specs.Typing.{is_null};
+    ghost use Rattle.amqp_base.specs.declared.shape.Setting.TheVariants.{Plain};
 
-    ghost same = { λ v w. all_same T.same v.items w.items };
-
-    ghost grows = { true };
-
-    ghost in_described_list = { λ _. refl };
-
-    ghost in_described_basic = { λ _. refl };
-
-    ghost one_value = { λ i v w. one_list T.means T.same T.one_value i v.items w.items };
+    /// The item of a value isn't null.
+    ghost never_null: { (v : Self) → is_null (Self.item v Plain) ≡ false };
 }

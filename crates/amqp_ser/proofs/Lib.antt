@@ -1,8 +1,10 @@
-pub mod CanonUint
-pub mod CanonInt
+pub mod FixedTexts
 pub mod Bytes
 pub mod Steps
 pub mod TextOf
+pub mod ShortNumbers
+pub mod WideTexts
+pub mod PayloadTexts
 pub mod PartTexts
 pub mod Lengths
 pub mod Compounds

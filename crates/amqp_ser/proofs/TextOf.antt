@@ -1,15 +1,13 @@
 -- The texts of items, case by case.
-use Rattle.std.proofs.Common.{◌≡◌, ℕ, ℤ, ◌+◌, ◌%◌, ◌^◌, ◌<◌, ◌≤◌, List, [], ◌∷◌, ◌++◌, length, refl, sym, ◌∙◌, ap, subst, arith, Option, Some, None, true, false, Bool, if◌then◌else◌, Result, Err}
-use Rattle.std.proofs.lemmas.List.{append-nil}
+use Rattle.std.proofs.Common.{◌≡◌, ℕ, ◌+◌, ◌%◌, ◌<◌, ◌≤◌, List, [], ◌∷◌, ◌++◌, length, refl, sym, ap, subst, arith, Option, Some, None, true, false, Bool, if◌then◌else◌, Result, Err}
 use Rattle.std.proofs.lemmas.Bool.{eq-eqb, ne_eqb, lt-ltb, le-ltb, le-leb, lt-leb}
-use Rattle.std.specs.Int.{w8, w32, bytes_high_first, cast_unsigned}
-use mir.Val.{SFits}
+use Rattle.std.specs.Int.{bytes_high_first}
 use Rattle.std.specs.Str.{is_utf8}
 use Rattle.amqp_base.specs.declared.format_code.EncodingCodes.{EncodingCodes}
-use Rattle.amqp_base.specs.declared.format_code.EncodingCodes.TheVariants.{Uint, Int, Str32, Sym32}
+use Rattle.amqp_base.specs.declared.format_code.EncodingCodes.TheVariants.{Str32, Sym32}
 use Rattle.amqp_base.specs.Codes.{row, widest}
 use Rattle.amqp_base.specs.Wire.{Constructor, under}
-use Rattle.amqp_base.specs.Item.{Item, scalar, uint, int, string, symbol}
+use Rattle.amqp_base.specs.Item.{scalar, string, symbol}
 use Rattle.amqp_base.specs.Canon.{canon, body, kind_code, scalar_body, scalar_text, short_text, is_under, limit, sized}
 use Rattle.amqp_base.specs.Sizes.{Size, sizes}
 use Rattle.amqp_base.specs.declared.error.Error.{Error}
@@ -21,8 +19,6 @@ use Rattle.amqp_base.specs.declared.shape.Shape.{Shape}
 use Rattle.amqp_ser.specs.Compound.{whole_text, shape_code, narrow_of, empty_list}
 use Rattle.amqp_ser.proofs.Steps.{pays_appended, pays_none}
 use Rattle.amqp_base.specs.declared.error.Error.TheVariants.{InvalidValue, OutOfMemory, Io}
-use Rattle.amqp_ser.proofs.CanonInt.{canon_int_1, canon_int_4, body_int}
-use Rattle.amqp_ser.proofs.CanonUint.{canon_uint_0, canon_uint_1, canon_uint_4}
 use Rattle.amqp_ser.specs.declared.serializer.Mark.{Mark as CodeMark}
 use Rattle.amqp_ser.specs.declared.serializer.Mark.TheVariants.{Unmarked, First, Other}
 use Rattle.amqp_ser.specs.State.{State, Mark, unmarked, first, other, mark_of}
@@ -36,61 +32,6 @@ not_unmarked (Other c) h e = cc
 
 pub pays_text : {A : Type 0} (s : State) (text text' : Option (List ℕ)) (found found' : Option Constructor) (l : List Size) (why : Error) (r : Result A Error) (t : State) → text ≡ text' → found ≡ found' → Pays s text' found' l why r t → Pays s text found l why r t
 pays_text s text text' found found' l why r t e f p = subst (λ x. Pays s x found l why r t) (sym e) (subst (λ x. Pays s text' x l why r t) (sym f) p)
-
--- uint
-pub uint_code : (n : ℕ) → kind_code (scalar (uint n)) ≡ Some (under Uint)
-unfolding kind_code widest
-uint_code n = refl
-
-pub uint_0 : (n : ℕ) → n ≡ 0 → marked unmarked (scalar (uint n)) ≡ Some (0x43 ∷ [])
-unfolding marked
-uint_0 n h = canon_uint_0 n h
-
-pub uint_1 : (n : ℕ) → (n ≡ 0 → ⊥) → n < 256 → marked unmarked (scalar (uint n)) ≡ Some (0x52 ∷ n ∷ [])
-unfolding marked
-uint_1 n h l = canon_uint_1 n h l
-
-pub uint_4 : (n : ℕ) → 256 ≤ n → n < 2 ^ 32 → marked unmarked (scalar (uint n)) ≡ Some (0x70 ∷ bytes_high_first 4 n)
-unfolding marked
-uint_4 n h l = canon_uint_4 n h l
-
-uint_body : (n : ℕ) → n < 2 ^ 32 → body (scalar (uint n)) ≡ Some (bytes_high_first 4 n ++ [])
-unfolding body scalar_body
-uint_body n h = rw (lt-ltb n (256 ^ 4) (omega (arith, h)), append-nil (bytes_high_first 4 n)) refl
-
--- an item that is written under its one wide code
-pub marked_placed : (m : Mark) (i : Item) (c : Constructor) (b : Option (List ℕ)) → (m ≡ unmarked → ⊥) → kind_code i ≡ Some c → body i ≡ b → marked m i ≡ placed m (Some c) b
-unfolding marked
-marked_placed unmarked i c b h k e = absurd (h refl)
-marked_placed first i c b h k e = rw (k, e) refl
-marked_placed (other d) i c b h k e = rw (k, e) refl
-
-pub uint_placed : (m : Mark) (n : ℕ) → (m ≡ unmarked → ⊥) → n < 2 ^ 32 → marked m (scalar (uint n)) ≡ placed m (Some (under Uint)) (Some (bytes_high_first 4 n ++ []))
-uint_placed m n h l = marked_placed m _ _ _ h (uint_code n) (uint_body n l)
-
--- int
-pub int_code : (z : ℤ) → kind_code (scalar (int z)) ≡ Some (under Int)
-unfolding kind_code widest
-int_code z = refl
-
-pub int_1 : (z : ℤ) → SFits w8 z → marked unmarked (scalar (int z)) ≡ Some (0x54 ∷ cast_unsigned w8 z ∷ [])
-unfolding marked
-int_1 z h = canon_int_1 z h
-
-pub int_4 : (z : ℤ) → (SFits w8 z → ⊥) → SFits w32 z → marked unmarked (scalar (int z)) ≡ Some (0x71 ∷ bytes_high_first 4 (cast_unsigned w32 z))
-unfolding marked
-int_4 z h f = canon_int_4 z h f
-
-pub int_placed : (m : Mark) (z : ℤ) → (m ≡ unmarked → ⊥) → SFits w32 z → marked m (scalar (int z)) ≡ placed m (Some (under Int)) (Some (bytes_high_first 4 (cast_unsigned w32 z) ++ []))
-int_placed m z h f = marked_placed m _ _ _ h (int_code z) (body_int z f ∙ ap Some (sym (append-nil (bytes_high_first 4 (cast_unsigned w32 z)))))
-
-pub int_sizes : (z : ℤ) → sizes (scalar (int z)) ≡ []
-unfolding sizes
-int_sizes z = refl
-
-pub uint_sizes : (n : ℕ) → sizes (scalar (uint n)) ≡ []
-unfolding sizes
-uint_sizes n = refl
 
 -- texts
 if_none : (t : Bool) → (let n : Option (List ℕ) = None in if t then n else n) ≡ None

@@ -16,6 +16,12 @@ payload_at unmarked narrow e b = or_else (short_payload narrow b) (sized b >>= �
 payload_at first narrow e b = placed first (Some (under e)) (sized b)
 payload_at (other d) narrow e b = placed (other d) (Some (under e)) (sized b)
 
+-- data of a fixed width, under its code
+unfoldable pub fixed_at : Mark → EncodingCodes → List ℕ → Option (List ℕ)
+fixed_at unmarked e d = Some ((row e).byte ∷ d)
+fixed_at first e d = placed first (Some (under e)) (Some d)
+fixed_at (other c) e d = placed (other c) (Some (under e)) (Some d)
+
 -- what appending bytes does
 pub record Appended {A : Type 0} (s : State) (bytes : List ℕ) (r : Result A Error) (t : State) : Type 0 where
   pub kept : Kept s t

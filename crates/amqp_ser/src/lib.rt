@@ -2,11 +2,15 @@
 #![tactic(auto, unfolding(crate::specs::State::state, crate::specs::Compound::open_state))]
 
 mod compound;
+mod fixed;
+mod floats;
+mod numbers;
 mod payloads;
 mod scalars;
 mod seq;
 mod serialize;
 mod serializer;
+mod signed;
 #[cfg(test)]
 mod tests;
 

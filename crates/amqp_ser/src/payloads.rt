@@ -1,6 +1,7 @@
-//! Texts.
+//! Texts and bytes.
 
 ghost use Rattle.std.specs.Prelude.{◌≡◌, [], false, length, IfErr, OnOk, Some};
+ghost use Rattle.amqp_base.specs.Item.{scalar, binary, symbol};
 ghost use Rattle.amqp_base.specs.Wire.{under};
 ghost use Rattle.amqp_base.specs.Typing.{text_item};
 ghost use Rattle.amqp_ser.specs.State.{state};
@@ -59,5 +60,45 @@ impl<W: Sink> Serializer<W> {
             Setting::Symbol => self.payload(0xa3, EncodingCodes::Sym32, v.as_bytes()),
             _ => self.payload(0xa1, EncodingCodes::Str32, v.as_bytes()),
         }
+    }
+
+    /// Writes a symbol, whatever the setting (section 1.6.21). Outside arrays up to 254 bytes stand behind one byte of
+    /// length, else behind four. It takes no memory of its own.
+    ///
+    /// `Io(Other)`: the text has more than 4,294,967,291 bytes. `InvalidValue`: the array that it is to stand in has
+    /// elements under another constructor.
+    #[inline(always)]
+    pub fn serialize_symbol(&mut self, alloc: Global, v: &str) -> Result<(), Error>
+        ensures ok { OnOk result (Wrote (state W.Write W.FaultCount self.old) (scalar (symbol v.now)) (state W.Write W.FaultCount self.new)) }
+        ensures err { IfErr result (λ e. Refused (state W.Write W.FaultCount self.old) (scalar (symbol v.now)) e (state W.Write W.FaultCount self.new)) }
+        ensures named { IfErr result (λ e. Named (state W.Write W.FaultCount self.old) (length v.now) e (state W.Write W.FaultCount self.new)) }
+        ensures stops { Stops (state W.Write W.FaultCount self.old) result (state W.Write W.FaultCount self.new) }
+        ensures spares { Spares (state W.Write W.FaultCount self.old) result (state W.Write W.FaultCount self.new) }
+    {
+        let _ = alloc;
+        if self.stopped {
+            return Err(Error::InvalidValue);
+        }
+        self.payload(0xa3, EncodingCodes::Sym32, v.as_bytes())
+    }
+
+    /// Writes bytes as binary (section 1.6.19). Outside arrays up to 254 of them stand behind one byte of length, else
+    /// behind four. It takes no memory of its own.
+    ///
+    /// `Io(Other)`: there are more than 4,294,967,291 bytes. `InvalidValue`: the array that they are to stand in has
+    /// elements under another constructor.
+    #[inline(always)]
+    pub fn serialize_bytes(&mut self, alloc: Global, v: &[u8]) -> Result<(), Error>
+        ensures ok { OnOk result (Wrote (state W.Write W.FaultCount self.old) (scalar (binary v.now)) (state W.Write W.FaultCount self.new)) }
+        ensures err { IfErr result (λ e. Refused (state W.Write W.FaultCount self.old) (scalar (binary v.now)) e (state W.Write W.FaultCount self.new)) }
+        ensures named { IfErr result (λ e. Named (state W.Write W.FaultCount self.old) (length v.now) e (state W.Write W.FaultCount self.new)) }
+        ensures stops { Stops (state W.Write W.FaultCount self.old) result (state W.Write W.FaultCount self.new) }
+        ensures spares { Spares (state W.Write W.FaultCount self.old) result (state W.Write W.FaultCount self.new) }
+    {
+        let _ = alloc;
+        if self.stopped {
+            return Err(Error::InvalidValue);
+        }
+        self.payload(0xa0, EncodingCodes::Vbin32, v)
     }
 }

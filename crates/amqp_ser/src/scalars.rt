@@ -1,7 +1,7 @@
-//! Numbers.
+//! Null, booleans, characters, times and uuids.
 
 ghost use Rattle.std.specs.Prelude.{◌≡◌, [], false, IfErr, OnOk};
-ghost use Rattle.amqp_base.specs.Item.{scalar, uint, int};
+ghost use Rattle.amqp_base.specs.Item.{scalar, null, boolean, char, timestamp, uuid};
 ghost use Rattle.amqp_base.specs.Canon.{kind_code};
 ghost use Rattle.amqp_ser.specs.State.{state};
 ghost use Rattle.amqp_ser.specs.Law.{Wrote, Refused, Stops, Spares, Named, marked, found_after};
@@ -10,17 +10,17 @@ ghost use Rattle.amqp_ser.specs.Appending.{Pays};
 use crate::Serializer;
 use crate::serializer::Mark;
 use amqp_base::{EncodingCodes, Error, Sink};
+use amqp_types::Uuid;
 use std::alloc::Global;
 
 impl<W: Sink> Serializer<W> {
-    /// Writes a uint (section 1.6.5): outside arrays 43 for 0, 52 and a byte up to 255, else 70 and four bytes, highest
-    /// first; in an array four bytes. It takes no memory of its own.
+    /// Writes null (section 1.6.1): 40. It takes no memory of its own.
     ///
-    /// `InvalidValue`: the array that it is to stand in has elements under another constructor.
+    /// `InvalidValue`: it is to stand in an array, whose elements can't be null.
     #[inline(always)]
-    pub fn serialize_u32(&mut self, alloc: Global, v: u32) -> Result<(), Error>
-        ensures ok { OnOk result (Wrote (state W.Write W.FaultCount self.old) (scalar (uint v)) (state W.Write W.FaultCount self.new)) }
-        ensures err { IfErr result (λ e. Refused (state W.Write W.FaultCount self.old) (scalar (uint v)) e (state W.Write W.FaultCount self.new)) }
+    pub fn serialize_unit(&mut self, alloc: Global) -> Result<(), Error>
+        ensures ok { OnOk result (Wrote (state W.Write W.FaultCount self.old) (scalar null) (state W.Write W.FaultCount self.new)) }
+        ensures err { IfErr result (λ e. Refused (state W.Write W.FaultCount self.old) (scalar null) e (state W.Write W.FaultCount self.new)) }
         ensures named { IfErr result (λ e. Named (state W.Write W.FaultCount self.old) 0 e (state W.Write W.FaultCount self.new)) }
         ensures stops { Stops (state W.Write W.FaultCount self.old) result (state W.Write W.FaultCount self.new) }
         ensures spares { Spares (state W.Write W.FaultCount self.old) result (state W.Write W.FaultCount self.new) }
@@ -29,38 +29,51 @@ impl<W: Sink> Serializer<W> {
         if self.stopped {
             return Err(Error::InvalidValue);
         }
-        if let Err(e) = self.uint(v) {
+        if let Err(e) = self.null() {
             return Err(e);
         }
         Ok(())
     }
 
-    /// The text of a uint where it stands.
+    /// Null where it stands.
     #[inline(always)]
-    fn uint(&mut self, v: u32) -> Result<(), Error>
+    fn null(&mut self) -> Result<(), Error>
         requires { self.old.stopped ≡ false }
-        ensures law { Pays (state W.Write W.FaultCount self.old) (marked (state W.Write W.FaultCount self.old).mark (scalar (uint v))) (found_after (state W.Write W.FaultCount self.old).mark (kind_code (scalar (uint v))) (state W.Write W.FaultCount self.old).found) ([]) Error.InvalidValue result (state W.Write W.FaultCount self.new) }
+        ensures law { Pays (state W.Write W.FaultCount self.old) (marked (state W.Write W.FaultCount self.old).mark (scalar null)) (found_after (state W.Write W.FaultCount self.old).mark (kind_code (scalar null)) (state W.Write W.FaultCount self.old).found) ([]) Error.InvalidValue result (state W.Write W.FaultCount self.new) }
     {
         let mark = self.mark;
         match mark {
-            Mark::Unmarked if v == 0 => self.append(&[0x43]),
-            Mark::Unmarked if v < 256 => self.append(&[0x52, v as u8]),
-            Mark::Unmarked => {
-                let bytes = v.to_be_bytes();
-                self.append(&[0x70, bytes[0], bytes[1], bytes[2], bytes[3]])
+            Mark::Unmarked => self.append(&[0x40]),
+            _ => {
+                self.stopped = true;
+                Err(Error::InvalidValue)
             }
-            _ => self.element(EncodingCodes::Uint, &v.to_be_bytes(), &[]),
         }
     }
 
-    /// Writes an int in two's complement (section 1.6.9): outside arrays 54 and a byte from -128 to 127, else 71 and four
-    /// bytes, highest first; in an array four bytes. It takes no memory of its own.
+    /// Writes null (section 1.6.1), as a unit struct; `name` isn't written. It takes no memory of its own.
+    ///
+    /// `InvalidValue`: it is to stand in an array, whose elements can't be null.
+    #[inline(always)]
+    pub fn serialize_unit_struct(&mut self, alloc: Global, name: &'static str) -> Result<(), Error>
+        ensures ok { OnOk result (Wrote (state W.Write W.FaultCount self.old) (scalar null) (state W.Write W.FaultCount self.new)) }
+        ensures err { IfErr result (λ e. Refused (state W.Write W.FaultCount self.old) (scalar null) e (state W.Write W.FaultCount self.new)) }
+        ensures named { IfErr result (λ e. Named (state W.Write W.FaultCount self.old) 0 e (state W.Write W.FaultCount self.new)) }
+        ensures stops { Stops (state W.Write W.FaultCount self.old) result (state W.Write W.FaultCount self.new) }
+        ensures spares { Spares (state W.Write W.FaultCount self.old) result (state W.Write W.FaultCount self.new) }
+    {
+        let _ = name;
+        self.serialize_unit(alloc)
+    }
+
+    /// Writes a boolean (section 1.6.2): outside arrays 41 for true and 42 for false; in an array one byte, 01 or 00. It
+    /// takes no memory of its own.
     ///
     /// `InvalidValue`: the array that it is to stand in has elements under another constructor.
     #[inline(always)]
-    pub fn serialize_i32(&mut self, alloc: Global, v: i32) -> Result<(), Error>
-        ensures ok { OnOk result (Wrote (state W.Write W.FaultCount self.old) (scalar (int v)) (state W.Write W.FaultCount self.new)) }
-        ensures err { IfErr result (λ e. Refused (state W.Write W.FaultCount self.old) (scalar (int v)) e (state W.Write W.FaultCount self.new)) }
+    pub fn serialize_bool(&mut self, alloc: Global, v: bool) -> Result<(), Error>
+        ensures ok { OnOk result (Wrote (state W.Write W.FaultCount self.old) (scalar (boolean v)) (state W.Write W.FaultCount self.new)) }
+        ensures err { IfErr result (λ e. Refused (state W.Write W.FaultCount self.old) (scalar (boolean v)) e (state W.Write W.FaultCount self.new)) }
         ensures named { IfErr result (λ e. Named (state W.Write W.FaultCount self.old) 0 e (state W.Write W.FaultCount self.new)) }
         ensures stops { Stops (state W.Write W.FaultCount self.old) result (state W.Write W.FaultCount self.new) }
         ensures spares { Spares (state W.Write W.FaultCount self.old) result (state W.Write W.FaultCount self.new) }
@@ -69,28 +82,88 @@ impl<W: Sink> Serializer<W> {
         if self.stopped {
             return Err(Error::InvalidValue);
         }
-        if let Err(e) = self.int(v) {
+        if let Err(e) = self.boolean(v) {
             return Err(e);
         }
         Ok(())
     }
 
-    /// The text of an int where it stands.
+    /// The text of a boolean where it stands.
     #[inline(always)]
-    fn int(&mut self, v: i32) -> Result<(), Error>
+    fn boolean(&mut self, v: bool) -> Result<(), Error>
         requires { self.old.stopped ≡ false }
-        ensures law { Pays (state W.Write W.FaultCount self.old) (marked (state W.Write W.FaultCount self.old).mark (scalar (int v))) (found_after (state W.Write W.FaultCount self.old).mark (kind_code (scalar (int v))) (state W.Write W.FaultCount self.old).found) ([]) Error.InvalidValue result (state W.Write W.FaultCount self.new) }
+        ensures law { Pays (state W.Write W.FaultCount self.old) (marked (state W.Write W.FaultCount self.old).mark (scalar (boolean v))) (found_after (state W.Write W.FaultCount self.old).mark (kind_code (scalar (boolean v))) (state W.Write W.FaultCount self.old).found) ([]) Error.InvalidValue result (state W.Write W.FaultCount self.new) }
     {
         let mark = self.mark;
         match mark {
-            Mark::Unmarked => match i8::try_from(v) {
-                Ok(small) => self.append(&[0x54, small.cast_unsigned()]),
-                Err(_) => {
-                    let bytes = v.to_be_bytes();
-                    self.append(&[0x71, bytes[0], bytes[1], bytes[2], bytes[3]])
-                }
-            },
-            _ => self.element(EncodingCodes::Int, &v.to_be_bytes(), &[]),
+            Mark::Unmarked if v => self.append(&[0x41]),
+            Mark::Unmarked => self.append(&[0x42]),
+            _ => self.one_byte(EncodingCodes::Boolean, u8::from(v)),
         }
+    }
+
+    /// Writes a char (section 1.6.16): 73 and its code point in four bytes (UTF-32BE); in an array the four bytes. It takes
+    /// no memory of its own.
+    ///
+    /// `InvalidValue`: the array that it is to stand in has elements under another constructor.
+    #[inline(always)]
+    pub fn serialize_char(&mut self, alloc: Global, v: char) -> Result<(), Error>
+        ensures ok { OnOk result (Wrote (state W.Write W.FaultCount self.old) (scalar (char v)) (state W.Write W.FaultCount self.new)) }
+        ensures err { IfErr result (λ e. Refused (state W.Write W.FaultCount self.old) (scalar (char v)) e (state W.Write W.FaultCount self.new)) }
+        ensures named { IfErr result (λ e. Named (state W.Write W.FaultCount self.old) 0 e (state W.Write W.FaultCount self.new)) }
+        ensures stops { Stops (state W.Write W.FaultCount self.old) result (state W.Write W.FaultCount self.new) }
+        ensures spares { Spares (state W.Write W.FaultCount self.old) result (state W.Write W.FaultCount self.new) }
+    {
+        let _ = alloc;
+        if self.stopped {
+            return Err(Error::InvalidValue);
+        }
+        if let Err(e) = self.four_bytes(EncodingCodes::Char, u32::from(v).to_be_bytes()) {
+            return Err(e);
+        }
+        Ok(())
+    }
+
+    /// Writes a timestamp, `v` milliseconds after the Unix epoch (section 1.6.17): 83 and eight bytes of two's complement,
+    /// highest first; in an array the eight bytes. It takes no memory of its own.
+    ///
+    /// `InvalidValue`: the array that it is to stand in has elements under another constructor.
+    #[inline(always)]
+    pub fn serialize_timestamp(&mut self, alloc: Global, v: i64) -> Result<(), Error>
+        ensures ok { OnOk result (Wrote (state W.Write W.FaultCount self.old) (scalar (timestamp v)) (state W.Write W.FaultCount self.new)) }
+        ensures err { IfErr result (λ e. Refused (state W.Write W.FaultCount self.old) (scalar (timestamp v)) e (state W.Write W.FaultCount self.new)) }
+        ensures named { IfErr result (λ e. Named (state W.Write W.FaultCount self.old) 0 e (state W.Write W.FaultCount self.new)) }
+        ensures stops { Stops (state W.Write W.FaultCount self.old) result (state W.Write W.FaultCount self.new) }
+        ensures spares { Spares (state W.Write W.FaultCount self.old) result (state W.Write W.FaultCount self.new) }
+    {
+        let _ = alloc;
+        if self.stopped {
+            return Err(Error::InvalidValue);
+        }
+        if let Err(e) = self.eight_bytes(EncodingCodes::Timestamp, v.to_be_bytes()) {
+            return Err(e);
+        }
+        Ok(())
+    }
+
+    /// Writes a uuid (section 1.6.18): 98 and its sixteen bytes; in an array the sixteen bytes. It takes no memory of its own.
+    ///
+    /// `InvalidValue`: the array that it is to stand in has elements under another constructor.
+    #[inline(always)]
+    pub fn serialize_uuid(&mut self, alloc: Global, v: &Uuid) -> Result<(), Error>
+        ensures ok { OnOk result (Wrote (state W.Write W.FaultCount self.old) (scalar (uuid v.now)) (state W.Write W.FaultCount self.new)) }
+        ensures err { IfErr result (λ e. Refused (state W.Write W.FaultCount self.old) (scalar (uuid v.now)) e (state W.Write W.FaultCount self.new)) }
+        ensures named { IfErr result (λ e. Named (state W.Write W.FaultCount self.old) 0 e (state W.Write W.FaultCount self.new)) }
+        ensures stops { Stops (state W.Write W.FaultCount self.old) result (state W.Write W.FaultCount self.new) }
+        ensures spares { Spares (state W.Write W.FaultCount self.old) result (state W.Write W.FaultCount self.new) }
+    {
+        let _ = alloc;
+        if self.stopped {
+            return Err(Error::InvalidValue);
+        }
+        if let Err(e) = self.sixteen_bytes(EncodingCodes::Uuid, *v.as_inner()) {
+            return Err(e);
+        }
+        Ok(())
     }
 }

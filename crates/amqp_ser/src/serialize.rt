@@ -6,6 +6,9 @@ ghost use Rattle.amqp_ser.specs.Law.{Wrote, Refused};
 
 use crate::Serializer;
 use amqp_base::{Error, Sink, Typed};
+use amqp_types::{
+    Binary, BinaryRef, Dec32, Dec64, Dec128, Double, Float, Symbol, SymbolRef, Timestamp, Uuid,
+};
 use std::alloc::Global;
 
 /// A type whose values can be written: each as the item that `Typed` names for it.
@@ -20,10 +23,52 @@ pub trait Serialize: Typed {
         ensures err { IfErr result (λ e. Refused (state W.Write W.FaultCount ser.old) (Self.item self.now (state W.Write W.FaultCount ser.old).setting) e (state W.Write W.FaultCount ser.new)) };
 }
 
+impl Serialize for bool {
+    #[inline(always)]
+    fn serialize<W: Sink>(&self, alloc: Global, ser: &mut Serializer<W>) -> Result<(), Error> {
+        ser.serialize_bool(alloc, *self)
+    }
+}
+
+impl Serialize for u8 {
+    #[inline(always)]
+    fn serialize<W: Sink>(&self, alloc: Global, ser: &mut Serializer<W>) -> Result<(), Error> {
+        ser.serialize_u8(alloc, *self)
+    }
+}
+
+impl Serialize for u16 {
+    #[inline(always)]
+    fn serialize<W: Sink>(&self, alloc: Global, ser: &mut Serializer<W>) -> Result<(), Error> {
+        ser.serialize_u16(alloc, *self)
+    }
+}
+
 impl Serialize for u32 {
     #[inline(always)]
     fn serialize<W: Sink>(&self, alloc: Global, ser: &mut Serializer<W>) -> Result<(), Error> {
         ser.serialize_u32(alloc, *self)
+    }
+}
+
+impl Serialize for u64 {
+    #[inline(always)]
+    fn serialize<W: Sink>(&self, alloc: Global, ser: &mut Serializer<W>) -> Result<(), Error> {
+        ser.serialize_u64(alloc, *self)
+    }
+}
+
+impl Serialize for i8 {
+    #[inline(always)]
+    fn serialize<W: Sink>(&self, alloc: Global, ser: &mut Serializer<W>) -> Result<(), Error> {
+        ser.serialize_i8(alloc, *self)
+    }
+}
+
+impl Serialize for i16 {
+    #[inline(always)]
+    fn serialize<W: Sink>(&self, alloc: Global, ser: &mut Serializer<W>) -> Result<(), Error> {
+        ser.serialize_i16(alloc, *self)
     }
 }
 
@@ -34,10 +79,108 @@ impl Serialize for i32 {
     }
 }
 
+impl Serialize for i64 {
+    #[inline(always)]
+    fn serialize<W: Sink>(&self, alloc: Global, ser: &mut Serializer<W>) -> Result<(), Error> {
+        ser.serialize_i64(alloc, *self)
+    }
+}
+
+impl Serialize for char {
+    #[inline(always)]
+    fn serialize<W: Sink>(&self, alloc: Global, ser: &mut Serializer<W>) -> Result<(), Error> {
+        ser.serialize_char(alloc, *self)
+    }
+}
+
+impl Serialize for () {
+    #[inline(always)]
+    fn serialize<W: Sink>(&self, alloc: Global, ser: &mut Serializer<W>) -> Result<(), Error> {
+        ser.serialize_unit(alloc)
+    }
+}
+
 impl Serialize for String {
     #[inline(always)]
     fn serialize<W: Sink>(&self, alloc: Global, ser: &mut Serializer<W>) -> Result<(), Error> {
         ser.serialize_str(alloc, self.as_str())
+    }
+}
+
+impl Serialize for Float {
+    #[inline(always)]
+    fn serialize<W: Sink>(&self, alloc: Global, ser: &mut Serializer<W>) -> Result<(), Error> {
+        ser.serialize_f32(alloc, *self)
+    }
+}
+
+impl Serialize for Double {
+    #[inline(always)]
+    fn serialize<W: Sink>(&self, alloc: Global, ser: &mut Serializer<W>) -> Result<(), Error> {
+        ser.serialize_f64(alloc, *self)
+    }
+}
+
+impl Serialize for Dec32 {
+    #[inline(always)]
+    fn serialize<W: Sink>(&self, alloc: Global, ser: &mut Serializer<W>) -> Result<(), Error> {
+        ser.serialize_decimal32(alloc, self)
+    }
+}
+
+impl Serialize for Dec64 {
+    #[inline(always)]
+    fn serialize<W: Sink>(&self, alloc: Global, ser: &mut Serializer<W>) -> Result<(), Error> {
+        ser.serialize_decimal64(alloc, self)
+    }
+}
+
+impl Serialize for Dec128 {
+    #[inline(always)]
+    fn serialize<W: Sink>(&self, alloc: Global, ser: &mut Serializer<W>) -> Result<(), Error> {
+        ser.serialize_decimal128(alloc, self)
+    }
+}
+
+impl Serialize for Timestamp {
+    #[inline(always)]
+    fn serialize<W: Sink>(&self, alloc: Global, ser: &mut Serializer<W>) -> Result<(), Error> {
+        ser.serialize_timestamp(alloc, self.milliseconds())
+    }
+}
+
+impl Serialize for Uuid {
+    #[inline(always)]
+    fn serialize<W: Sink>(&self, alloc: Global, ser: &mut Serializer<W>) -> Result<(), Error> {
+        ser.serialize_uuid(alloc, self)
+    }
+}
+
+impl Serialize for Symbol {
+    #[inline(always)]
+    fn serialize<W: Sink>(&self, alloc: Global, ser: &mut Serializer<W>) -> Result<(), Error> {
+        ser.serialize_symbol(alloc, self.as_str())
+    }
+}
+
+impl Serialize for SymbolRef<'_> {
+    #[inline(always)]
+    fn serialize<W: Sink>(&self, alloc: Global, ser: &mut Serializer<W>) -> Result<(), Error> {
+        ser.serialize_symbol(alloc, self.as_str())
+    }
+}
+
+impl Serialize for Binary {
+    #[inline(always)]
+    fn serialize<W: Sink>(&self, alloc: Global, ser: &mut Serializer<W>) -> Result<(), Error> {
+        ser.serialize_bytes(alloc, self.as_slice())
+    }
+}
+
+impl Serialize for BinaryRef<'_> {
+    #[inline(always)]
+    fn serialize<W: Sink>(&self, alloc: Global, ser: &mut Serializer<W>) -> Result<(), Error> {
+        ser.serialize_bytes(alloc, self.0)
     }
 }
 

@@ -82,6 +82,48 @@ impl<W: Sink> Serializer<W> {
         }
     }
 
+    /// A serializer that appends to `writer`, and takes the values that it is handed directly as the fields of a described
+    /// list.
+    pub fn described_list(writer: W) -> Serializer<W>
+        ensures { Fresh W.Write W.FaultCount writer Setting.DescribedList result }
+    {
+        Serializer {
+            writer,
+            setting: Setting::DescribedList,
+            mark: Mark::Unmarked,
+            found: None,
+            stopped: false,
+        }
+    }
+
+    /// A serializer that appends to `writer`, and writes a plain struct that it is handed directly as a map from the names
+    /// of its fields to their values.
+    pub fn described_map(writer: W) -> Serializer<W>
+        ensures { Fresh W.Write W.FaultCount writer Setting.DescribedMap result }
+    {
+        Serializer {
+            writer,
+            setting: Setting::DescribedMap,
+            mark: Mark::Unmarked,
+            found: None,
+            stopped: false,
+        }
+    }
+
+    /// A serializer that appends to `writer`, and takes each value that it is handed directly as the one behind a
+    /// descriptor.
+    pub fn described_basic(writer: W) -> Serializer<W>
+        ensures { Fresh W.Write W.FaultCount writer Setting.DescribedBasic result }
+    {
+        Serializer {
+            writer,
+            setting: Setting::DescribedBasic,
+            mark: Mark::Unmarked,
+            found: None,
+            stopped: false,
+        }
+    }
+
     /// False: the format is binary.
     pub fn is_human_readable(&self) -> bool
         ensures { result ≡ false }

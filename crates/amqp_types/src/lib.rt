@@ -1,5 +1,22 @@
-//! The primitive types of AMQP 1.0 (part 1, section 1.6) in Rust's types. Types that std doesn't have come here.
+//! The primitive types of AMQP 1.0 (part 1, section 1.6) in Rust's types. Std's own serve where they fit; the others stand
+//! here.
 #![tactic(auto)]
+
+mod binary;
+mod decimal;
+mod float;
+mod symbol;
+#[cfg(test)]
+mod tests;
+mod timestamp;
+mod uuid;
+
+pub use binary::{Binary, BinaryRef};
+pub use decimal::{Dec32, Dec64, Dec128, Decimal};
+pub use float::{Double, Float};
+pub use symbol::{Symbol, SymbolRef};
+pub use timestamp::Timestamp;
+pub use uuid::Uuid;
 
 /// A boolean.
 pub type Boolean = bool;

@@ -4,9 +4,9 @@ use Rattle.std.proofs.Common.{refl, ap}
 use Rattle.std.specs.Int.{w8, w32}
 use Rattle.std.proofs.lemmas.Int.{to_z-of_z}
 use mir.Val.{SFits}
-use Rattle.amqp_ser.specs.Law.{found_after}
 use Rattle.amqp_ser.proofs.Steps.{pays_appended}
-use Rattle.amqp_ser.proofs.TextOf.{pays_text, int_1, int_4, int_placed, int_code, not_unmarked}
+use Rattle.amqp_ser.proofs.TextOf.{not_unmarked}
+use Rattle.amqp_ser.proofs.WideTexts.{pays_wide, int_1, int_wide}
 use Rattle.amqp_ser.proofs.serializer.Serializer.int.Goals as goal
 
 pub returns-in-Ok : goal.returns-in-Ok
@@ -24,12 +24,12 @@ unfolding state open_state
 returns-in-Err g c =
     let f : SFits w32 c.args.v = c.ranges.v in
     let h = simp to_z-of_z at c.in-Err.ensures in
-    let m = ap mark_of c.in-Unmarked.is in
-    record { law = pays_appended _ _ _ _ _ _ _ _ (rw m refl) (rw m (int_4 c.args.v h f)) c.requires (rw (simp to_z-of_z at c.to_be_bytes-bytes.ensures) at c.append-in-Err.ensures) }
+    let wide = int_wide (mark_of c.args.self.now.mark) c.args.v (λ _. h) f in
+    record { law = pays_wide _ _ _ _ _ _ wide (rw (simp to_z-of_z at c.to_be_bytes.ensures) at c.four_bytes.ensures.law) }
 
 pub returns-in_default : goal.returns-in_default
 unfolding state open_state
 returns-in_default g c =
     let f : SFits w32 c.args.v = c.ranges.v in
-    let k = simp to_z-of_z at c.to_be_bytes.ensures in
-    record { law = pays_text _ _ _ _ _ _ _ _ _ (int_placed (mark_of c.args.self.now.mark) c.args.v (not_unmarked _ c.in_default.not-Unmarked) f) (ap (λ k. found_after (mark_of c.args.self.now.mark) k (state g.W.Write g.W.FaultCount c.args.self.now).found) (int_code c.args.v)) (rw k at c.element.ensures.law) }
+    let wide = int_wide (mark_of c.args.self.now.mark) c.args.v (λ u. absurd (not_unmarked _ c.in_default.not-Unmarked u)) f in
+    record { law = pays_wide _ _ _ _ _ _ wide (rw (simp to_z-of_z at c.to_be_bytes-in_default.ensures) at c.four_bytes-in_default.ensures.law) }

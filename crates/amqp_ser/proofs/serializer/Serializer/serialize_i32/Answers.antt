@@ -1,20 +1,19 @@
 use Rattle.amqp_ser.specs.State.{state}
 use Rattle.amqp_ser.specs.Compound.{open_state}
-use Rattle.std.proofs.Common.{refl}
 use Rattle.std.specs.Int.{w32}
 use Rattle.std.proofs.lemmas.Int.{to_z-of_z}
 use mir.Val.{SFits}
-use Rattle.amqp_ser.proofs.Steps.{wrote_pays, refused_pays, named_pays}
-use Rattle.amqp_ser.proofs.TextOf.{int_sizes}
+use Rattle.amqp_ser.proofs.Steps.{named_pays}
+use Rattle.amqp_ser.proofs.WideTexts.{wrote_scalar, refused_scalar}
 use Rattle.amqp_ser.proofs.serializer.Serializer.serialize_i32.Goals as goal
 
 pub returns-clause-ok : goal.returns-clause-ok
 unfolding state open_state
-returns-clause-ok g c = let f : SFits w32 c.args.v = c.ranges.v in wrote_pays _ _ _ _ _ _ _ _ refl refl (int_sizes c.args.v) (simp to_z-of_z at c.in_default.ensures.law)
+returns-clause-ok g c = let f : SFits w32 c.args.v = c.ranges.v in wrote_scalar _ _ _ _ (simp to_z-of_z at c.in_default.ensures.law)
 
 pub returns-in-Err-clause-err : goal.returns-in-Err-clause-err
 unfolding state open_state
-returns-in-Err-clause-err g c = let f : SFits w32 c.args.v = c.ranges.v in refused_pays _ _ _ _ _ _ _ _ refl refl (int_sizes c.args.v) (simp to_z-of_z at c.in-Err.ensures.law)
+returns-in-Err-clause-err g c = let f : SFits w32 c.args.v = c.ranges.v in refused_scalar _ _ _ _ (simp to_z-of_z at c.in-Err.ensures.law)
 
 pub returns-in-Err-clause-named : goal.returns-in-Err-clause-named
 unfolding state open_state

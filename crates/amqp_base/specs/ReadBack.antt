@@ -1,0 +1,43 @@
+-- A value's own item is read as that value.
+use Rattle.std.specs.Prelude.{◌≡◌, Bool, true, false, ◌&&◌, IsTrue, List, [], ◌∷◌, map}
+use Rattle.std.proofs.Common.{refl}
+use Rattle.std.proofs.lemmas.Bool.{eq-eqb}
+use Rattle.amqp_base.specs.SameKind.{place, same_kind}
+use Rattle.amqp_base.specs.Canon.{kind_of}
+use Rattle.amqp_base.specs.Item.{Item, Scalar, scalar, items_of}
+use Rattle.amqp_base.specs.Shapes.{whole}
+use Rattle.amqp_base.specs.Typing.{is_of, is_null, all_taken, all_mean, is_list_of, means_list}
+use Rattle.amqp_base.specs.declared.shape.Shape.{Shape}
+
+-- an item without parts is of its own kind
+pub of_own_kind : (v : Scalar) → IsTrue (is_of (kind_of v) (scalar v))
+unfolding same_kind
+of_own_kind v = eq-eqb (place (kind_of v)) (place (kind_of v)) refl
+
+-- parts that are taken and mean the values
+all_taken_back : {T : Type 0} (takes : Item → Bool) (item : T → Item) → ((v : T) → IsTrue (takes (item v))) → (vs : List T) → IsTrue (all_taken takes (items_of (map item vs)))
+all_taken_back takes item h [] = refl
+all_taken_back takes item h (v ∷ vs) = both (takes (item v)) (all_taken takes (items_of (map item vs))) (h v) (all_taken_back takes item h vs)
+  where
+    both : (a b : Bool) → IsTrue a → IsTrue b → IsTrue (a && b)
+    both true b p q = q
+    both false b p q = p
+
+all_read_back : {T : Type 0} (means : Item → T → Type 0) (item : T → Item) → ((v : T) → means (item v) v) → (vs : List T) → all_mean means (items_of (map item vs)) vs
+all_read_back means item h [] = tt
+all_read_back means item h (v ∷ vs) = (h v, all_read_back means item h vs)
+
+-- a list of items that are taken is taken
+pub list_taken_back : {T : Type 0} (takes : Item → Bool) (item : T → Item) → ((v : T) → IsTrue (takes (item v))) → (vs : List T) → IsTrue (is_list_of takes (whole Shape.List (map item vs)))
+unfolding whole
+list_taken_back takes item h vs = all_taken_back takes item h vs
+
+-- and means the values
+pub list_read_back : {T : Type 0} (means : Item → T → Type 0) (item : T → Item) → ((v : T) → means (item v) v) → (vs : List T) → means_list means (whole Shape.List (map item vs)) vs
+unfolding whole
+list_read_back means item h vs = all_read_back means item h vs
+
+-- a list isn't null
+pub list_not_null : (is : List Item) → is_null (whole Shape.List is) ≡ false
+unfolding whole
+list_not_null is = refl

@@ -1,0 +1,17 @@
+use Rattle.amqp_ser.specs.State.{state}
+use Rattle.amqp_ser.specs.Compound.{open_state}
+use Rattle.amqp_ser.proofs.Steps.{named_pays}
+use Rattle.amqp_ser.proofs.WideTexts.{wrote_scalar, refused_scalar}
+use Rattle.amqp_ser.proofs.serializer.Serializer.serialize_u64.Goals as goal
+
+pub returns-clause-ok : goal.returns-clause-ok
+unfolding state open_state
+returns-clause-ok g c = wrote_scalar _ _ _ _ c.in_default.ensures.law
+
+pub returns-in-Err-clause-err : goal.returns-in-Err-clause-err
+unfolding state open_state
+returns-in-Err-clause-err g c = refused_scalar _ _ _ _ c.in-Err.ensures.law
+
+pub returns-in-Err-clause-named : goal.returns-in-Err-clause-named
+unfolding state open_state
+returns-in-Err-clause-named g c = named_pays _ _ _ _ 0 _ _ c.in-Err.ensures.law

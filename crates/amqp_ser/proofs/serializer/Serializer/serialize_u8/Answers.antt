@@ -1,0 +1,18 @@
+use Rattle.amqp_ser.specs.State.{state, mark_of}
+use Rattle.amqp_ser.specs.Compound.{open_state}
+use Rattle.std.proofs.Common.{arith}
+use Rattle.amqp_ser.proofs.Steps.{named_pays}
+use Rattle.amqp_ser.proofs.WideTexts.{wrote_wide, refused_wide, ubyte_wide}
+use Rattle.amqp_ser.proofs.serializer.Serializer.serialize_u8.Goals as goal
+
+pub returns-clause-ok : goal.returns-clause-ok
+unfolding state open_state
+returns-clause-ok g c = wrote_wide _ _ _ _ _ _ (ubyte_wide (mark_of c.args.self.now.mark) c.args.v (omega arith)) c.in_default.ensures.law
+
+pub returns-in-Err-clause-err : goal.returns-in-Err-clause-err
+unfolding state open_state
+returns-in-Err-clause-err g c = refused_wide _ _ _ _ _ _ (ubyte_wide (mark_of c.args.self.now.mark) c.args.v (omega arith)) c.in-Err.ensures.law
+
+pub returns-in-Err-clause-named : goal.returns-in-Err-clause-named
+unfolding state open_state
+returns-in-Err-clause-named g c = named_pays _ _ _ _ 0 _ _ c.in-Err.ensures.law
