@@ -8,17 +8,15 @@ trap 'rm -rf "$work"' EXIT
 trap 'exit 1' HUP INT TERM
 
 # The workspace, with the crate of the exports.
-mkdir -p "$work/.git" "$work/crates/amqp_bench/src"
-for name in amqp_base amqp_read amqp_ser amqp_de amqp_types serde_amqp; do
-  mkdir "$work/crates/$name"
-  (cd "../crates/$name" && tar cf - --exclude=./out .) | (cd "$work/crates/$name" && tar xf -)
-done
+mkdir -p "$work/.git" "$work/crates"
+(cd ../crates && tar cf - --exclude='*/out' .) | (cd "$work/crates" && tar xf -)
 cp ../HANDLES "$work/"
-cp amqp_bench.rt.txt "$work/crates/amqp_bench/src/lib.rt"
 {
-  grep -E '^(amqp_base|amqp_read|amqp_ser|amqp_de|amqp_types|serde_amqp)\b' ../crates.txt
+  cat ../crates.txt
   echo 'amqp_bench staticlib: amqp_base amqp_read amqp_ser amqp_de amqp_types serde_amqp'
 } > "$work/crates.txt"
+mkdir -p "$work/crates/amqp_bench/src"
+cp amqp_bench.rt.txt "$work/crates/amqp_bench/src/lib.rt"
 echo 'Proving and building the crates (minutes) ..' >&2
 (cd "$work/crates/amqp_bench" && rt lib) > "$work/log" 2>&1 || { cat "$work/log" >&2; exit 1; }
 
