@@ -22,7 +22,7 @@ use Rattle.amqp_de.specs.Steps.{Number, Unread, Rejects, ParsesAs}
 use Rattle.amqp_de.specs.Access.{Within, HasParts, items_of_all, shared_by, OpensData, Header}
 use Rattle.amqp_de.proofs.Readings.{takes_nothing, takes_then, behind, unread_rejects, rejects_then, rejects_after, rejects_here}
 use Rattle.amqp_de.proofs.Data.{bytes_there, bytes_short, behind_code}
-use Rattle.amqp_de.proofs.Fixed.{other_byte, not_device}
+use Rattle.amqp_de.proofs.FixedWidth.{other_byte, not_device}
 use Rattle.amqp_de.proofs.KindCodes.{code_byte}
 
 -- ---- the header

@@ -3,8 +3,9 @@ use Rattle.std.proofs.Common.{◌≡◌, ℕ, Bool, true, false, ◌==◌, List,
 use Rattle.std.proofs.lemmas.Bool.{eqb-true}
 use Rattle.std.proofs.lemmas.Option.{same_Some}
 use Rattle.amqp_base.specs.declared.format_code.EncodingCodes.{EncodingCodes}
-use Rattle.amqp_base.specs.declared.format_code.EncodingCodes.TheVariants.{Uint, SmallUint, Uint0, Int, SmallInt, Str8, Str32}
 use Rattle.amqp_base.specs.Codes.{Kind, row, code_of, among, codes}
+use Rattle.amqp_base.specs.SameKind.{same_kind, place}
+use Rattle.amqp_base.proofs.KindPlaces.{kind_same}
 
 among_byte : (b : ℕ) (es : List EncodingCodes) (e : EncodingCodes) → among b es ≡ Some e → (row e).byte ≡ b
 among_byte b [] e h = absurd cc
@@ -19,43 +20,29 @@ pub code_byte : (b : ℕ) (e : EncodingCodes) → code_of b ≡ Some e → (row 
 unfolding code_of
 code_byte b e h = among_byte b codes e h
 
-uint_codes : (e : EncodingCodes) → (row e).kind ≡ Kind.uint → ((row e).byte ≡ 0x70) ⊎ (((row e).byte ≡ 0x52) ⊎ ((row e).byte ≡ 0x43))
-unfolding row
-uint_codes Uint h = inl refl
-uint_codes SmallUint h = inr (inl refl)
-uint_codes Uint0 h = inr (inr refl)
-uint_codes _ h = absurd cc
+abbrev if_so : Bool → Type 0 → Type 0 → Type 0
+if_so true A B = A
+if_so false A B = B
 
-int_codes : (e : EncodingCodes) → (row e).kind ≡ Kind.int → ((row e).byte ≡ 0x71) ⊎ ((row e).byte ≡ 0x54)
-unfolding row
-int_codes Int h = inl refl
-int_codes SmallInt h = inr refl
-int_codes _ h = absurd cc
+-- a byte is none of those of a kind's codes
+abbrev NotOne : ℕ → Kind → List EncodingCodes → Type 0
+NotOne b k [] = Unit {0}
+NotOne b k (e ∷ es) = if_so (same_kind (row e).kind k) ((b ≡ (row e).byte → ⊥) × NotOne b k es) (NotOne b k es)
 
-string_codes : (e : EncodingCodes) → (row e).kind ≡ Kind.string → ((row e).byte ≡ 0xa1) ⊎ ((row e).byte ≡ 0xb1)
-unfolding row
-string_codes Str8 h = inl refl
-string_codes Str32 h = inr refl
-string_codes _ h = absurd cc
-
-pub not_uint : (b : ℕ) → (b ≡ 0x70 → ⊥) → (b ≡ 0x52 → ⊥) → (b ≡ 0x43 → ⊥) → (e : EncodingCodes) → code_of b ≡ Some e → (row e).kind ≡ Kind.uint → ⊥
-not_uint b p q r e h k = tell (uint_codes e k)
+not_among : (b : ℕ) (k : Kind) (es : List EncodingCodes) (e : EncodingCodes) → NotOne b k es → among b es ≡ Some e → (row e).kind ≡ k → ⊥
+not_among b k [] e n h q = absurd cc
+not_among b k (d ∷ es) e n h q = tell (b == (row d).byte) refl (same_kind (row d).kind k) refl (λ m r. not_among b k es e m r q)
   where
-    tell : ((row e).byte ≡ 0x70) ⊎ (((row e).byte ≡ 0x52) ⊎ ((row e).byte ≡ 0x43)) → ⊥
-    tell (inl x) = p (sym (code_byte b e h) ∙ x)
-    tell (inr (inl x)) = q (sym (code_byte b e h) ∙ x)
-    tell (inr (inr x)) = r (sym (code_byte b e h) ∙ x)
+    tell : (y : Bool) → (b == (row d).byte) ≡ y → (z : Bool) → same_kind (row d).kind k ≡ z → (NotOne b k es → among b es ≡ Some e → ⊥) → ⊥
+    tell true p true s f = let m : (b ≡ (row d).byte → ⊥) × NotOne b k es = rw s at n in m.0 (eqb-true b (row d).byte p)
+    tell true p false s f =
+        let m : Some d ≡ Some e = rw p at h in
+        let same : (row d).kind ≡ k = ap (λ (x : EncodingCodes). (row x).kind) (same_Some d e m) ∙ q in
+        absurd cc (kind_same (row d).kind k same, s)
+    tell false p true s f = let m : (b ≡ (row d).byte → ⊥) × NotOne b k es = rw s at n in f m.1 (rw p at h)
+    tell false p false s f = f (rw s at n) (rw p at h)
 
-pub not_int : (b : ℕ) → (b ≡ 0x71 → ⊥) → (b ≡ 0x54 → ⊥) → (e : EncodingCodes) → code_of b ≡ Some e → (row e).kind ≡ Kind.int → ⊥
-not_int b p q e h k = tell (int_codes e k)
-  where
-    tell : ((row e).byte ≡ 0x71) ⊎ ((row e).byte ≡ 0x54) → ⊥
-    tell (inl x) = p (sym (code_byte b e h) ∙ x)
-    tell (inr x) = q (sym (code_byte b e h) ∙ x)
-
-pub not_string : (b : ℕ) → (b ≡ 0xa1 → ⊥) → (b ≡ 0xb1 → ⊥) → (e : EncodingCodes) → code_of b ≡ Some e → (row e).kind ≡ Kind.string → ⊥
-not_string b p q e h k = tell (string_codes e k)
-  where
-    tell : ((row e).byte ≡ 0xa1) ⊎ ((row e).byte ≡ 0xb1) → ⊥
-    tell (inl x) = p (sym (code_byte b e h) ∙ x)
-    tell (inr x) = q (sym (code_byte b e h) ∙ x)
+-- a byte that is none of them is no code of the kind
+pub not_code : (b : ℕ) (k : Kind) → NotOne b k codes → (e : EncodingCodes) → code_of b ≡ Some e → (row e).kind ≡ k → ⊥
+unfolding code_of
+not_code b k n e h q = not_among b k codes e n h q

@@ -2,11 +2,15 @@ pub mod Readings
 pub mod Begun
 pub mod Data
 pub mod Answered
-pub mod Fixed
+pub mod FixedWidth
 pub mod KindCodes
 pub mod Sized
+pub mod ByteNumbers
+pub mod OnlyCode
 pub mod Headers
 pub mod Opening
 pub mod Sequence
 pub mod ReadParts
 pub mod Looking
+pub mod LookedFirst
+pub mod Decimals

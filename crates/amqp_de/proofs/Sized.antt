@@ -6,18 +6,17 @@ use Rattle.std.specs.Str.{is_utf8}
 use Rattle.amqp_base.specs.declared.error.Error.{Error}
 use Rattle.amqp_base.specs.declared.error.Error.TheVariants.{InvalidUtf8Encoding}
 use Rattle.amqp_base.specs.declared.format_code.EncodingCodes.{EncodingCodes}
-use Rattle.amqp_base.specs.declared.format_code.EncodingCodes.TheVariants.{Str8, Str32}
 use Rattle.amqp_base.specs.declared.format_code.Category.{Category}
 use Rattle.amqp_base.specs.declared.format_code.Category.TheVariants.{Variable}
 use Rattle.amqp_base.specs.Codes.{Kind, row, code_of}
-use Rattle.amqp_base.specs.Item.{Scalar, scalar, string}
-use Rattle.amqp_base.specs.Value.{number, payload, read}
+use Rattle.amqp_base.specs.Item.{Scalar, scalar}
+use Rattle.amqp_base.specs.Value.{number, payload}
 use Rattle.amqp_base.specs.Wire.{lenient, of_data, Data, of_variable, variable}
 use Rattle.amqp_base.specs.Refusals.{IsDevice}
 use Rattle.amqp_base.proofs.KindPlaces.{kind_same}
 use Rattle.amqp_read.specs.Reading.{Reading, Stays}
 use Rattle.amqp_read.specs.Steps.{NotTaken}
-use Rattle.amqp_de.specs.Parse.{Parsed, ◌>>=◌, bytes_at, sized_at, utf8, text_at, valued, value_or_refusal, data_at, behind_byte}
+use Rattle.amqp_de.specs.Parse.{Parsed, ◌>>=◌, bytes_at, sized_at, utf8, text_at, valued, value_or_refusal, bad_payload, data_at, behind_byte}
 use Rattle.amqp_de.specs.Steps.{IsData, Rejects, Number, Payload, Text}
 use Rattle.amqp_de.specs.Law.{Excused}
 use Rattle.amqp_de.proofs.Readings.{unread_rejects, rejects_then, rejects_after}
@@ -55,51 +54,67 @@ text_refused buffers w b old new p n = rejects_after (text_at w) old new (p.digi
 pub text_of : (w : ℕ) (b t : List ℕ) (old new : Reading) → Payload w b old new → t ≡ b → IsUtf8 t → Text w t old new
 text_of w b t old new p h u = record { payload = rw h p; utf8 = is_utf8-from_IsUtf8 t u }
 
--- a code's data are a text
-pub string_is : (x : ℕ) (e : EncodingCodes) (w : ℕ) (b : List ℕ) (old new : Reading) → code_of x ≡ Some e → (row e).category ≡ Variable w → payload e b ≡ (if is_utf8 b then Some (string b) else None) → Text w b old new → IsData x (scalar (string b)) old new
-string_is x e w b old new c k p t = record {
+-- a code's data are a payload
+pub sized_is : (x : ℕ) (e : EncodingCodes) (w : ℕ) (b : List ℕ) (v : Scalar) (old new : Reading) → code_of x ≡ Some e → (row e).category ≡ Variable w → payload e b ≡ Some v → Payload w b old new → IsData x (scalar v) old new
+sized_is x e w b v old new c k p t = record {
   code = e;
   code_is = c;
-  text = t.payload.digits ++ b;
-  spelled = of_data (subst (λ (z : Category). Data lenient e (row e).kind z (t.payload.digits ++ b) (scalar (string b))) (sym k) (of_variable (variable t.payload.digits b t.payload.len t.payload.value (p ∙ rw t.utf8 refl))));
-  step = t.payload.step;
+  text = t.digits ++ b;
+  spelled = of_data (subst (λ (z : Category). Data lenient e (row e).kind z (t.digits ++ b) (scalar v)) (sym k) (of_variable (variable t.digits b t.len t.value p)));
+  step = t.step;
 }
 
-pub string_ok : {V : Type 0} (view : V → List ℕ) (x : ℕ) (e : EncodingCodes) (w : ℕ) (r : Result V Error) (old new : Reading) → code_of x ≡ Some e → (row e).category ≡ Variable w → ((b : List ℕ) → payload e b ≡ (if is_utf8 b then Some (string b) else None))
-    → IfOk r (λ v. Text w (view v) old new) → IfOk r (λ v. IsData x (scalar (string (view v))) old new)
-string_ok view x e w (Ok v) old new c k p t = string_is x e w (view v) old new c k (p (view v)) t
-string_ok view x e w (Err f) old new c k p t = tt
+pub sized_ok : {V : Type 0} (view : V → List ℕ) (con : List ℕ → Scalar) (x : ℕ) (e : EncodingCodes) (w : ℕ) (r : Result V Error) (old new : Reading) → code_of x ≡ Some e → (row e).category ≡ Variable w → ((b : List ℕ) → payload e b ≡ Some (con b))
+    → IfOk r (λ v. Payload w (view v) old new) → IfOk r (λ v. IsData x (scalar (con (view v))) old new)
+sized_ok view con x e w (Ok v) old new c k p t = sized_is x e w (view v) (con (view v)) old new c k (p (view v)) t
+sized_ok view con x e w (Err f) old new c k p t = tt
 
--- what is refused as a text is refused as the code's data
-refused_parse : (e : EncodingCodes) (p : Parsed (List ℕ)) (err : Error) → ((b : List ℕ × List ℕ) → utf8 b ≡ Err err → valued e b ≡ Err err) → (p >>= utf8) ≡ Err err → (p >>= valued e) ≡ Err err
-refused_parse e (Ok b) err f h = f b h
-refused_parse e (Err x) err f h = let q : x ≡ err = cc in ap Err q
+pub text_ok : {V : Type 0} (view : V → List ℕ) (con : List ℕ → Scalar) (x : ℕ) (e : EncodingCodes) (w : ℕ) (r : Result V Error) (old new : Reading) → code_of x ≡ Some e → (row e).category ≡ Variable w → ((b : List ℕ) → payload e b ≡ (if is_utf8 b then Some (con b) else None))
+    → IfOk r (λ v. Text w (view v) old new) → IfOk r (λ v. IsData x (scalar (con (view v))) old new)
+text_ok view con x e w (Ok v) old new c k p t = sized_is x e w (view v) (con (view v)) old new c k (p (view v) ∙ rw t.utf8 refl) t.payload
+text_ok view con x e w (Err f) old new c k p t = tt
 
-text_data : (e : EncodingCodes) (w : ℕ) (s : List ℕ) (err : Error) → (row e).kind ≡ Kind.string → (row e).category ≡ Variable w → ((b : List ℕ × List ℕ) → utf8 b ≡ Err err → valued e b ≡ Err err) → text_at w s ≡ Err err → data_at Kind.string e s ≡ Err err
-unfolding data_at
-text_data e w s err k c f h = rw (kind_same (row e).kind Kind.string k, c) (refused_parse e (sized_at w s) err f h)
-
-pub string_err : {V : Type 0} (buffers : Bool) (x : ℕ) (e : EncodingCodes) (w : ℕ) (r : Result V Error) (old new : Reading) → code_of x ≡ Some e → (row e).kind ≡ Kind.string → (row e).category ≡ Variable w
-    → ((err : Error) (b : List ℕ × List ℕ) → utf8 b ≡ Err err → valued e b ≡ Err err)
-    → IfErr r (λ err. Rejects true buffers (text_at w) old new err) → IfErr r (λ err. Rejects true buffers (behind_byte (data_at Kind.string) x) old new err)
-string_err buffers x e w (Ok v) old new c k l f t = tt
-string_err buffers x e w (Err err) old new c k l f t = record { why = λ s at h. tell s (t.why s at h); steady = t.steady; device = t.device }
+-- a code's data are refused as this parse refuses them
+refused_data : {V A : Type 0} (k : Kind) (buffers : Bool) (x : ℕ) (e : EncodingCodes) (parse : List ℕ → Parsed A) (r : Result V Error) (old new : Reading) → code_of x ≡ Some e
+    → ((s : List ℕ) (err : Error) → parse s ≡ Err err → data_at k e s ≡ Err err)
+    → IfErr r (λ err. Rejects true buffers parse old new err) → IfErr r (λ err. Rejects true buffers (behind_byte (data_at k) x) old new err)
+refused_data k buffers x e parse (Ok v) old new c h t = tt
+refused_data k buffers x e parse (Err err) old new c h t = record { why = λ s at f. tell s (t.why s at f); steady = t.steady; device = t.device }
   where
-    tell : (s : List ℕ) → (text_at w s ≡ Err err) ⊎ Excused true buffers old new err → (behind_byte (data_at Kind.string) x s ≡ Err err) ⊎ Excused true buffers old new err
-    tell s (inl p) = inl (behind_code (data_at Kind.string) x e s c ∙ text_data e w s err k l (f err) p)
+    tell : (s : List ℕ) → (parse s ≡ Err err) ⊎ Excused true buffers old new err → (behind_byte (data_at k) x s ≡ Err err) ⊎ Excused true buffers old new err
+    tell s (inl p) = inl (behind_code (data_at k) x e s c ∙ h s err p)
     tell s (inr y) = inr y
 
+passed_on : {A B : Type 0} (p : Parsed A) (f : A × List ℕ → Parsed B) (err : Error) → p ≡ Err err → (p >>= f) ≡ Err err
+passed_on p f err h = rw h refl
+
+sized_data : (k : Kind) (e : EncodingCodes) (w : ℕ) → (row e).kind ≡ k → (row e).category ≡ Variable w → (s : List ℕ) (err : Error) → sized_at w s ≡ Err err → data_at k e s ≡ Err err
+unfolding data_at
+sized_data k e w h c s err p = rw (kind_same (row e).kind k h, c) (passed_on (sized_at w s) (valued e) err p)
+
+pub sized_err : {V : Type 0} (k : Kind) (buffers : Bool) (x : ℕ) (e : EncodingCodes) (w : ℕ) (r : Result V Error) (old new : Reading) → code_of x ≡ Some e → (row e).kind ≡ k → (row e).category ≡ Variable w
+    → IfErr r (λ err. Rejects true buffers (sized_at w) old new err) → IfErr r (λ err. Rejects true buffers (behind_byte (data_at k) x) old new err)
+sized_err k buffers x e w r old new c h l t = refused_data k buffers x e (sized_at w) r old new c (sized_data k e w h l) t
+
+-- what is refused as a text is refused as the code's data
 refused_as : (err : Error) (b : List ℕ × List ℕ) → (if false then Ok b else Err InvalidUtf8Encoding) ≡ Err err → InvalidUtf8Encoding ≡ err
 refused_as err b h = cc
 
-refused_text : (t : Bool) (err : Error) (b : List ℕ × List ℕ) (o : Option Scalar) → o ≡ (if t then Some (string b.0) else None) → (if t then Ok b else Err InvalidUtf8Encoding) ≡ Err err → value_or_refusal InvalidUtf8Encoding o b.1 ≡ Err err
-refused_text true err b o p h = absurd cc
-refused_text false err b o p h = rw p (ap Err (refused_as err b h))
+refused_text : (con : List ℕ → Scalar) (t : Bool) (err : Error) (b : List ℕ × List ℕ) (o : Option Scalar) → o ≡ (if t then Some (con b.0) else None) → (if t then Ok b else Err InvalidUtf8Encoding) ≡ Err err → value_or_refusal InvalidUtf8Encoding o b.1 ≡ Err err
+refused_text con true err b o p h = absurd cc
+refused_text con false err b o p h = rw p (ap Err (refused_as err b h))
 
-pub valued_8 : (err : Error) (b : List ℕ × List ℕ) → utf8 b ≡ Err err → valued Str8 b ≡ Err err
-unfolding row payload read
-valued_8 err b h = refused_text (is_utf8 b.0) err b (payload Str8 b.0) refl h
+refused_parse : (e : EncodingCodes) (con : List ℕ → Scalar) (p : Parsed (List ℕ)) (err : Error) → bad_payload (row e).kind ≡ InvalidUtf8Encoding → ((b : List ℕ) → payload e b ≡ (if is_utf8 b then Some (con b) else None))
+    → (p >>= utf8) ≡ Err err → (p >>= valued e) ≡ Err err
+refused_parse e con (Ok b) err n f h = rw n (refused_text con (is_utf8 b.0) err b (payload e b.0) (f b.0) h)
+refused_parse e con (Err x) err n f h = let q : x ≡ err = cc in ap Err q
 
-pub valued_32 : (err : Error) (b : List ℕ × List ℕ) → utf8 b ≡ Err err → valued Str32 b ≡ Err err
-unfolding row payload read
-valued_32 err b h = refused_text (is_utf8 b.0) err b (payload Str32 b.0) refl h
+text_data : (k : Kind) (e : EncodingCodes) (con : List ℕ → Scalar) (w : ℕ) → (row e).kind ≡ k → (row e).category ≡ Variable w → bad_payload (row e).kind ≡ InvalidUtf8Encoding → ((b : List ℕ) → payload e b ≡ (if is_utf8 b then Some (con b) else None))
+    → (s : List ℕ) (err : Error) → text_at w s ≡ Err err → data_at k e s ≡ Err err
+unfolding data_at
+text_data k e con w h c n f s err p = rw (kind_same (row e).kind k h, c) (refused_parse e con (sized_at w s) err n f p)
+
+pub text_err : {V : Type 0} (k : Kind) (con : List ℕ → Scalar) (buffers : Bool) (x : ℕ) (e : EncodingCodes) (w : ℕ) (r : Result V Error) (old new : Reading) → code_of x ≡ Some e → (row e).kind ≡ k → (row e).category ≡ Variable w
+    → bad_payload (row e).kind ≡ InvalidUtf8Encoding → ((b : List ℕ) → payload e b ≡ (if is_utf8 b then Some (con b) else None))
+    → IfErr r (λ err. Rejects true buffers (text_at w) old new err) → IfErr r (λ err. Rejects true buffers (behind_byte (data_at k) x) old new err)
+text_err k con buffers x e w r old new c h l n f t = refused_data k buffers x e (text_at w) r old new c (text_data k e con w h l n f) t

@@ -7,3 +7,5 @@ pub mod Access
 pub mod Seq
 pub mod ReadParts
 pub mod Look
+pub mod OneCode
+pub mod Decimals

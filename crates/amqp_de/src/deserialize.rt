@@ -7,6 +7,7 @@ ghost use Rattle.amqp_de.specs.Law.{Found, Missed};
 use crate::Deserializer;
 use amqp_base::{Error, Typed};
 use amqp_read::Read;
+use amqp_types::{Binary, Double, Float, Symbol, Timestamp, Uuid};
 use std::alloc::Global;
 
 /// A type that is read from a reader. Types of one's own implement it generically over `R`, by the calls of the
@@ -23,10 +24,59 @@ pub trait Deserialize<R: Read>: Typed + Sized {
         ensures err { IfErr result (λ e. Missed Self.takes (Self.grows || R.buffers) R.buffers de.old de.new e) };
 }
 
+impl<R: Read> Deserialize<R> for () {
+    #[inline(always)]
+    fn deserialize(_alloc: Global, de: &mut Deserializer<R>) -> Result<(), Error> {
+        de.deserialize_unit()
+    }
+}
+
+impl<R: Read> Deserialize<R> for bool {
+    #[inline(always)]
+    fn deserialize(_alloc: Global, de: &mut Deserializer<R>) -> Result<bool, Error> {
+        de.deserialize_bool()
+    }
+}
+
+impl<R: Read> Deserialize<R> for u8 {
+    #[inline(always)]
+    fn deserialize(_alloc: Global, de: &mut Deserializer<R>) -> Result<u8, Error> {
+        de.deserialize_u8()
+    }
+}
+
+impl<R: Read> Deserialize<R> for u16 {
+    #[inline(always)]
+    fn deserialize(_alloc: Global, de: &mut Deserializer<R>) -> Result<u16, Error> {
+        de.deserialize_u16()
+    }
+}
+
 impl<R: Read> Deserialize<R> for u32 {
     #[inline(always)]
     fn deserialize(_alloc: Global, de: &mut Deserializer<R>) -> Result<u32, Error> {
         de.deserialize_u32()
+    }
+}
+
+impl<R: Read> Deserialize<R> for u64 {
+    #[inline(always)]
+    fn deserialize(_alloc: Global, de: &mut Deserializer<R>) -> Result<u64, Error> {
+        de.deserialize_u64()
+    }
+}
+
+impl<R: Read> Deserialize<R> for i8 {
+    #[inline(always)]
+    fn deserialize(_alloc: Global, de: &mut Deserializer<R>) -> Result<i8, Error> {
+        de.deserialize_i8()
+    }
+}
+
+impl<R: Read> Deserialize<R> for i16 {
+    #[inline(always)]
+    fn deserialize(_alloc: Global, de: &mut Deserializer<R>) -> Result<i16, Error> {
+        de.deserialize_i16()
     }
 }
 
@@ -37,9 +87,69 @@ impl<R: Read> Deserialize<R> for i32 {
     }
 }
 
+impl<R: Read> Deserialize<R> for i64 {
+    #[inline(always)]
+    fn deserialize(_alloc: Global, de: &mut Deserializer<R>) -> Result<i64, Error> {
+        de.deserialize_i64()
+    }
+}
+
+impl<R: Read> Deserialize<R> for char {
+    #[inline(always)]
+    fn deserialize(_alloc: Global, de: &mut Deserializer<R>) -> Result<char, Error> {
+        de.deserialize_char()
+    }
+}
+
 impl<R: Read> Deserialize<R> for String {
     fn deserialize(alloc: Global, de: &mut Deserializer<R>) -> Result<String, Error> {
         de.deserialize_string(alloc)
+    }
+}
+
+impl<R: Read> Deserialize<R> for Float {
+    #[inline(always)]
+    fn deserialize(_alloc: Global, de: &mut Deserializer<R>) -> Result<Float, Error> {
+        de.deserialize_f32()
+    }
+}
+
+impl<R: Read> Deserialize<R> for Double {
+    #[inline(always)]
+    fn deserialize(_alloc: Global, de: &mut Deserializer<R>) -> Result<Double, Error> {
+        de.deserialize_f64()
+    }
+}
+
+impl<R: Read> Deserialize<R> for Timestamp {
+    #[inline(always)]
+    fn deserialize(_alloc: Global, de: &mut Deserializer<R>) -> Result<Timestamp, Error> {
+        de.deserialize_timestamp()
+    }
+}
+
+impl<R: Read> Deserialize<R> for Uuid {
+    #[inline(always)]
+    fn deserialize(_alloc: Global, de: &mut Deserializer<R>) -> Result<Uuid, Error> {
+        de.deserialize_uuid()
+    }
+}
+
+impl<R: Read> Deserialize<R> for Binary {
+    fn deserialize(alloc: Global, de: &mut Deserializer<R>) -> Result<Binary, Error> {
+        match de.deserialize_byte_buf(alloc) {
+            Ok(value) => Ok(Binary(value)),
+            Err(e) => Err(e),
+        }
+    }
+}
+
+impl<R: Read> Deserialize<R> for Symbol {
+    fn deserialize(alloc: Global, de: &mut Deserializer<R>) -> Result<Symbol, Error> {
+        match de.deserialize_symbol(alloc) {
+            Ok(value) => Ok(Symbol(value)),
+            Err(e) => Err(e),
+        }
     }
 }
 

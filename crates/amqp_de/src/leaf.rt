@@ -1,18 +1,19 @@
 //! Items without parts.
 
 ghost use Rattle.std.specs.Prelude.{◌≡◌, Bool, ◌||◌, IsTrue, IfOk, IfErr};
-ghost use Rattle.amqp_base.specs.Codes.{Kind};
+ghost use Rattle.amqp_base.specs.Codes.{Kind, row};
 ghost use Rattle.amqp_base.specs.Item.{Scalar, scalar};
 ghost use Rattle.amqp_base.specs.Canon.{kind_of};
 ghost use Rattle.amqp_base.specs.Typing.{is_of};
 ghost use Rattle.amqp_de.specs.Decoding.{stands_under};
 ghost use Rattle.amqp_de.specs.Law.{Found, Missed};
 ghost use Rattle.amqp_de.specs.Parse.{behind_byte, item_at, data_at};
+ghost use Rattle.amqp_de.specs.OneCode.{is_only, OnlyData};
 ghost use Rattle.amqp_de.specs.Steps.{IsData, Rejects, Exact, Stops};
 
 use crate::Deserializer;
-use amqp_base::Error;
-use amqp_read::Read;
+use amqp_base::{EncodingCodes, Error};
+use amqp_read::{Read, read_const_bytes};
 
 /// How the data of a kind without parts are read.
 pub(crate) trait Leaf: Drop {
@@ -54,5 +55,25 @@ impl<R: Read> Deserializer<R> {
             },
             Err(e) => Err(e),
         }
+    }
+}
+
+/// The data of the only code of a kind, given the byte that stands there.
+#[inline(always)]
+pub(crate) fn fixed<R: Read, const N: usize>(
+    reader: &mut R,
+    byte: u8,
+    code: EncodingCodes,
+) -> Result<[u8; N], Error>
+    requires { IsTrue (is_only code N) }
+    ensures ok { IfOk result (λ b. OnlyData byte code N b (R.reading reader.old) (R.reading reader.new)) }
+    ensures err { IfErr result (λ e. Rejects R.buffers R.buffers (behind_byte (data_at (row code).kind) byte) (R.reading reader.old) (R.reading reader.new) e) }
+{
+    if byte != code.byte() {
+        return Err(Error::InvalidFormatCode);
+    }
+    match read_const_bytes::<R, N>(reader) {
+        Ok(bytes) => Ok(bytes),
+        Err(e) => Err(e),
     }
 }

@@ -3,12 +3,16 @@
 
 mod any;
 mod constructor;
+mod decimal;
 mod deserialize;
 mod deserializer;
+mod fixed;
 mod header;
 mod leaf;
 mod list;
+mod numbers;
 mod payloads;
+mod plain;
 mod scalars;
 mod seq;
 #[cfg(test)]

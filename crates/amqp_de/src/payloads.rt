@@ -2,7 +2,7 @@
 
 ghost use Rattle.std.specs.Prelude.{◌≡◌, ◌⊎◌, ℕ, true, ◌||◌, IsTrue, IfOk, IfErr, string_bytes};
 ghost use Rattle.amqp_base.specs.Codes.{Kind};
-ghost use Rattle.amqp_base.specs.Item.{scalar, string};
+ghost use Rattle.amqp_base.specs.Item.{scalar, binary, string, symbol};
 ghost use Rattle.amqp_base.specs.Typing.{is_of};
 ghost use Rattle.amqp_de.specs.Decoding.{stands_under};
 ghost use Rattle.amqp_de.specs.Law.{Found, Missed};
@@ -90,7 +90,74 @@ impl Leaf for AsString {
     }
 }
 
+#[derive(Drop)]
+struct AsSymbol(Global);
+
+impl Leaf for AsSymbol {
+    ghost use Rattle.std.specs.Prelude.{true, refl, string_bytes};
+    ghost use Rattle.amqp_base.specs.Codes.{Kind};
+    ghost use Rattle.amqp_base.specs.Item.{symbol};
+
+    type Value = String;
+
+    ghost kind = { Kind.symbol };
+
+    ghost shows = { λ s. symbol (string_bytes s) };
+
+    ghost grows = { true };
+
+    ghost of_kind = { λ _. refl };
+
+    fn read<R: Read>(self, reader: &mut R, code: u8) -> Result<String, Error> {
+        match code {
+            0xa3 => text(self.0, reader, 1),
+            0xb3 => text(self.0, reader, 4),
+            _ => Err(Error::InvalidFormatCode),
+        }
+    }
+}
+
+#[derive(Drop)]
+struct AsBinary(Global);
+
+impl Leaf for AsBinary {
+    ghost use Rattle.std.specs.Prelude.{true, refl};
+    ghost use Rattle.amqp_base.specs.Codes.{Kind};
+    ghost use Rattle.amqp_base.specs.Item.{binary};
+
+    type Value = Vec<u8>;
+
+    ghost kind = { Kind.binary };
+
+    ghost shows = { λ v. binary v.items };
+
+    ghost grows = { true };
+
+    ghost of_kind = { λ _. refl };
+
+    fn read<R: Read>(self, reader: &mut R, code: u8) -> Result<Vec<u8>, Error> {
+        match code {
+            0xa0 => payload(self.0, reader, 1),
+            0xb0 => payload(self.0, reader, 4),
+            _ => Err(Error::InvalidFormatCode),
+        }
+    }
+}
+
 impl<R: Read> Deserializer<R> {
+    /// A binary (part 1, section 1.6.19), with a length of 1 or of 4 bytes.
+    ///
+    /// `Io(UnexpectedEof)` where bytes are missing, `InvalidFormatCode` where another item stands, a string or a symbol
+    /// too, `OutOfMemory` where the bytes, which are all there, find no memory. A refusal ends the deserializer.
+    pub fn deserialize_byte_buf(&mut self, alloc: Global) -> Result<Vec<u8>, Error>
+        ensures ok { IfOk result (λ v. Found (is_of Kind.binary) (λ i. i ≡ scalar (binary v.items)) self.old self.new) }
+        ensures err { IfErr result (λ e. Missed (is_of Kind.binary) true R.buffers self.old self.new e) }
+        ensures exact { IsTrue self.old.answers → Exact (λ v. binary v.items) true R.buffers (item_at (data_at Kind.binary) (stands_under self.old)) self.old.reading result self.new.reading }
+        ensures stops { Stops self.old result self.new }
+    {
+        self.leaf(AsBinary(alloc))
+    }
+
     /// A string (part 1, section 1.6.20), with a length of 1 or of 4 bytes, which counts bytes.
     ///
     /// `Io(UnexpectedEof)` where bytes are missing, `InvalidFormatCode` where another item stands, a symbol or a binary
@@ -103,5 +170,20 @@ impl<R: Read> Deserializer<R> {
         ensures stops { Stops self.old result self.new }
     {
         self.leaf(AsString(alloc))
+    }
+
+    /// A symbol (part 1, section 1.6.21), with a length of 1 or of 4 bytes. Any UTF-8 is taken: this profile's own rule,
+    /// the standard has ASCII alone.
+    ///
+    /// `Io(UnexpectedEof)` where bytes are missing, `InvalidFormatCode` where another item stands, a string or a binary
+    /// too, `InvalidUtf8Encoding` where all bytes are there and aren't UTF-8, `OutOfMemory` where the text finds no
+    /// memory. A refusal ends the deserializer.
+    pub fn deserialize_symbol(&mut self, alloc: Global) -> Result<String, Error>
+        ensures ok { IfOk result (λ s. Found (is_of Kind.symbol) (λ i. i ≡ scalar (symbol (string_bytes s))) self.old self.new) }
+        ensures err { IfErr result (λ e. Missed (is_of Kind.symbol) true R.buffers self.old self.new e) }
+        ensures exact { IsTrue self.old.answers → Exact (λ s. symbol (string_bytes s)) true R.buffers (item_at (data_at Kind.symbol) (stands_under self.old)) self.old.reading result self.new.reading }
+        ensures stops { Stops self.old result self.new }
+    {
+        self.leaf(AsSymbol(alloc))
     }
 }

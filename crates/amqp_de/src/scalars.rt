@@ -1,8 +1,8 @@
-//! Numbers.
+//! Numbers of several encodings.
 
 ghost use Rattle.std.specs.Prelude.{◌≡◌, ℕ, ℤ, false, ◌||◌, IsTrue, IfOk, IfErr};
 ghost use Rattle.amqp_base.specs.Codes.{Kind};
-ghost use Rattle.amqp_base.specs.Item.{scalar, uint, int};
+ghost use Rattle.amqp_base.specs.Item.{scalar, uint, ulong, int, long};
 ghost use Rattle.amqp_base.specs.Typing.{is_of};
 ghost use Rattle.amqp_de.specs.Decoding.{stands_under};
 ghost use Rattle.amqp_de.specs.Law.{Found, Missed};
@@ -51,6 +51,41 @@ impl Leaf for AsUint {
 }
 
 #[derive(Drop)]
+struct AsUlong;
+
+impl Leaf for AsUlong {
+    ghost use Rattle.std.specs.Prelude.{false, refl};
+    ghost use Rattle.amqp_base.specs.Codes.{Kind};
+    ghost use Rattle.amqp_base.specs.Item.{ulong};
+
+    type Value = u64;
+
+    ghost kind = { Kind.ulong };
+
+    ghost shows = { ulong };
+
+    ghost grows = { false };
+
+    ghost of_kind = { λ _. refl };
+
+    #[inline(always)]
+    fn read<R: Read>(self, reader: &mut R, code: u8) -> Result<u64, Error> {
+        match code {
+            0x80 => match read_const_bytes::<R, 8>(reader) {
+                Ok(bytes) => Ok(u64::from_be_bytes(bytes)),
+                Err(e) => Err(e),
+            },
+            0x53 => match byte(reader) {
+                Ok(byte) => Ok(byte as u64),
+                Err(e) => Err(e),
+            },
+            0x44 => Ok(0),
+            _ => Err(Error::InvalidFormatCode),
+        }
+    }
+}
+
+#[derive(Drop)]
 struct AsInt;
 
 impl Leaf for AsInt {
@@ -84,6 +119,40 @@ impl Leaf for AsInt {
     }
 }
 
+#[derive(Drop)]
+struct AsLong;
+
+impl Leaf for AsLong {
+    ghost use Rattle.std.specs.Prelude.{false, refl};
+    ghost use Rattle.amqp_base.specs.Codes.{Kind};
+    ghost use Rattle.amqp_base.specs.Item.{long};
+
+    type Value = i64;
+
+    ghost kind = { Kind.long };
+
+    ghost shows = { long };
+
+    ghost grows = { false };
+
+    ghost of_kind = { λ _. refl };
+
+    #[inline(always)]
+    fn read<R: Read>(self, reader: &mut R, code: u8) -> Result<i64, Error> {
+        match code {
+            0x81 => match read_const_bytes::<R, 8>(reader) {
+                Ok(bytes) => Ok(i64::from_be_bytes(bytes)),
+                Err(e) => Err(e),
+            },
+            0x55 => match read_const_bytes::<R, 1>(reader) {
+                Ok(bytes) => Ok(i8::from_be_bytes(bytes) as i64),
+                Err(e) => Err(e),
+            },
+            _ => Err(Error::InvalidFormatCode),
+        }
+    }
+}
+
 impl<R: Read> Deserializer<R> {
     /// A uint, in any of its three encodings (part 1, section 1.6.5).
     ///
@@ -99,6 +168,20 @@ impl<R: Read> Deserializer<R> {
         self.leaf(AsUint)
     }
 
+    /// An ulong, in any of its three encodings (part 1, section 1.6.6).
+    ///
+    /// `Io(UnexpectedEof)` where bytes are missing, `InvalidFormatCode` where another item stands. A refusal ends the
+    /// deserializer.
+    #[inline(always)]
+    pub fn deserialize_u64(&mut self) -> Result<u64, Error>
+        ensures ok { IfOk result (λ n. Found (is_of Kind.ulong) (λ i. i ≡ scalar (ulong n)) self.old self.new) }
+        ensures err { IfErr result (λ e. Missed (is_of Kind.ulong) R.buffers R.buffers self.old self.new e) }
+        ensures exact { IsTrue self.old.answers → Exact ulong R.buffers R.buffers (item_at (data_at Kind.ulong) (stands_under self.old)) self.old.reading result self.new.reading }
+        ensures stops { Stops self.old result self.new }
+    {
+        self.leaf(AsUlong)
+    }
+
     /// An int, in either of its two encodings (part 1, section 1.6.9): two's complement in 1 or 4 bytes.
     ///
     /// `Io(UnexpectedEof)` where bytes are missing, `InvalidFormatCode` where another item stands. A refusal ends the
@@ -111,5 +194,19 @@ impl<R: Read> Deserializer<R> {
         ensures stops { Stops self.old result self.new }
     {
         self.leaf(AsInt)
+    }
+
+    /// A long, in either of its two encodings (part 1, section 1.6.10): two's complement in 1 or 8 bytes.
+    ///
+    /// `Io(UnexpectedEof)` where bytes are missing, `InvalidFormatCode` where another item stands. A refusal ends the
+    /// deserializer.
+    #[inline(always)]
+    pub fn deserialize_i64(&mut self) -> Result<i64, Error>
+        ensures ok { IfOk result (λ n. Found (is_of Kind.long) (λ i. i ≡ scalar (long n)) self.old self.new) }
+        ensures err { IfErr result (λ e. Missed (is_of Kind.long) R.buffers R.buffers self.old self.new e) }
+        ensures exact { IsTrue self.old.answers → Exact long R.buffers R.buffers (item_at (data_at Kind.long) (stands_under self.old)) self.old.reading result self.new.reading }
+        ensures stops { Stops self.old result self.new }
+    {
+        self.leaf(AsLong)
     }
 }

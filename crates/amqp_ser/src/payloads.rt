@@ -79,7 +79,8 @@ impl<W: Sink> Serializer<W> {
         if self.stopped {
             return Err(Error::InvalidValue);
         }
-        self.payload(0xa3, EncodingCodes::Sym32, v.as_bytes())
+        let bytes = v.as_bytes();
+        self.payload(0xa3, EncodingCodes::Sym32, bytes)
     }
 
     /// Writes bytes as binary (section 1.6.19). Outside arrays up to 254 of them stand behind one byte of length, else

@@ -1,5 +1,7 @@
 //! The bytes of values by the standard's own rules, and what follows a refusal.
 
+mod values;
+
 use crate::{Serialize, Serializer};
 use amqp_base::{Counted, Error};
 use std::alloc::Global;

@@ -1,29 +1,25 @@
 -- Data of a fixed width.
-use Rattle.std.proofs.Common.{◌≡◌, ℕ, zero, suc, ◌-◌, ◌/◌, ◌^◌, ◌<◌, Bool, true, false, if◌then◌else◌, nat_lt, List, [], ◌∷◌, length, Option, Some, None, Ok, Err, refl, sym, subst, ◌∙◌, arith, inl, inr, ◌⊎◌, ℤ, pos, negsuc, to_z, of_z, w8, w32}
-use mir.Val.{SFits}
-use Rattle.std.proofs.lemmas.Int.{to_z-of_z, ints}
-use Rattle.std.proofs.lemmas.Bool.Decides.{nat_tests}
-use Rattle.std.specs.Int.{from_be_bytes}
+use Rattle.std.proofs.Common.{◌≡◌, ℕ, zero, suc, ◌<◌, Bool, true, false, if◌then◌else◌, List, ◌++◌, length, Option, Some, None, Ok, Err, refl, sym, subst, ◌∙◌, arith, inl, inr, ◌⊎◌}
 use Rattle.std.specs.declared.io.ErrorKind.TheVariants.{UnexpectedEof}
 use Rattle.amqp_base.specs.declared.error.Error.{Error}
 use Rattle.amqp_base.specs.declared.error.Error.TheVariants.{Io, InvalidFormatCode}
 use Rattle.amqp_base.specs.declared.format_code.EncodingCodes.{EncodingCodes}
-use Rattle.amqp_base.specs.declared.format_code.EncodingCodes.TheVariants.{DescribedType, Int, SmallInt}
+use Rattle.amqp_base.specs.declared.format_code.EncodingCodes.TheVariants.{DescribedType}
 use Rattle.amqp_base.specs.declared.format_code.Category.{Category}
 use Rattle.amqp_base.specs.declared.format_code.Category.TheVariants.{Fixed}
 use Rattle.amqp_base.specs.Codes.{Kind, row, code_of}
 use Rattle.amqp_base.specs.SameKind.{same_kind}
-use Rattle.amqp_base.specs.Item.{Scalar, scalar, int}
-use Rattle.amqp_base.specs.Value.{number, payload, read}
+use Rattle.amqp_base.specs.Item.{Scalar, scalar}
+use Rattle.amqp_base.specs.Value.{payload}
 use Rattle.amqp_base.specs.Wire.{lenient, of_data, Data, of_fixed, fixed}
 use Rattle.amqp_base.proofs.KindPlaces.{same_kind_is, kind_same}
 use Rattle.amqp_base.specs.Refusals.{IsDevice}
 use Rattle.amqp_read.specs.Reading.{Reading, Takes, Stays}
 use Rattle.amqp_read.specs.Steps.{NotTaken}
-use Rattle.amqp_de.specs.Parse.{Parsed, any_code, behind_byte, data_at, by_category}
+use Rattle.amqp_de.specs.Parse.{Parsed, any_code, behind_byte, bad_payload, data_at, by_category}
 use Rattle.amqp_de.specs.Steps.{IsData, Rejects}
-use Rattle.amqp_de.proofs.Readings.{unread_rejects, rejects_here}
-use Rattle.amqp_de.proofs.Data.{bytes_short, behind_code}
+use Rattle.amqp_de.proofs.Readings.{unread_rejects, rejects_here, rejects_after}
+use Rattle.amqp_de.proofs.Data.{bytes_there, bytes_short, behind_code}
 
 -- as many bytes as the code says
 pub fixed_is : (b : ℕ) (e : EncodingCodes) (w : ℕ) (x : List ℕ) (v : Scalar) (old new : Reading) → code_of b ≡ Some e → (row e).category ≡ Fixed w → length x ≡ w → payload e x ≡ Some v → Takes old new x → IsData b (scalar v) old new
@@ -43,6 +39,15 @@ pub fixed_refused : {grows buffers : Bool} (k : Kind) (b : ℕ) (e : EncodingCod
     → Stays old new → NotTaken grows buffers w old new err → Rejects grows buffers (behind_byte (data_at k) b) old new err
 fixed_refused k b e w old new err c h f s u =
     unread_rejects (behind_byte (data_at k) b) w old new err (λ t l. behind_code (data_at k) b e t c ∙ short_data k e w t h f l) (record { stays = s; why = u })
+
+-- bytes that are no payload of their code
+bad_data : (k : Kind) (e : EncodingCodes) (w : ℕ) (x s : List ℕ) → (row e).kind ≡ k → (row e).category ≡ Fixed w → length x ≡ w → payload e x ≡ None → data_at k e (x ++ s) ≡ Err (bad_payload (row e).kind)
+unfolding data_at
+bad_data k e w x s h c l p = rw (kind_same (row e).kind k h, c, bytes_there w x s l, p) refl
+
+pub fixed_bad : {grows buffers : Bool} (k : Kind) (b : ℕ) (e : EncodingCodes) (w : ℕ) (x : List ℕ) (old new : Reading) → code_of b ≡ Some e → (row e).kind ≡ k → (row e).category ≡ Fixed w → length x ≡ w → payload e x ≡ None → (IsDevice (bad_payload (row e).kind) → ⊥)
+    → Takes old new x → Rejects grows buffers (behind_byte (data_at k) b) old new (bad_payload (row e).kind)
+fixed_bad k b e w x old new c h f l p d t = rejects_after (behind_byte (data_at k) b) old new x (bad_payload (row e).kind) t d (λ s. behind_code (data_at k) b e (x ++ s) c ∙ bad_data k e w x s h f l p)
 
 -- a byte of no code, or of a code of another kind
 other_kind : (k : Kind) (e : EncodingCodes) (s : List ℕ) → ((row e).kind ≡ k → ⊥) → data_at k e s ≡ Err InvalidFormatCode
@@ -85,39 +90,3 @@ other_refused k b r d n = rejects_here (behind_byte (data_at k) b) r InvalidForm
     tell : (s : List ℕ) (e : EncodingCodes) → (code_of b ≡ Some e) ⊎ (e ≡ DescribedType) → data_at k e s ≡ Err InvalidFormatCode
     tell s e (inl h) = other_kind k e s (n e h)
     tell s e (inr h) = rw h (described_kind k s d)
-
--- ---- numbers
-
-pub number_1 : (n : ℕ) → number (n ∷ []) ≡ n
-number_1 n = omega arith
-
-number_is_1 : (b : List ℕ) → length b ≡ 1 → from_be_bytes w8 b ≡ number b
-number_is_1 (x ∷ []) l = omega arith
-number_is_1 [] l = absurd (omega arith)
-number_is_1 (x ∷ y ∷ b) l = absurd (omega arith)
-
-pub number_4 : (b : List ℕ) → length b ≡ 4 → from_be_bytes w32 b ≡ number b
-number_4 (x ∷ y ∷ z ∷ u ∷ []) l = omega arith
-number_4 [] l = absurd (omega arith)
-number_4 (x ∷ []) l = absurd (omega arith)
-number_4 (x ∷ y ∷ []) l = absurd (omega arith)
-number_4 (x ∷ y ∷ z ∷ []) l = absurd (omega arith)
-number_4 (x ∷ y ∷ z ∷ u ∷ v ∷ b) l = absurd (omega arith)
-
-signed_4 : (n : ℕ) → (if nat_lt n (256 ^ 4 / 2) then pos n else negsuc (256 ^ 4 - suc n)) ≡ to_z w32 n
-signed_4 n = grind (arith, ints, nat_tests)
-
-signed_1 : (n : ℕ) → (if nat_lt n (256 ^ 1 / 2) then pos n else negsuc (256 ^ 1 - suc n)) ≡ to_z w8 n
-signed_1 n = grind (arith, ints, nat_tests)
-
--- the payloads of an int
-pub int_4 : (b : List ℕ) (z : ℤ) → length b ≡ 4 → z ≡ to_z w32 (from_be_bytes w32 b) → SFits w32 z → payload Int b ≡ Some (int (to_z w32 (of_z w32 z)))
-unfolding row payload read
-int_4 b z l h f = rw (to_z-of_z w32 z f, h, number_4 b l, l, signed_4 (number b)) refl
-
-widened : (z : ℤ) → SFits w8 z → to_z w32 (of_z w32 z) ≡ z
-widened z f = omega (arith, ints)
-
-pub int_1 : (b : List ℕ) (z : ℤ) → length b ≡ 1 → z ≡ to_z w8 (from_be_bytes w8 b) → SFits w8 z → payload SmallInt b ≡ Some (int (to_z w32 (of_z w32 (to_z w8 (of_z w8 z)))))
-unfolding row payload read
-int_1 b z l h f = rw (to_z-of_z w8 z f, widened z f, h, number_is_1 b l, l, signed_1 (number b)) refl

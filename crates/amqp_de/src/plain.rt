@@ -1,0 +1,170 @@
+//! Null, booleans and characters.
+
+ghost use Rattle.std.specs.Prelude.{◌≡◌, ℕ, Bool, false, ◌||◌, IsTrue, IfOk, IfErr};
+ghost use Rattle.amqp_base.specs.Codes.{Kind};
+ghost use Rattle.amqp_base.specs.Item.{scalar, null, boolean, char};
+ghost use Rattle.amqp_base.specs.Typing.{is_of};
+ghost use Rattle.amqp_de.specs.Decoding.{stands_under};
+ghost use Rattle.amqp_de.specs.Law.{Found, Missed};
+ghost use Rattle.amqp_de.specs.Parse.{item_at, data_at};
+ghost use Rattle.amqp_de.specs.Steps.{Exact, Stops};
+
+use crate::Deserializer;
+use crate::deserializer::byte;
+use crate::leaf::{Leaf, fixed};
+use amqp_base::{EncodingCodes, Error};
+use amqp_read::Read;
+
+#[derive(Drop)]
+struct AsNull;
+
+impl Leaf for AsNull {
+    ghost use Rattle.std.specs.Prelude.{false, refl};
+    ghost use Rattle.amqp_base.specs.Codes.{Kind};
+    ghost use Rattle.amqp_base.specs.Item.{null};
+
+    type Value = ();
+
+    ghost kind = { Kind.null };
+
+    ghost shows = { λ _. null };
+
+    ghost grows = { false };
+
+    ghost of_kind = { λ _. refl };
+
+    #[inline(always)]
+    fn read<R: Read>(self, reader: &mut R, code: u8) -> Result<(), Error> {
+        let _ = reader;
+        match code {
+            0x40 => Ok(()),
+            _ => Err(Error::InvalidFormatCode),
+        }
+    }
+}
+
+#[derive(Drop)]
+struct AsBoolean;
+
+impl Leaf for AsBoolean {
+    ghost use Rattle.std.specs.Prelude.{false, refl};
+    ghost use Rattle.amqp_base.specs.Codes.{Kind};
+    ghost use Rattle.amqp_base.specs.Item.{boolean};
+
+    type Value = bool;
+
+    ghost kind = { Kind.boolean };
+
+    ghost shows = { boolean };
+
+    ghost grows = { false };
+
+    ghost of_kind = { λ _. refl };
+
+    #[inline(always)]
+    fn read<R: Read>(self, reader: &mut R, code: u8) -> Result<bool, Error> {
+        match code {
+            0x56 => match byte(reader) {
+                Ok(byte) => match byte {
+                    0 => Ok(false),
+                    1 => Ok(true),
+                    _ => Err(Error::InvalidValue),
+                },
+                Err(e) => Err(e),
+            },
+            0x41 => Ok(true),
+            0x42 => Ok(false),
+            _ => Err(Error::InvalidFormatCode),
+        }
+    }
+}
+
+#[derive(Drop)]
+struct AsChar;
+
+impl Leaf for AsChar {
+    ghost use Rattle.std.specs.Prelude.{false, refl};
+    ghost use Rattle.amqp_base.specs.Codes.{Kind};
+    ghost use Rattle.amqp_base.specs.Item.{char};
+
+    type Value = char;
+
+    ghost kind = { Kind.char };
+
+    ghost shows = { char };
+
+    ghost grows = { false };
+
+    ghost of_kind = { λ _. refl };
+
+    #[inline(always)]
+    #[tactic(auto, unfolding(amqp_base::specs::Codes::row, amqp_base::specs::SameKind::same_kind, amqp_base::specs::SameKind::place, crate::specs::OneCode::is_only))]
+    fn read<R: Read>(self, reader: &mut R, code: u8) -> Result<char, Error> {
+        match fixed::<R, 4>(reader, code, EncodingCodes::Char) {
+            Ok(bytes) => match char::from_u32(u32::from_be_bytes(bytes)) {
+                Some(character) => Ok(character),
+                None => Err(Error::InvalidValue),
+            },
+            Err(e) => Err(e),
+        }
+    }
+}
+
+impl<R: Read> Deserializer<R> {
+    /// Null (part 1, section 1.6.1): a code without data.
+    ///
+    /// `Io(UnexpectedEof)` where there is no byte, `InvalidFormatCode` where another item stands. A refusal ends the
+    /// deserializer.
+    #[inline(always)]
+    pub fn deserialize_unit(&mut self) -> Result<(), Error>
+        ensures ok { IfOk result (λ _. Found (is_of Kind.null) (λ i. i ≡ scalar (null)) self.old self.new) }
+        ensures err { IfErr result (λ e. Missed (is_of Kind.null) R.buffers R.buffers self.old self.new e) }
+        ensures exact { IsTrue self.old.answers → Exact (λ _. null) R.buffers R.buffers (item_at (data_at Kind.null) (stands_under self.old)) self.old.reading result self.new.reading }
+        ensures stops { Stops self.old result self.new }
+    {
+        self.leaf(AsNull)
+    }
+
+    /// The value of a unit struct: null (part 1, section 1.6.1), whatever its name.
+    ///
+    /// `Io(UnexpectedEof)` where there is no byte, `InvalidFormatCode` where another item stands. A refusal ends the
+    /// deserializer.
+    #[inline(always)]
+    pub fn deserialize_unit_struct(&mut self, name: &'static str) -> Result<(), Error>
+        ensures ok { IfOk result (λ _. Found (is_of Kind.null) (λ i. i ≡ scalar (null)) self.old self.new) }
+        ensures err { IfErr result (λ e. Missed (is_of Kind.null) R.buffers R.buffers self.old self.new e) }
+        ensures exact { IsTrue self.old.answers → Exact (λ _. null) R.buffers R.buffers (item_at (data_at Kind.null) (stands_under self.old)) self.old.reading result self.new.reading }
+        ensures stops { Stops self.old result self.new }
+    {
+        let _ = name;
+        self.leaf(AsNull)
+    }
+
+    /// A boolean, in any of its three encodings (part 1, section 1.6.2): a code that says all, or a byte, which is 0 or 1.
+    ///
+    /// `Io(UnexpectedEof)` where bytes are missing, `InvalidFormatCode` where another item stands, `InvalidValue` where the
+    /// byte is there and is neither 0 nor 1. A refusal ends the deserializer.
+    #[inline(always)]
+    pub fn deserialize_bool(&mut self) -> Result<bool, Error>
+        ensures ok { IfOk result (λ b. Found (is_of Kind.boolean) (λ i. i ≡ scalar (boolean b)) self.old self.new) }
+        ensures err { IfErr result (λ e. Missed (is_of Kind.boolean) R.buffers R.buffers self.old self.new e) }
+        ensures exact { IsTrue self.old.answers → Exact boolean R.buffers R.buffers (item_at (data_at Kind.boolean) (stands_under self.old)) self.old.reading result self.new.reading }
+        ensures stops { Stops self.old result self.new }
+    {
+        self.leaf(AsBoolean)
+    }
+
+    /// A character (part 1, section 1.6.16): its code point in 4 bytes.
+    ///
+    /// `Io(UnexpectedEof)` where bytes are missing, `InvalidFormatCode` where another item stands, `InvalidValue` where all
+    /// bytes are there and are no Unicode scalar value: a surrogate, or above 0x10FFFF. A refusal ends the deserializer.
+    #[inline(always)]
+    pub fn deserialize_char(&mut self) -> Result<char, Error>
+        ensures ok { IfOk result (λ c. Found (is_of Kind.char) (λ i. i ≡ scalar (char c)) self.old self.new) }
+        ensures err { IfErr result (λ e. Missed (is_of Kind.char) R.buffers R.buffers self.old self.new e) }
+        ensures exact { IsTrue self.old.answers → Exact char R.buffers R.buffers (item_at (data_at Kind.char) (stands_under self.old)) self.old.reading result self.new.reading }
+        ensures stops { Stops self.old result self.new }
+    {
+        self.leaf(AsChar)
+    }
+}
