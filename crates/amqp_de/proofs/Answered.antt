@@ -1,20 +1,19 @@
 -- An item without parts: its byte, then its data.
 use Rattle.std.proofs.Common.{◌≡◌, ℕ, ◌+◌, ◌≤◌, Bool, true, false, ◌||◌, List, ◌++◌, Ok, Err, refl, sym, ap, subst, ◌∙◌, arith, inl, inr, ◌⊎◌, IsTrue}
 use Rattle.amqp_base.specs.declared.error.Error.{Error}
-use Rattle.amqp_base.specs.declared.error.Error.TheVariants.{InvalidValue}
 use Rattle.amqp_base.specs.declared.format_code.EncodingCodes.{EncodingCodes}
 use Rattle.amqp_base.specs.Codes.{Kind, row}
 use Rattle.amqp_base.specs.Item.{Item, Scalar, scalar, list, map, array, described}
 use Rattle.amqp_base.specs.Canon.{kind_of}
 use Rattle.amqp_base.specs.Wire.{Constructor, bare, under, under_pair, Wire, lenient, of_code, of_described}
 use Rattle.amqp_base.specs.Typing.{is_of}
-use Rattle.amqp_base.proofs.KindPlaces.{same_kind_is, of_kind}
+use Rattle.amqp_base.proofs.KindPlaces.{same_kind_is}
 use Rattle.amqp_read.specs.Reading.{Reading, Steady}
 use Rattle.amqp_de.specs.Decoding.{Decoding, stands_under}
 use Rattle.amqp_de.specs.Law.{Found, Missed, Excused, Spent, free, refused_free}
 use Rattle.amqp_de.specs.Parse.{Parsed, byte_under, behind_byte, item_at, data_at}
 use Rattle.amqp_de.specs.Steps.{Begins, BeginsNot, IsData, Rejects, Exact, IsDescribed}
-use Rattle.amqp_de.proofs.Readings.{steady_same, steady_then, takes_then, behind, excused_before, excused_more}
+use Rattle.amqp_de.proofs.Readings.{steady_then, takes_then, behind, excused_before, excused_more}
 use Rattle.amqp_de.proofs.Data.{understands, behind_code}
 
 -- the state once the item's data were consumed

@@ -1,18 +1,18 @@
 -- Calls behind a look at the same item.
-use Rattle.std.proofs.Common.{◌≡◌, ℕ, ◌+◌, ◌^◌, ◌≤◌, Bool, true, IsTrue, List, ◌++◌, length, Option, Some, None, refl, sym, ap, ◌∙◌, arith}
+use Rattle.std.proofs.Common.{◌≡◌, ℕ, ◌≤◌, Bool, true, IsTrue, List, ◌++◌, length, Option, Some, None, refl, sym, ap, ◌∙◌, arith}
 use Rattle.std.specs.Io.KnownBytes.{Keeps, Consumes}
 use Rattle.amqp_base.specs.declared.error.Error.{Error}
-use Rattle.amqp_base.specs.declared.error.Error.TheVariants.{InvalidFormatCode, Message, Io, InvalidValue, InvalidUtf8Encoding, SequenceLengthMismatch, InvalidLength, OutOfMemory}
+use Rattle.amqp_base.specs.declared.error.Error.TheVariants.{InvalidFormatCode, Message, Io, OutOfMemory}
 use Rattle.amqp_base.specs.declared.format_code.EncodingCodes.{EncodingCodes}
 use Rattle.amqp_base.specs.Codes.{Kind, row}
-use Rattle.amqp_base.specs.Item.{Item, scalar}
+use Rattle.amqp_base.specs.Item.{Item}
 use Rattle.amqp_base.specs.Typing.{is_of}
 use Rattle.amqp_base.specs.Refusals.{IsCustom, IsDevice}
 use Rattle.amqp_base.specs.Wire.{Constructor, bare, under, under_pair, Wire, lenient, of_code, of_described}
 use Rattle.amqp_read.specs.Reading.{Reading, Takes, Stays}
 use Rattle.amqp_read.specs.Steps.{Looked}
 use Rattle.amqp_de.specs.Decoding.{Decoding, stands_under}
-use Rattle.amqp_de.specs.Law.{Found, Missed, Excused, Overfull, Spent, free, refused_free, no_memory, faulted, uncounted}
+use Rattle.amqp_de.specs.Law.{Found, Missed, Excused, Overfull, Spent, refused_free, no_memory, faulted, uncounted}
 use Rattle.amqp_de.specs.Look.{item_kind, looked_at, Looks, LooksNot}
 use Rattle.amqp_de.proofs.Readings.{steady_then, behind, excused_more}
 use Rattle.amqp_de.proofs.Answered.{of_kind_is, not_refused, spent_refused}

@@ -1,6 +1,4 @@
-use Rattle.std.proofs.Common.{◌≡◌, sym, refl, ap, string_bytes}
-use Rattle.std.specs.Prelude.{IfOk}
-use Rattle.amqp_base.specs.Item.{scalar, uint, string}
+use Rattle.std.proofs.Common.{sym}
 use Rattle.amqp_probe.proofs.Recoding.{decoded_ok, int_list}
 use Rattle.amqp_probe.specs.declared.kind.Kind.TheVariants.{Bool, I32, U32, U64, String, Symbol, ListI32}
 use Rattle.amqp_probe.proofs.codec.decoded.Goals as goal

@@ -1,6 +1,5 @@
-use Rattle.std.proofs.Common.{false, refl, ◌||◌, IsTrue}
+use Rattle.std.proofs.Common.{false, refl, IsTrue}
 use Rattle.amqp_base.specs.Item.{scalar}
-use Rattle.amqp_base.specs.Canon.{kind_of}
 use Rattle.amqp_types.specs.declared.decimal.Decimal.{Decimal}
 use Rattle.amqp_types.specs.declared.decimal.Decimal.TheVariants.{Dec32, Dec64, Dec128}
 use Rattle.amqp_base.specs.SameKind.{same_kind, place}
