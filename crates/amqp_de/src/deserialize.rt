@@ -102,6 +102,7 @@ impl<R: Read> Deserialize<R> for char {
 }
 
 impl<R: Read> Deserialize<R> for String {
+    #[inline(always)]
     fn deserialize(alloc: Global, de: &mut Deserializer<R>) -> Result<String, Error> {
         de.deserialize_string(alloc)
     }
@@ -136,6 +137,7 @@ impl<R: Read> Deserialize<R> for Uuid {
 }
 
 impl<R: Read> Deserialize<R> for Binary {
+    #[inline(always)]
     fn deserialize(alloc: Global, de: &mut Deserializer<R>) -> Result<Binary, Error> {
         match de.deserialize_byte_buf(alloc) {
             Ok(value) => Ok(Binary(value)),
@@ -145,6 +147,7 @@ impl<R: Read> Deserialize<R> for Binary {
 }
 
 impl<R: Read> Deserialize<R> for Symbol {
+    #[inline(always)]
     fn deserialize(alloc: Global, de: &mut Deserializer<R>) -> Result<Symbol, Error> {
         match de.deserialize_symbol(alloc) {
             Ok(value) => Ok(Symbol(value)),
@@ -154,10 +157,14 @@ impl<R: Read> Deserialize<R> for Symbol {
 }
 
 impl<R: Read, T: Deserialize<R>> Deserialize<R> for Vec<T> {
+    #[inline(always)]
     fn deserialize(alloc: Global, de: &mut Deserializer<R>) -> Result<Vec<T>, Error> {
         let mut access = de.deserialize_list()?;
         let mut items = Vec::new(alloc);
-        'items: while let Some(item) = access.next_element(alloc)? {
+        'items: while let Some(item) = match access.next_element(alloc) {
+            Ok(found) => found,
+            Err(e) => return Err(e),
+        } {
             items.push(item)?;
         }
         access.end()?;

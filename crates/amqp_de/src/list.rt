@@ -122,6 +122,7 @@ impl<R: Read> Deserializer<R> {
         }
     }
 
+    #[inline(always)]
     pub(crate) fn deserialize_list(&mut self) -> Result<ListAccess<'_, R>, Error>
         ensures* refused { sem 𝓛 (RestsIfErr (the_row R.row R.Read) self.entry (λ a. a.de.ghost_name) result (λ last. IfErr result (λ e. OpensNot list_data R.buffers self.old last e))) }
         ensures same_reference { IfOk result (λ a. a.de.ghost_name ≡ self.entry.ghost_name) }
@@ -177,20 +178,23 @@ impl<'a, R: Read> ListAccess<'a, R> {
         }
         self.answers = false;
         self.de.set_answers(true);
-        let item = T::deserialize(alloc, self.de);
-        self.de.set_answers(false);
-        let item = match item {
-            Ok(item) => item,
-            Err(e) => return Err(e),
-        };
-        let consumed = self.de.bytes_consumed();
-        let within = is_within(consumed, &self.beyond.limit);
-        if !within {
-            return Err(Error::InvalidValue);
+        match T::deserialize(alloc, self.de) {
+            Ok(item) => {
+                self.de.set_answers(false);
+                let consumed = self.de.bytes_consumed();
+                let within = is_within(consumed, &self.beyond.limit);
+                if !within {
+                    return Err(Error::InvalidValue);
+                }
+                self.answers = true;
+                self.left -= 1;
+                Ok(Some(item))
+            }
+            Err(e) => {
+                self.de.set_answers(false);
+                Err(e)
+            }
         }
-        self.answers = true;
-        self.left -= 1;
-        Ok(Some(item))
     }
 
     /// Ends the list: its deserializer answers again. Nothing is consumed.

@@ -49,6 +49,7 @@ fn payload<R: Read>(alloc: Global, reader: &mut R, width: u32) -> Result<Vec<u8>
 }
 
 /// A payload that is UTF-8.
+#[inline(always)]
 fn text<R: Read>(alloc: Global, reader: &mut R, width: u32) -> Result<String, Error>
     requires { (width ≡ 1) ⊎ (width ≡ 4) }
     ensures ok { IfOk result (λ t. Text width (string_bytes t) (R.reading reader.old) (R.reading reader.new)) }
@@ -81,6 +82,7 @@ impl Leaf for AsString {
 
     ghost of_kind = { λ _. refl };
 
+    #[inline(always)]
     fn read<R: Read>(self, reader: &mut R, code: u8) -> Result<String, Error> {
         match code {
             0xa1 => text(self.0, reader, 1),
@@ -163,6 +165,7 @@ impl<R: Read> Deserializer<R> {
     /// `Io(UnexpectedEof)` where bytes are missing, `InvalidFormatCode` where another item stands, a symbol or a binary
     /// too, `InvalidUtf8Encoding` where all bytes are there and aren't UTF-8, `OutOfMemory` where the text finds no
     /// memory. A refusal ends the deserializer.
+    #[inline(always)]
     pub fn deserialize_string(&mut self, alloc: Global) -> Result<String, Error>
         ensures ok { IfOk result (λ s. Found (is_of Kind.string) (λ i. i ≡ scalar (string (string_bytes s))) self.old self.new) }
         ensures err { IfErr result (λ e. Missed (is_of Kind.string) true R.buffers self.old self.new e) }

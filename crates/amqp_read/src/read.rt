@@ -72,6 +72,8 @@ pub fn read_const_bytes<R: Read, const N: usize>(reader: &mut R) -> Result<[u8; 
     ensures why { IfErr result (λ e. NotTaken R.buffers R.buffers N (R.reading reader.old) (R.reading reader.new) e) }
 {
     let mut bytes = [0; N];
-    reader.read_exact(&mut bytes)?;
-    Ok(bytes)
+    match reader.read_exact(&mut bytes) {
+        Ok(()) => Ok(bytes),
+        Err(e) => Err(e),
+    }
 }

@@ -104,9 +104,13 @@ impl<'s> Read for SliceReader<'s> {
 
     #[inline(always)]
     fn read_exact(&mut self, buf: &mut [u8]) -> Result<(), Error> {
-        let bytes = self.get_byte_slice(buf.len())?;
-        buf.copy_from_slice(bytes);
-        Ok(())
+        match self.get_byte_slice(buf.len()) {
+            Ok(bytes) => {
+                buf.copy_from_slice(bytes);
+                Ok(())
+            }
+            Err(e) => Err(e),
+        }
     }
 
     // The proof is by hand, over `shown`'s: none is made of a loan whose result may own memory.
@@ -125,10 +129,14 @@ impl<'s> Read for SliceReader<'s> {
             return Err(Error::Io(ErrorKind::UnexpectedEof));
         }
         let (front, rest) = self.rest.split_at(n);
-        let bytes = Vec::from_slice(alloc, front)?;
-        self.rest = rest;
-        self.taken += n;
-        Ok(bytes)
+        match Vec::from_slice(alloc, front) {
+            Ok(bytes) => {
+                self.rest = rest;
+                self.taken += n;
+                Ok(bytes)
+            }
+            Err(_) => Err(Error::OutOfMemory),
+        }
     }
 }
 
