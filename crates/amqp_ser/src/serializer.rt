@@ -1,9 +1,10 @@
 //! The serializer: its state, and the bytes that it appends.
 
 ghost use Rattle.std.specs.Prelude.{◌≡◌, ◌≢◌, ◌++◌, ◌∷◌, [], true, false, IfErr, OnOk, OnErr, Some};
+ghost use Rattle.amqp_base.specs.Item.{scalar, null};
 ghost use Rattle.amqp_base.specs.Wire.{under};
 ghost use Rattle.amqp_ser.specs.State.{Fresh, state, mark_of, unmarked, first};
-ghost use Rattle.amqp_ser.specs.Law.{Wrote, Refused, Stops, placed, found_after};
+ghost use Rattle.amqp_ser.specs.Law.{Wrote, Refused, Stops, Spares, Named, placed, found_after};
 ghost use Rattle.amqp_ser.specs.Appending.{Appended, Pays};
 ghost use Rattle.amqp_ser.specs.Compound.{turned};
 
@@ -230,6 +231,20 @@ impl<W: Sink> Serializer<W> {
                 self.mark = Mark::Other(code);
             }
         }
+    }
+
+    /// Writes null (section 1.6.1), as an option that holds nothing. It takes no memory of its own.
+    ///
+    /// `InvalidValue`: it is to stand in an array, whose elements can't be null.
+    #[inline(always)]
+    pub fn serialize_none(&mut self, alloc: Global) -> Result<(), Error>
+        ensures ok { OnOk result (Wrote (state W.Write W.FaultCount self.old) (scalar null) (state W.Write W.FaultCount self.new)) }
+        ensures err { IfErr result (λ e. Refused (state W.Write W.FaultCount self.old) (scalar null) e (state W.Write W.FaultCount self.new)) }
+        ensures named { IfErr result (λ e. Named (state W.Write W.FaultCount self.old) 0 e (state W.Write W.FaultCount self.new)) }
+        ensures stops { Stops (state W.Write W.FaultCount self.old) result (state W.Write W.FaultCount self.new) }
+        ensures spares { Spares (state W.Write W.FaultCount self.old) result (state W.Write W.FaultCount self.new) }
+    {
+        self.serialize_unit(alloc)
     }
 
     /// Writes the value itself, as an option that holds it. It is refused as the value's own `serialize`.
