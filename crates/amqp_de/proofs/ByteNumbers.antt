@@ -1,5 +1,5 @@
 -- Bytes as numbers.
-use Rattle.std.proofs.Common.{◌≡◌, ℕ, zero, suc, ◌+◌, ◌-◌, ◌*◌, ◌/◌, ◌^◌, ◌<◌, if◌then◌else◌, nat_lt, List, [], ◌∷◌, length, refl, sym, ap, ◌∙◌, arith, ℤ, pos, negsuc, to_z, of_z, w8, w16, w32, w64}
+use Rattle.std.proofs.Common.{◌≡◌, ℕ, zero, suc, ◌+◌, ◌-◌, ◌*◌, ◌/◌, ◌^◌, if◌then◌else◌, nat_lt, List, [], ◌∷◌, length, refl, ◌∙◌, arith, ℤ, pos, negsuc, to_z, of_z, w8, w16, w32, w64}
 use mir.Val.{SFits}
 use Rattle.std.specs.Int.{Width, w128, byte_len, byte_worth, sum_through, from_be_bytes}
 use Rattle.std.specs.Prelude.{slice_index}

@@ -1,10 +1,10 @@
 -- The bytes of a kind's codes.
-use Rattle.std.proofs.Common.{◌≡◌, ℕ, Bool, true, false, ◌==◌, List, [], ◌∷◌, Some, ◌⊎◌, inl, inr, refl, sym, ap, ◌∙◌}
+use Rattle.std.proofs.Common.{◌≡◌, ℕ, Bool, true, false, ◌==◌, List, [], ◌∷◌, Some, refl, sym, ap, ◌∙◌}
 use Rattle.std.proofs.lemmas.Bool.{eqb-true}
 use Rattle.std.proofs.lemmas.Option.{same_Some}
 use Rattle.amqp_base.specs.declared.format_code.EncodingCodes.{EncodingCodes}
 use Rattle.amqp_base.specs.Codes.{Kind, row, code_of, among, codes}
-use Rattle.amqp_base.specs.SameKind.{same_kind, place}
+use Rattle.amqp_base.specs.SameKind.{same_kind}
 use Rattle.amqp_base.proofs.KindPlaces.{kind_same}
 
 among_byte : (b : ℕ) (es : List EncodingCodes) (e : EncodingCodes) → among b es ≡ Some e → (row e).byte ≡ b

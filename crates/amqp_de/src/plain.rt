@@ -137,7 +137,7 @@ impl<R: Read> Deserializer<R> {
         ensures stops { Stops self.old result self.new }
     {
         let _ = name;
-        self.leaf(AsNull)
+        self.deserialize_unit()
     }
 
     /// A boolean, in any of its three encodings (part 1, section 1.6.2): a code that says all, or a byte, which is 0 or 1.

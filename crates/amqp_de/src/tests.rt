@@ -2,6 +2,7 @@
 
 mod lists;
 mod looks;
+mod primitives;
 mod refusals;
 mod scalars;
 

@@ -1,23 +1,22 @@
 -- What is read and written again.
-use Rattle.std.proofs.Common.{◌≡◌, ◌≢◌, ℕ, ◌+◌, ◌-◌, ◌≤◌, Bool, true, false, ◌||◌, IsTrue, ℤ, List, [], ◌∷◌, ◌++◌, length, take, drop, map, Option, Some, None, Result, Ok, Err, refl, sym, ap, subst, ◌∙◌, arith, inl, inr, ◌⊎◌}
+use Rattle.std.proofs.Common.{◌≡◌, ◌≢◌, ℕ, ◌≤◌, Bool, true, false, ◌||◌, IsTrue, ℤ, List, [], ◌∷◌, ◌++◌, length, take, drop, map, Option, Some, None, Result, Ok, Err, refl, sym, ap, ◌∙◌, arith, inl, inr, ◌⊎◌}
 use Rattle.std.proofs.lemmas.List.{length-append, take_at, take-append-drop}
 use Rattle.std.proofs.lemmas.Option.{same_Some}
 use Rattle.std.specs.Prelude.{IfOk}
 use Rattle.std.specs.Io.KnownBytes.{Consumes}
 use Rattle.amqp_base.specs.declared.error.Error.{Error}
 use Rattle.amqp_base.specs.declared.error.Error.TheVariants.{OutOfMemory}
-use Rattle.amqp_base.specs.Codes.{Kind as ItemKind}
-use Rattle.amqp_base.specs.Item.{Scalar, uint, int, string, Item, scalar, list, map as map_item, array, described, Items, none, more, items_of}
-use Rattle.amqp_base.specs.Wire.{Wire, lenient, bare, Front}
+use Rattle.amqp_base.specs.Item.{int, Item, scalar, list, map as map_item, array, described, Items, none, more, items_of}
+use Rattle.amqp_base.specs.Wire.{lenient, bare, Front}
 use Rattle.amqp_base.specs.Canon.{canon}
 use Rattle.amqp_base.specs.Typing.{all_mean, means_list}
 use Rattle.amqp_base.specs.Shapes.{whole}
 use Rattle.amqp_base.specs.declared.shape.Shape.{Shape}
 use Rattle.amqp_base.proofs.OneFront.{same_wire}
 use Rattle.amqp_read.specs.Reading.{Reading}
-use Rattle.amqp_de.specs.Decoding.{Decoding, stands_under}
-use Rattle.amqp_de.specs.Law.{Front as Found_front, Found, Missed, Excused, no_memory, faulted, uncounted}
-use Rattle.amqp_probe.specs.Codec.{HasText, Decoded, Recodes, Recoded, IsRefused, takes}
+use Rattle.amqp_de.specs.Decoding.{Decoding}
+use Rattle.amqp_de.specs.Law.{Found, Missed, Excused, no_memory, faulted, uncounted}
+use Rattle.amqp_probe.specs.Codec.{Decoded, Recodes, Recoded, IsRefused, takes}
 use Rattle.amqp_probe.specs.declared.kind.Kind.{Kind}
 use Rattle.amqp_probe.specs.declared.codec.Outcome.{Outcome}
 use Rattle.amqp_probe.specs.declared.codec.Outcome.TheVariants.{Value, Refused}

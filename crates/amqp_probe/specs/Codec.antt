@@ -8,14 +8,18 @@ use Rattle.amqp_base.specs.Wire.{lenient, bare, Front}
 use Rattle.amqp_base.specs.Canon.{canon}
 use Rattle.amqp_base.specs.Typing.{is_of, is_list_of}
 use Rattle.amqp_probe.specs.declared.kind.Kind.{Kind}
-use Rattle.amqp_probe.specs.declared.kind.Kind.TheVariants.{U32, String, ListI32}
+use Rattle.amqp_probe.specs.declared.kind.Kind.TheVariants.{Bool as Boolean, I32, U32, U64, String, Symbol, ListI32}
 use Rattle.amqp_probe.specs.declared.codec.Outcome.{Outcome}
 use Rattle.amqp_probe.specs.declared.codec.Outcome.TheVariants.{Value, Refused}
 
 -- the items that a type takes
 abbrev pub takes : Kind → Item → Bool
+takes Boolean = is_of ItemKind.boolean
+takes I32 = is_of ItemKind.int
 takes U32 = is_of ItemKind.uint
+takes U64 = is_of ItemKind.ulong
 takes String = is_of ItemKind.string
+takes Symbol = is_of ItemKind.symbol
 takes ListI32 = is_list_of (is_of ItemKind.int)
 
 -- An item that the type takes is spelled at the front of the bytes, and has a canonical text. It is the item of its value.

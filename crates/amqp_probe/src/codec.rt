@@ -6,7 +6,7 @@ ghost use Rattle.amqp_base.specs.declared.shape.Setting.{Setting};
 ghost use Rattle.amqp_probe.specs.Codec.{Decoded, Recoded, IsRefused};
 
 use crate::kind::Kind;
-use serde_amqp::{Deserialize, Deserializer, Error, Read, Serialize, SliceReader, to_vec};
+use serde_amqp::{Deserialize, Deserializer, Error, Read, Serialize, SliceReader, Symbol, to_vec};
 use std::alloc::Global;
 
 /// What came of the bytes of a line.
@@ -24,8 +24,12 @@ pub fn decoded(alloc: Global, kind: Kind, bytes: &[u8]) -> Result<Outcome, Error
     ensures err { IfErr result (λ e. e ≡ OutOfMemory) }
 {
     match kind {
+        Kind::Bool => recoded::<bool>(alloc, bytes),
+        Kind::I32 => recoded::<i32>(alloc, bytes),
         Kind::U32 => recoded::<u32>(alloc, bytes),
+        Kind::U64 => recoded::<u64>(alloc, bytes),
         Kind::String => recoded::<String>(alloc, bytes),
+        Kind::Symbol => recoded::<Symbol>(alloc, bytes),
         Kind::ListI32 => recoded::<Vec<i32>>(alloc, bytes),
     }
 }

@@ -78,7 +78,7 @@ fn printed<S: Source>(alloc: Global, input: &mut S) -> Result<String, Fail> {
 }
 
 /// Lines of each form, and what is printed for them.
-const RUNS: [(&str, &str); 24] = [
+const RUNS: [(&str, &str); 26] = [
     ("", "true"),
     ("u32 70000000ff", "ok 52ff rest 0\ntrue"),
     ("u32 70000000fF0a\n", "ok 52ff rest 1\ntrue"),
@@ -106,6 +106,14 @@ const RUNS: [(&str, &str); 24] = [
     ("u322 43", "bad line 1\nfalse"),
     ("u32 43\u{e9}\u{e9}", "bad line 1\nfalse"),
     ("\u{e9}u32 43", "bad line 1\nfalse"),
+    (
+        "bool 5602\nbool 41\nu64 80000000000000002a\nsymbol a30161ff\nword 00",
+        "refused InvalidValue\nok 41 rest 0\nok 532a rest 0\nok a30161 rest 1\nbad line 5\nfalse",
+    ),
+    (
+        "i32 71ffffff80\nu64 44\nsymbol a10161\nbool 5601",
+        "ok 5480 rest 0\nok 44 rest 0\nrefused InvalidFormatCode\nok 41 rest 0\ntrue",
+    ),
 ];
 
 #[test]

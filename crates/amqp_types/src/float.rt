@@ -1,6 +1,8 @@
 //! Floating point numbers, kept as their bits.
 
-ghost use Rattle.std.specs.Prelude.{◌≡◌, ℕ, false, refl};
+ghost use Rattle.std.specs.Prelude.{◌≡◌, ◌==◌, ℕ, false, refl};
+ghost use Rattle.std.proofs.Common.{rules};
+ghost use Rattle.std.specs.Cmp.Rules.{comparing};
 ghost use Rattle.amqp_base.specs.Codes.{Kind};
 ghost use Rattle.amqp_base.specs.Item.{scalar, float, double};
 ghost use Rattle.amqp_base.specs.OneValue.{one_of, natural_in};
@@ -12,7 +14,7 @@ use std::marker::Model;
 
 /// A binary floating point number of 32 bits, IEEE 754-2008 (part 1, section 1.6.11): its bits, the sign first. Two of them are
 /// equal where their bits are: so each NaN equals itself, and 0 doesn't equal -0. A contract sees the bits as a number.
-#[derive(Debug, Clone, Copy, PartialEq, Eq, Hash)]
+#[derive(Debug, Clone, Copy, Eq, Hash)]
 pub struct Float(u32);
 
 impl Model for Float {
@@ -39,6 +41,18 @@ impl Float {
     {
         let Float(own) = self;
         own
+    }
+}
+
+impl PartialEq for Float {
+    ghost eq = { ◌==◌ };
+
+    ghost laws = { Prim.search (comparing, rules) };
+
+    /// Whether the bits are equal.
+    fn eq(&self, other: &Float) -> bool {
+        let (Float(one), Float(two)) = (self, other);
+        one == two
     }
 }
 
@@ -72,7 +86,7 @@ impl NeverNull for Float {
 
 /// A binary floating point number of 64 bits, IEEE 754-2008 (part 1, section 1.6.12): its bits, the sign first. Two of them are
 /// equal where their bits are: so each NaN equals itself, and 0 doesn't equal -0. A contract sees the bits as a number.
-#[derive(Debug, Clone, Copy, PartialEq, Eq, Hash)]
+#[derive(Debug, Clone, Copy, Eq, Hash)]
 pub struct Double(u64);
 
 impl Model for Double {
@@ -99,6 +113,18 @@ impl Double {
     {
         let Double(own) = self;
         own
+    }
+}
+
+impl PartialEq for Double {
+    ghost eq = { ◌==◌ };
+
+    ghost laws = { Prim.search (comparing, rules) };
+
+    /// Whether the bits are equal.
+    fn eq(&self, other: &Double) -> bool {
+        let (Double(left), Double(right)) = (self, other);
+        left == right
     }
 }
 

@@ -8,8 +8,12 @@ ghost use Rattle.amqp_base.specs.Canon.{canon};
 ghost use Rattle.amqp_base.specs.Raw.{raw};
 ghost use Rattle.amqp_base.specs.Laws.{AreBytes, Usual, IsTwiceDescribed};
 ghost use Rattle.amqp_base.specs.PlainArrays.{PlainArrays};
+ghost use Rattle.amqp_base.specs.declared.shape.Setting.TheVariants.{Plain};
+ghost use Rattle.std.specs.declared.vec.Vec.{Vec};
+ghost use Rattle.std.specs.declared.string.String.{String};
+ghost use Rattle.std.specs.declared.alloc.Global.{Global};
 
-use amqp_base::laws;
+use amqp_base::{Typed, laws};
 
 /// Where a uint stands at the front of bytes, every item that stands there is that uint.
 pub fn one_uint(_bytes: &[u8])
@@ -81,4 +85,11 @@ pub fn read_again()
     ensures { (i : Item) (b rest : List ℕ) → canon i ≡ Some b → Capped i → Front lenient bare (b ++ rest) i (length b) }
 {
     laws::canon_front();
+}
+
+/// What is written for a list of strings is read as that list.
+pub fn strings_are_read_back()
+    ensures { (v : Vec (String Global) Global) (b rest : List ℕ) → canon (⟦<Vec<String> as Typed>⟧.item v Plain) ≡ Some b → Capped (⟦<Vec<String> as Typed>⟧.item v Plain) → ⟦<Vec<String> as Typed>⟧.means (⟦<Vec<String> as Typed>⟧.item v Plain) v }
+{
+    laws::round_trip::<Vec<String>>();
 }

@@ -1,6 +1,6 @@
 //! Newtypes, each written as what it holds.
 
-use amqp_base::{Error, Sink, Typed};
+use amqp_base::{Error, NeverNull, RoundTrip, Sink, Typed};
 use amqp_de::{Deserialize, Deserializer};
 use amqp_read::Read;
 use amqp_ser::{Serialize, Serializer};
@@ -26,6 +26,16 @@ impl Typed for Tags {
     ghost in_described_basic = { λ v. ⟦<Vec<String> as Typed>⟧.in_described_basic v.0 };
 
     ghost one_value = { λ i v w. ⟦<Vec<String> as Typed>⟧.one_value i v.0 w.0 };
+}
+
+impl RoundTrip for Tags {
+    ghost taken_back = { λ v. ⟦<Vec<String> as RoundTrip>⟧.taken_back v.0 };
+
+    ghost read_back = { λ v. ⟦<Vec<String> as RoundTrip>⟧.read_back v.0 };
+}
+
+impl NeverNull for Tags {
+    ghost never_null = { λ v. ⟦<Vec<String> as NeverNull>⟧.never_null v.0 };
 }
 
 impl Serialize for Tags {
@@ -60,6 +70,16 @@ impl Typed for Celsius {
     ghost in_described_basic = { λ v. ⟦<i32 as Typed>⟧.in_described_basic v.0 };
 
     ghost one_value = { λ i v w. ⟦<i32 as Typed>⟧.one_value i v.0 w.0 };
+}
+
+impl RoundTrip for Celsius {
+    ghost taken_back = { λ v. ⟦<i32 as RoundTrip>⟧.taken_back v.0 };
+
+    ghost read_back = { λ v. ⟦<i32 as RoundTrip>⟧.read_back v.0 };
+}
+
+impl NeverNull for Celsius {
+    ghost never_null = { λ v. ⟦<i32 as NeverNull>⟧.never_null v.0 };
 }
 
 impl Serialize for Celsius {

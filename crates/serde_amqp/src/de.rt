@@ -1,5 +1,5 @@
 //! Reading.
 
 pub use crate::from_slice;
-pub use amqp_base::MAX_ARRAY_COUNT;
+pub use amqp_base::{MAX_ARRAY_COUNT, NeverNull, RoundTrip};
 pub use amqp_de::{Deserialize, Deserializer, Ended, ListAccess, SeqAccess};

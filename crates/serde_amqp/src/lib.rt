@@ -19,14 +19,17 @@ mod tests;
 pub use amqp_base::{
     Category, Counted, DECIMAL32_WIDTH, DECIMAL64_WIDTH, DECIMAL128_WIDTH, DESCRIBED_BASIC,
     DESCRIBED_LIST, DESCRIBED_MAP, DESCRIPTOR, EncodingCodes, EnumType, Error, FaultCount,
-    IsArrayElement, IsDescribed, MAX_ARRAY_COUNT, OFFSET_ARRAY8, OFFSET_ARRAY32, OFFSET_LIST8,
-    OFFSET_LIST32, OFFSET_MAP8, OFFSET_MAP32, Sink, Source, StructEncoding, Typed, UNTAGGED_ENUM,
-    UUID_WIDTH, VALUE, laws,
+    IsArrayElement, IsDescribed, MAX_ARRAY_COUNT, NeverNull, OFFSET_ARRAY8, OFFSET_ARRAY32,
+    OFFSET_LIST8, OFFSET_LIST32, OFFSET_MAP8, OFFSET_MAP32, RoundTrip, Sink, Source,
+    StructEncoding, Typed, UNTAGGED_ENUM, UUID_WIDTH, VALUE, laws,
 };
 pub use amqp_de::{Deserialize, Deserializer, Ended, ListAccess, SeqAccess};
 pub use amqp_read::{Read, SliceReader, read_const_bytes};
 pub use amqp_ser::{SeqSerializer, Serialize, Serializer};
-pub use amqp_types::{Boolean, Byte, Char, Int, List, Long, Short, Ubyte, Uint, Ulong, Ushort};
+pub use amqp_types::{
+    Binary, BinaryRef, Boolean, Byte, Char, Dec32, Dec64, Dec128, Decimal, Double, Float, Int,
+    List, Long, Short, Symbol, SymbolRef, Timestamp, Ubyte, Uint, Ulong, Ushort, Uuid,
+};
 use std::alloc::Global;
 
 /// The canonical text of a value. Refused where its item has none (`InvalidValue`; `Io(Other)` where a payload or a body is

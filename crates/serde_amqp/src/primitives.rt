@@ -1,3 +1,6 @@
 //! The primitive types.
 
-pub use amqp_types::{Boolean, Byte, Char, Int, List, Long, Short, Ubyte, Uint, Ulong, Ushort};
+pub use amqp_types::{
+    Binary, BinaryRef, Boolean, Byte, Char, Dec32, Dec64, Dec128, Decimal, Double, Float, Int,
+    List, Long, Short, Symbol, SymbolRef, Timestamp, Ubyte, Uint, Ulong, Ushort, Uuid,
+};

@@ -1,5 +1,9 @@
 //! Values and bytes, each as they stand in the standard's tables or follow from them.
 
+mod forms;
+mod refusals;
+mod texts;
+
 use crate::{Deserializer, Error, Read, SliceReader, from_slice, to_vec};
 use std::io::ErrorKind;
 use std::test::Fail;
@@ -22,27 +26,6 @@ fn writes_numbers_in_their_shortest_form(rt: HostRuntime) -> Result<(), Fail> {
         [0x71, 0, 0, 0, 0x80].as_slice()
     );
     Ok(())
-}
-
-#[test]
-fn writes_texts_of_254_and_255_bytes(rt: HostRuntime) -> Result<(), Fail> {
-    let alloc = rt.alloc();
-    let short = to_vec(alloc, &letters(alloc, 254)?)?;
-    assert_eq!(rt; short.len(), 256);
-    assert!(rt; short.as_slice().starts_with(&[0xa1, 0xfe, 0x61]));
-    let long = to_vec(alloc, &letters(alloc, 255)?)?;
-    assert_eq!(rt; long.len(), 260);
-    assert!(rt; long.as_slice().starts_with(&[0xb1, 0, 0, 0, 0xff, 0x61]));
-    assert_eq!(rt; from_slice::<String>(alloc, long.as_slice())?.len(), 255);
-    Ok(())
-}
-
-fn letters(alloc: std::alloc::Global, count: usize) -> Result<String, Fail> {
-    let mut text = String::new(alloc);
-    for _ in 0..count {
-        text.push('a')?;
-    }
-    Ok(text)
 }
 
 #[test]

@@ -1,4 +1,4 @@
-use Rattle.std.proofs.Common.{◌≡◌, arith, ◌∙◌}
+use Rattle.std.proofs.Common.{◌≡◌, arith}
 use Rattle.amqp_base.specs.Codes.{row}
 use Rattle.amqp_de.proofs.OnlyCode.{only, only_data, only_short, only_other}
 use Rattle.amqp_de.proofs.leaf.fixed.Goals as goal

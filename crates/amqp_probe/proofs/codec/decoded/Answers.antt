@@ -1,15 +1,25 @@
-use Rattle.std.proofs.Common.{◌≡◌, sym, refl, ap, string_bytes}
-use Rattle.std.specs.Prelude.{IfOk}
-use Rattle.amqp_base.specs.Item.{scalar, uint, string}
+use Rattle.std.proofs.Common.{sym}
 use Rattle.amqp_probe.proofs.Recoding.{decoded_ok, int_list}
-use Rattle.amqp_probe.specs.declared.kind.Kind.TheVariants.{U32, String, ListI32}
+use Rattle.amqp_probe.specs.declared.kind.Kind.TheVariants.{Bool, I32, U32, U64, String, Symbol, ListI32}
 use Rattle.amqp_probe.proofs.codec.decoded.Goals as goal
 
+pub returns-in-Bool-clause-ok : goal.returns-in-Bool-clause-ok
+returns-in-Bool-clause-ok c = rw c.in-Bool.is (decoded_ok Bool _ _ c.args.bytes.now c.recoded.result (λ i v m. sym m) c.recoded.ensures.ok)
+
+pub returns-in-I32-clause-ok : goal.returns-in-I32-clause-ok
+returns-in-I32-clause-ok c = rw c.in-I32.is (decoded_ok I32 _ _ c.args.bytes.now c.recoded-in-I32.result (λ i v m. sym m) c.recoded-in-I32.ensures.ok)
+
 pub returns-in-U32-clause-ok : goal.returns-in-U32-clause-ok
-returns-in-U32-clause-ok c = rw c.in-U32.is (decoded_ok U32 _ _ c.args.bytes.now c.recoded.result (λ i v m. sym m) c.recoded.ensures.ok)
+returns-in-U32-clause-ok c = rw c.in-U32.is (decoded_ok U32 _ _ c.args.bytes.now c.recoded-in-U32.result (λ i v m. sym m) c.recoded-in-U32.ensures.ok)
+
+pub returns-in-U64-clause-ok : goal.returns-in-U64-clause-ok
+returns-in-U64-clause-ok c = rw c.in-U64.is (decoded_ok U64 _ _ c.args.bytes.now c.recoded-in-U64.result (λ i v m. sym m) c.recoded-in-U64.ensures.ok)
 
 pub returns-in-String-clause-ok : goal.returns-in-String-clause-ok
 returns-in-String-clause-ok c = rw c.in-String.is (decoded_ok String _ _ c.args.bytes.now c.recoded-in-String.result (λ i v m. sym m) c.recoded-in-String.ensures.ok)
+
+pub returns-in-Symbol-clause-ok : goal.returns-in-Symbol-clause-ok
+returns-in-Symbol-clause-ok c = rw c.in-Symbol.is (decoded_ok Symbol _ _ c.args.bytes.now c.recoded-in-Symbol.result (λ i v m. sym m) c.recoded-in-Symbol.ensures.ok)
 
 pub returns-in-ListI32-clause-ok : goal.returns-in-ListI32-clause-ok
 returns-in-ListI32-clause-ok c = rw c.in-ListI32.is (decoded_ok ListI32 _ _ c.args.bytes.now c.recoded-in-ListI32.result (λ i v m. int_list i v.items m) c.recoded-in-ListI32.ensures.ok)

@@ -1,4 +1,4 @@
-use Rattle.std.proofs.Common.{refl, ◌∙◌, w64}
+use Rattle.std.proofs.Common.{refl, w64}
 use Rattle.amqp_base.specs.Codes.{row}
 use Rattle.amqp_base.specs.Item.{double}
 use Rattle.amqp_base.specs.Value.{payload, read}

@@ -1,4 +1,4 @@
-use Rattle.std.proofs.Common.{refl, rules, to_z, of_z, w64}
+use Rattle.std.proofs.Common.{refl, rules, w64}
 use mir.Val.{SFits}
 use Rattle.amqp_base.specs.Codes.{row}
 use Rattle.amqp_base.specs.Item.{timestamp}

@@ -1,0 +1,43 @@
+#!/bin/sh
+# Builds both codecs and times one against the other; README.md says how. It leaves the repository as it is.
+set -e
+cd "$(dirname "$0")"
+kit=$(dirname "$(dirname "$(readlink -f "$(command -v rt)")")")
+work=$(mktemp -d)
+trap 'rm -rf "$work"' EXIT
+trap 'exit 1' HUP INT TERM
+
+# The workspace, with the crate of the exports.
+mkdir -p "$work/.git" "$work/crates"
+(cd ../crates && tar cf - --exclude='*/out' .) | (cd "$work/crates" && tar xf -)
+cp ../HANDLES "$work/"
+{
+  cat ../crates.txt
+  echo 'amqp_bench staticlib: amqp_base amqp_read amqp_ser amqp_de amqp_types serde_amqp'
+} > "$work/crates.txt"
+mkdir -p "$work/crates/amqp_bench/src"
+cp amqp_bench.rt.txt "$work/crates/amqp_bench/src/lib.rt"
+echo 'Proving and building the crates (minutes) ..' >&2
+(cd "$work/crates/amqp_bench" && rt lib) > "$work/log" 2>&1 || { cat "$work/log" >&2; exit 1; }
+
+library=$work/crates/amqp_bench/out/libamqp_bench.a
+driver() {
+  rustc --edition 2024 -C opt-level=3 -C codegen-units=1 -C panic=abort -C target-cpu=x86-64-v2 "$@" main.rs
+}
+driver --cfg counting -C link-arg="$library" -o "$work/count"
+driver -C link-arg="$library" -C link-arg="$kit/c/liblibc_c.a" -o "$work/bench"
+"$work/count" > "$work/counts"
+# Where valgrind is there, instructions too.
+if command -v valgrind > /dev/null; then
+  mkdir "$work/callgrind"
+  valgrind --tool=callgrind --callgrind-out-file="$work/callgrind/out" "$work/bench" 2> "$work/log" ||
+    { cat "$work/log" >&2; exit 1; }
+  awk '
+    sub(/^desc: Trigger: Client Request: /, "") { name = $0 }
+    /^totals: / && name { total[name] = $2; name = "" }
+    END {
+      for (it in total) if (sub(/:ours 1$/, "", it))
+        print it ": " total[it ":ours 1"] - total[it ":ours 0"] " " total[it ":plain 1"] - total[it ":plain 0"]
+    }' "$work"/callgrind/out* >> "$work/counts"
+fi
+"$work/bench" "$work/counts" "$@"

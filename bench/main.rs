@@ -1,0 +1,184 @@
+//! Runs each case on the proved codec and on the one of codec.rs, in turn, and prints a line for each way.
+
+mod codec;
+#[cfg(counting)]
+mod counting;
+#[cfg(not(counting))]
+mod instructions;
+mod plain;
+#[cfg(not(counting))]
+mod timing;
+
+use codec::Binary;
+use std::fmt::Write;
+
+type OursEncode = unsafe extern "C" fn(*const u8, usize, u32, *mut u8, usize) -> usize;
+type OursDecode = unsafe extern "C" fn(*const u8, usize, u32) -> usize;
+
+unsafe extern "C" {
+    fn amqp_bench_encode_ints(text: *const u8, len: usize, times: u32, out: *mut u8, room: usize) -> usize;
+    fn amqp_bench_decode_ints(text: *const u8, len: usize, times: u32) -> usize;
+    fn amqp_bench_encode_strings(text: *const u8, len: usize, times: u32, out: *mut u8, room: usize) -> usize;
+    fn amqp_bench_decode_strings(text: *const u8, len: usize, times: u32) -> usize;
+    fn amqp_bench_encode_nested(text: *const u8, len: usize, times: u32, out: *mut u8, room: usize) -> usize;
+    fn amqp_bench_decode_nested(text: *const u8, len: usize, times: u32) -> usize;
+    fn amqp_bench_encode_binary(text: *const u8, len: usize, times: u32, out: *mut u8, room: usize) -> usize;
+    fn amqp_bench_decode_binary(text: *const u8, len: usize, times: u32) -> usize;
+    fn amqp_bench_encode_longs(text: *const u8, len: usize, times: u32, out: *mut u8, room: usize) -> usize;
+    fn amqp_bench_decode_longs(text: *const u8, len: usize, times: u32) -> usize;
+    fn amqp_bench_encode_string(text: *const u8, len: usize, times: u32, out: *mut u8, room: usize) -> usize;
+    fn amqp_bench_decode_string(text: *const u8, len: usize, times: u32) -> usize;
+}
+
+/// A value by its text, and the calls for its type.
+struct Case {
+    name: &'static str,
+    text: Vec<u8>,
+    ours_encode: OursEncode,
+    ours_decode: OursDecode,
+    plain_encode: fn(&[u8], u32, &mut [u8]) -> usize,
+    plain_decode: fn(&[u8], u32) -> usize,
+}
+
+impl Case {
+    fn new<T: codec::Encode + codec::Decode>(
+        name: &'static str,
+        value: T,
+        ours_encode: OursEncode,
+        ours_decode: OursDecode,
+    ) -> Case {
+        Case {
+            name,
+            text: codec::to_vec(&value).unwrap(),
+            ours_encode,
+            ours_decode,
+            plain_encode: plain::encode::<T>,
+            plain_decode: plain::decode::<T>,
+        }
+    }
+
+    /// What begins the line of one way.
+    fn key(&self, way: &str) -> String {
+        format!("{:25} {way}", self.name)
+    }
+
+    fn ours_encode(&self, times: u32, out: &mut [u8]) -> usize {
+        unsafe { (self.ours_encode)(self.text.as_ptr(), self.text.len(), times, out.as_mut_ptr(), out.len()) }
+    }
+
+    fn ours_decode(&self, times: u32) -> usize {
+        unsafe { (self.ours_decode)(self.text.as_ptr(), self.text.len(), times) }
+    }
+
+    fn plain_encode(&self, times: u32, out: &mut [u8]) -> usize {
+        (self.plain_encode)(&self.text, times, out)
+    }
+
+    fn plain_decode(&self, times: u32) -> usize {
+        (self.plain_decode)(&self.text, times)
+    }
+
+    /// Both read the text to a value that they write as the very same text.
+    fn check(&self) {
+        let len = self.text.len();
+        let mut out = vec![0; len];
+        assert_eq!(self.ours_encode(1, &mut out), len, "{}: ours", self.name);
+        assert!(out == self.text, "{}: ours writes other bytes", self.name);
+        out.fill(0);
+        assert_eq!(self.plain_encode(1, &mut out), len, "{}: plain", self.name);
+        assert!(out == self.text, "{}: plain writes other bytes", self.name);
+        assert_eq!(self.ours_decode(3), 3, "{}: ours", self.name);
+        assert_eq!(self.plain_decode(3), 3, "{}: plain", self.name);
+        assert_ne!(unsafe { (self.ours_decode)(self.text.as_ptr(), len - 1, 1) }, 1, "{}: ours takes a part", self.name);
+        assert_ne!((self.plain_decode)(&self.text[..len - 1], 1), 1, "{}: plain takes a part", self.name);
+    }
+}
+
+/// The same numbers at each run (xorshift).
+struct Numbers(u64);
+
+impl Numbers {
+    fn next(&mut self) -> u64 {
+        self.0 ^= self.0 << 13;
+        self.0 ^= self.0 >> 7;
+        self.0 ^= self.0 << 17;
+        self.0
+    }
+
+    /// A half small and a half wide, in an order by chance.
+    fn ints(&mut self, count: usize) -> Vec<i32> {
+        let mut ints: Vec<i32> = Vec::new();
+        for at in 0..count {
+            let n = self.next();
+            ints.push(if at % 2 == 0 { n as i8 as i32 } else { (n >> 17) as i8 as i32 ^ 0x1234_5600 });
+            ints.swap(at, (n >> 32) as usize % (at + 1));
+        }
+        ints
+    }
+
+    /// Zero, a byte, or wide by chance, a third each.
+    fn long(&mut self) -> u64 {
+        let n = self.next();
+        match n % 3 {
+            0 => 0,
+            1 => 1 + (n >> 8) % 255,
+            _ => 256 + (n >> 8),
+        }
+    }
+
+    fn text(&mut self, len: usize) -> String {
+        let mut text = String::new();
+        while text.len() < len {
+            write!(text, "{:016x}", self.next()).unwrap();
+        }
+        text.truncate(len);
+        text
+    }
+}
+
+fn cases() -> Vec<Case> {
+    let mut n = Numbers(0x2545_f491_4f6c_dd1d);
+    let ints = n.ints(10_000);
+    let strings: Vec<String> = (0..1_000).map(|_| n.text(20)).collect();
+    let nested: Vec<Vec<Vec<u64>>> =
+        (0..20).map(|_| (0..20).map(|_| (0..20).map(|_| n.long()).collect()).collect()).collect();
+    let binary = Binary((0..1 << 20).map(|_| n.next() as u8).collect());
+    let longs: Vec<u64> = (0..10_000).map(|_| n.long()).collect();
+    let string = n.text(12);
+    vec![
+        Case::new("vec of 10000 i32", ints, amqp_bench_encode_ints, amqp_bench_decode_ints),
+        Case::new("vec of 1000 strings of 20", strings, amqp_bench_encode_strings, amqp_bench_decode_strings),
+        Case::new("u64, 20 by 20 by 20", nested, amqp_bench_encode_nested, amqp_bench_decode_nested),
+        Case::new("binary of 1 MiB", binary, amqp_bench_encode_binary, amqp_bench_decode_binary),
+        Case::new("vec of 10000 u64", longs, amqp_bench_encode_longs, amqp_bench_decode_longs),
+        Case::new("string of 12", string, amqp_bench_encode_string, amqp_bench_decode_string),
+    ]
+}
+
+/// The heap is to keep its memory, so that neither side's calls pay for pages of the system's.
+fn keep_memory() {
+    unsafe extern "C" {
+        fn mallopt(parameter: i32, value: i32) -> i32;
+    }
+    const TRIM_THRESHOLD: i32 = -1;
+    const MMAP_THRESHOLD: i32 = -3;
+    unsafe {
+        mallopt(TRIM_THRESHOLD, 1 << 30);
+        mallopt(MMAP_THRESHOLD, 1 << 30);
+    }
+}
+
+fn main() {
+    keep_memory();
+    let cases = cases();
+    for case in &cases {
+        case.check();
+    }
+    #[cfg(counting)]
+    counting::run(&cases);
+    #[cfg(not(counting))]
+    match std::env::args().nth(1) {
+        None => instructions::run(&cases),
+        Some(counts) => timing::run(&cases, &std::fs::read_to_string(counts).unwrap()),
+    }
+}
