@@ -6,10 +6,10 @@ ghost use Rattle.amqp_base.specs.Shapes.{whole};
 ghost use Rattle.amqp_base.specs.Wire.{under};
 ghost use Rattle.amqp_ser.specs.State.{State, state, mark_of, answering};
 ghost use Rattle.amqp_ser.specs.Law.{Wrote, Refused, Kept, Named, IsDevice, unwritten, found_after};
-ghost use Rattle.amqp_ser.specs.Appending.{Pays};
+ghost use Rattle.amqp_ser.specs.Appending.{Pays, as_error};
 ghost use Rattle.amqp_ser.specs.Compound.{the_buffer, open_parts, is_map, Empty, Run, Holds, Complete, RefusesOpen, BeginsWith, BreaksOff, parts_text, whole_text, shape_code, narrow_of, empty_list, next_mark};
 
-use crate::serializer::{LONGEST, Mark, NARROW};
+use crate::serializer::{LONGEST, Mark, NARROW, Refusal, refused};
 use crate::{Serialize, Serializer};
 use amqp_base::{EncodingCodes, Error, Setting, Shape, Sink};
 use std::alloc::{AllocError, Global};
@@ -29,13 +29,17 @@ pub struct Parts {
 
 impl Parts {
     /// No parts yet, with room for a few bytes.
+    #[inline(always)]
     pub(crate) fn new(alloc: Global, shape: Shape) -> Result<Parts, AllocError>
         ensures shape { IfOk result (λ p. p.shape ≡ shape) }
         ensures empty { IfOk result (λ p. Empty (the_buffer p.buffer)) }
         ensures run { IfOk result (λ p. Run shape (the_buffer p.buffer) [] (the_buffer p.buffer)) }
         ensures count { IfOk result (λ p. p.count ≡ 0) }
     {
-        let writer = Vec::with_capacity(alloc, FIRST_CAPACITY)?;
+        let writer = match Vec::with_capacity(alloc, FIRST_CAPACITY) {
+            Ok(writer) => writer,
+            Err(e) => return Err(e),
+        };
         let buffer = Serializer {
             writer,
             setting: Setting::Plain,
@@ -176,23 +180,26 @@ impl<W: Sink> Serializer<W> {
             return Err(Error::InvalidValue);
         }
         let body = buffer.into_inner();
-        self.finish(shape, count, &body)
+        if let Err(e) = self.finish(shape, count, &body) {
+            return Err(refused(e));
+        }
+        Ok(())
     }
 
     /// Writes a compound of so many parts with this body, on a serializer that the compound holds. It answers again
     /// where that succeeds. A body of more than 4,294,967,291 bytes is `Io(Other)`.
-    pub(crate) fn finish(&mut self, shape: Shape, count: usize, body: &[u8]) -> Result<(), Error>
+    pub(crate) fn finish(&mut self, shape: Shape, count: usize, body: &[u8]) -> Result<(), Refusal>
         ensures law { count ≤ length body.now → Pays (answering (state W.Write W.FaultCount self.old)) (whole_text shape (state W.Write W.FaultCount self.old).mark count body.now)
-            (found_after (state W.Write W.FaultCount self.old).mark (Some (under (shape_code shape))) (state W.Write W.FaultCount self.old).found) [] (unwritten (length body.now)) result (state W.Write W.FaultCount self.new) }
+            (found_after (state W.Write W.FaultCount self.old).mark (Some (under (shape_code shape))) (state W.Write W.FaultCount self.old).found) [] (unwritten (length body.now)) (as_error result) (state W.Write W.FaultCount self.new) }
         ensures kept { Kept (state W.Write W.FaultCount self.old) (state W.Write W.FaultCount self.new) }
-        ensures device { IfErr result (λ e. IsDevice e → W.faults self.old.writer < W.faults self.new.writer) }
+        ensures device { IfErr (as_error result) (λ e. IsDevice e → W.faults self.old.writer < W.faults self.new.writer) }
         ensures err { OnErr result (self.new.stopped ≡ true) }
     {
         self.stopped = false;
         let len = body.len();
         if len > LONGEST {
             self.stopped = true;
-            return Err(Error::Io(ErrorKind::Other));
+            return Err(Refusal::Io(ErrorKind::Other));
         }
         let size = ((len + 4) as u32).to_be_bytes();
         let n = ((count % 0x1_0000_0000) as u32).to_be_bytes();
