@@ -1,6 +1,7 @@
 -- The steps of a compound.
-use Rattle.std.proofs.Common.{◌≡◌, get_or, map, take, drop, suc, add-one, drop-cons, ℕ, ◌+◌, ◌<◌, ◌≤◌, ◌^◌, List, [], ◌∷◌, ◌++◌, length, refl, sym, ◌∙◌, ap, arith, Option, Some, None, true, false, Bool, if◌then◌else◌, Result, Ok, Err, OnOk, IfErr, inl, inr, subst, length-append, min}
+use Rattle.std.proofs.Common.{◌≡◌, get_or, map, take, drop, suc, add-one, drop-cons, ℕ, ◌+◌, ◌<◌, ◌≤◌, ◌^◌, List, [], ◌∷◌, ◌++◌, length, refl, sym, ◌∙◌, ap, arith, Option, Some, None, true, false, Bool, if◌then◌else◌, Result, Ok, Err, OnOk, IfErr, inl, inr, subst, length-append, min, ◌==◌}
 use Rattle.std.proofs.lemmas.List.{take-append-drop, take_all, take_more, map-append}
+use Rattle.std.proofs.lemmas.Bool.{eq-eqb, eqb-true}
 use Rattle.std.specs.Io.KnownBytes.{Appends}
 use Rattle.amqp_base.specs.Item.{Item, items_of, count}
 use Rattle.amqp_base.specs.Wire.{Constructor, under}
@@ -15,11 +16,11 @@ use Rattle.amqp_base.specs.declared.shape.Shape.{Shape}
 use Rattle.amqp_ser.specs.State.{State, Mark, unmarked, first, other, answering}
 use Rattle.amqp_ser.specs.Law.{text_for, fits, marked, found_after, Goes, Wrote, Refused, Kept, Named, unwritten}
 use Rattle.amqp_ser.specs.Appending.{Pays}
-use Rattle.amqp_ser.specs.Compound.{Open, Empty, Run, Holds, BeginsWith, whole_text, shape_code, parts_text, next_mark, other_of, turned}
+use Rattle.amqp_ser.specs.Compound.{Open, Empty, Run, Holds, Complete, is_map, BeginsWith, whole_text, shape_code, parts_text, next_mark, other_of, turned}
 use Rattle.amqp_ser.proofs.Bytes.{extends_same, appends_more, appends_none}
 use Rattle.amqp_ser.proofs.Steps.{Free, fits_free, wrote_pays, refused_pays, named_pays}
 use Rattle.amqp_ser.proofs.TextOf.{pays_text}
-use Rattle.amqp_ser.proofs.PartTexts.{parts_more, parts_none, bind_some}
+use Rattle.amqp_ser.proofs.PartTexts.{parts_more, parts_none, bind_some, pairs_text, pairs_count}
 use Rattle.amqp_ser.proofs.Lengths.{parts_fit}
 
 kept_stopped : (s : State) → Kept s (record s { stopped = true })
@@ -69,13 +70,20 @@ other_turn m found o c e h = rw (h, e) refl
 turn_more : (shape : Shape) (xs : List Item) (x : Item) (a b : List ℕ) (m : Mark) (found old : Option Constructor) → parts_text shape (items_of xs) ≡ Some a → m ≡ next_mark shape xs → found ≡ found_after m (kind_code x) old → marked m x ≡ Some b → turned m found ≡ next_mark shape (xs ++ x ∷ [])
 unfolding next_mark parts_text array_body
 turn_more Shape.List xs x a b m found old t h f k = rw h refl
+turn_more (Shape.Tuple n) xs x a b m found old t h f k = rw h refl
+turn_more Shape.Map xs x a b m found old t h f k = rw h refl
 turn_more Shape.Array [] x a b m found old t h f k = first_turn m found old (kind_code x) h f
 turn_more Shape.Array (y ∷ ys) x a b m found old t h f k = let c = some_of (kind_code y) _ a t in other_turn m found (kind_code y) c.0 c.1 h
 
-pub run_none : (shape : Shape) (u : State) → Empty u → u.mark ≡ next_mark shape [] → u.setting ≡ Plain → u.stopped ≡ false → Run shape u [] u
+no_parts : (shape : Shape) → parts_text shape (items_of []) ≡ Some []
 unfolding parts_text canons array_body
-run_none Shape.List u e mark plain answers = record { bytes = []; text = refl; goes = free_goes u u [] _ (free_of u e) (appends_none u.contents) e.plan e.measure refl; mark = mark; plain = plain; answers = answers }
-run_none Shape.Array u e mark plain answers = record { bytes = []; text = refl; goes = free_goes u u [] _ (free_of u e) (appends_none u.contents) e.plan e.measure refl; mark = mark; plain = plain; answers = answers }
+no_parts Shape.List = refl
+no_parts Shape.Array = refl
+no_parts (Shape.Tuple n) = refl
+no_parts Shape.Map = refl
+
+pub run_none : (shape : Shape) (u : State) → Empty u → u.mark ≡ next_mark shape [] → u.setting ≡ Plain → u.stopped ≡ false → Run shape u [] u
+run_none shape u e mark plain answers = record { bytes = []; text = no_parts shape; goes = free_goes u u [] _ (free_of u e) (appends_none u.contents) e.plan e.measure refl; mark = mark; plain = plain; answers = answers }
 
 -- one part more
 pub run_more : (shape : Shape) (xs : List Item) (f : Setting → Item) (u v w : State) → Empty u → Run shape u xs v → Wrote v (f v.setting) w → Run shape u (xs ++ f Plain ∷ []) (record w { mark = turned w.mark w.found })
@@ -102,13 +110,14 @@ run_fits shape xs u v ys e r contents = r.text ∙ ap Some (from_none _ _ _ _ e.
     from_none : (a b : Option (List ℕ)) (more ys : List ℕ) → a ≡ Some [] → b ≡ Some ys → Appends a b more → more ≡ ys
     from_none a b more ys h k l = sym (rw (h, k) at l)
 
-pub element_more : (s : State) (shape : Shape) (xs : List Item) (f : Setting → Item) (q p : Open) (w : State) (ys : List ℕ) → Wrote q.inner (f q.inner.setting) w → w.contents ≡ Some ys → length ys < 2 ^ 64 → p.inner ≡ record w { mark = turned w.mark w.found } → p.outer ≡ q.outer → p.shape ≡ q.shape → p.count ≡ min (q.count + 1) 18446744073709551615 → Holds s shape xs q → Holds s shape (xs ++ f Plain ∷ []) p
-element_more s shape xs f q p w ys wrote contents small inner outer same count h =
+pub element_more : (s : State) (shape : Shape) (xs : List Item) (f : Setting → Item) (q p : Open) (w : State) (ys : List ℕ) → Wrote q.inner (f q.inner.setting) w → w.contents ≡ Some ys → length ys < 2 ^ 64 → p.inner ≡ record w { mark = turned w.mark w.found } → p.outer ≡ q.outer → p.pairs ≡ q.pairs → p.shape ≡ q.shape → p.count ≡ min (q.count + 1) 18446744073709551615 → Holds s shape xs q → Holds s shape (xs ++ f Plain ∷ []) p
+element_more s shape xs f q p w ys wrote contents small inner outer pairs same count h =
     let r = run_more shape xs f h.start q.inner w h.empty h.run wrote in
     let text = run_fits shape (xs ++ f Plain ∷ []) h.start _ ys h.empty r contents in
     let fewer = parts_fit shape (xs ++ f Plain ∷ []) ys text in
     let len = length-append xs (f Plain ∷ []) in
     record {
+      pairs = pairs ∙ h.pairs;
       shape_is = same ∙ h.shape_is;
       start = h.start;
       empty = h.empty;
@@ -132,41 +141,51 @@ pub begins_split : (xs : List Item) (x : Item) (rest : List Item) → BeginsWith
 begins_split [] x rest = (refl, tt)
 begins_split (z ∷ zs) x rest = (refl, begins_split zs x rest)
 
-whole_of_none : (shape : Shape) (m : Mark) (xs : List Item) → parts_text shape (items_of xs) ≡ None → marked m (whole shape xs) ≡ None
+if_none : (t : Bool) → (let n : Option (List ℕ) = None in if t then n else n) ≡ None
+if_none true = refl
+if_none false = refl
+
+whole_of_none : (shape : Shape) (m : Mark) (xs : List Item) → Complete (is_map shape) xs → parts_text shape (items_of xs) ≡ None → marked m (whole shape xs) ≡ None
 unfolding whole marked canon body kind_code parts_text
-whole_of_none Shape.List unmarked xs h = rw h refl
-whole_of_none Shape.List first xs h = rw h refl
-whole_of_none Shape.List (other d) xs h = rw h (if_none _)
-  where
-    if_none : (t : Bool) → (let n : Option (List ℕ) = None in if t then n else n) ≡ None
-    if_none true = refl
-    if_none false = refl
-whole_of_none Shape.Array unmarked xs h = rw h refl
-whole_of_none Shape.Array first xs h = rw h refl
-whole_of_none Shape.Array (other d) xs h = rw h (if_none _)
-  where
-    if_none : (t : Bool) → (let n : Option (List ℕ) = None in if t then n else n) ≡ None
-    if_none true = refl
-    if_none false = refl
+whole_of_none Shape.List unmarked xs c h = rw h refl
+whole_of_none Shape.List first xs c h = rw h refl
+whole_of_none Shape.List (other d) xs c h = rw h (if_none _)
+whole_of_none Shape.Array unmarked xs c h = rw h refl
+whole_of_none Shape.Array first xs c h = rw h refl
+whole_of_none Shape.Array (other d) xs c h = rw h (if_none _)
+whole_of_none (Shape.Tuple n) unmarked xs c h = rw h refl
+whole_of_none (Shape.Tuple n) first xs c h = rw h refl
+whole_of_none (Shape.Tuple n) (other d) xs c h = rw h (if_none _)
+whole_of_none Shape.Map unmarked xs c h = rw (pairs_text xs c, h) refl
+whole_of_none Shape.Map first xs c h = rw (pairs_text xs c, h) refl
+whole_of_none Shape.Map (other d) xs c h = rw (pairs_text xs c, h) (if_none _)
 
 -- the text of a whole, by what was written of its parts
-pub whole_of_some : (shape : Shape) (m : Mark) (xs : List Item) (b : List ℕ) → parts_text shape (items_of xs) ≡ Some b → marked m (whole shape xs) ≡ whole_text shape m (length xs) b
+pub whole_of_some : (shape : Shape) (m : Mark) (xs : List Item) (b : List ℕ) → Complete (is_map shape) xs → parts_text shape (items_of xs) ≡ Some b → marked m (whole shape xs) ≡ whole_text shape m (length xs) b
 unfolding whole marked canon body kind_code parts_text whole_text list_text row
-whole_of_some Shape.List unmarked xs b h = rw (h, count_items xs) refl
-whole_of_some Shape.List first xs b h = rw (h, count_items xs) refl
-whole_of_some Shape.List (other d) xs b h = rw (h, count_items xs) refl
-whole_of_some Shape.Array unmarked xs b h = rw (h, count_items xs) refl
-whole_of_some Shape.Array first xs b h = rw (h, count_items xs) refl
-whole_of_some Shape.Array (other d) xs b h = rw (h, count_items xs) refl
+whole_of_some Shape.List unmarked xs b c h = rw (h, count_items xs) refl
+whole_of_some Shape.List first xs b c h = rw (h, count_items xs) refl
+whole_of_some Shape.List (other d) xs b c h = rw (h, count_items xs) refl
+whole_of_some Shape.Array unmarked xs b c h = rw (h, count_items xs) refl
+whole_of_some Shape.Array first xs b c h = rw (h, count_items xs) refl
+whole_of_some Shape.Array (other d) xs b c h = rw (h, count_items xs) refl
+whole_of_some (Shape.Tuple n) unmarked xs b c h = rw (h, count_items xs) refl
+whole_of_some (Shape.Tuple n) first xs b c h = rw (h, count_items xs) refl
+whole_of_some (Shape.Tuple n) (other d) xs b c h = rw (h, count_items xs) refl
+whole_of_some Shape.Map unmarked xs b c h = rw (pairs_text xs c, h, pairs_count xs c) refl
+whole_of_some Shape.Map first xs b c h = rw (pairs_text xs c, h, pairs_count xs c) refl
+whole_of_some Shape.Map (other d) xs b c h = rw (pairs_text xs c, h, pairs_count xs c) refl
 
 pub whole_code : (shape : Shape) (xs : List Item) → kind_code (whole shape xs) ≡ Some (under (shape_code shape))
 unfolding whole kind_code
 whole_code Shape.List xs = refl
 whole_code Shape.Array xs = refl
+whole_code (Shape.Tuple n) xs = refl
+whole_code Shape.Map xs = refl
 
 -- a refused part refuses the whole
-element_refused_at : (s : State) (shape : Shape) (xs rest : List Item) (f : Setting → Item) (e : Error) (q : Open) (b : State) → b.faults ≡ q.inner.faults → Refused q.inner (f q.inner.setting) e b → Holds s shape xs q → Refused s (whole shape (xs ++ f Plain ∷ rest)) e q.outer
-element_refused_at s shape xs rest g e q b same v h =
+element_refused_at : (s : State) (shape : Shape) (xs rest : List Item) (f : Setting → Item) (e : Error) (q : Open) (b : State) → b.faults ≡ q.inner.faults → Refused q.inner (f q.inner.setting) e b → Holds s shape xs q → Complete q.pairs (xs ++ f Plain ∷ rest) → Refused s (whole shape (xs ++ f Plain ∷ rest)) e q.outer
+element_refused_at s shape xs rest g e q b same v h complete =
     let x = g Plain in
     let r : Refused q.inner x e b = subst (λ setting. Refused q.inner (g setting) e b) h.run.plain v in
     let free : Free s = record { plan = h.plan; measure = h.measure } in
@@ -179,15 +198,15 @@ element_refused_at s shape xs rest g e q b same v h =
         | inr d ↦ elim d [
           | inl io ↦ absurd (omega (arith, same, io.1))
           | inr empty ↦
-              inr (inr (text_free s (whole shape (xs ++ x ∷ rest)) free ∙ whole_of_none shape s.mark (xs ++ x ∷ rest) (parts_none shape xs rest x h.run.bytes h.run.text (subst (λ m. marked m x ≡ None) h.run.mark (sym (text_free q.inner x inner) ∙ empty)))))
+              inr (inr (text_free s (whole shape (xs ++ x ∷ rest)) free ∙ whole_of_none shape s.mark (xs ++ x ∷ rest) (rw h.pairs at complete) (parts_none shape xs rest x h.run.bytes h.run.text (subst (λ m. marked m x ≡ None) h.run.mark (sym (text_free q.inner x inner) ∙ empty)))))
         ]
       ];
     }
 
-pub element_refused : (s : State) (shape : Shape) (xs all : List Item) (f : Setting → Item) (e : Error) (q : Open) (b : State) → b.faults ≡ q.inner.faults → Refused q.inner (f q.inner.setting) e b → Holds s shape xs q → BeginsWith all (xs ++ f Plain ∷ []) → Refused s (whole shape all) e q.outer
-element_refused s shape xs all g e q b same v h split =
+pub element_refused : (s : State) (shape : Shape) (xs all : List Item) (f : Setting → Item) (e : Error) (q : Open) (b : State) → b.faults ≡ q.inner.faults → Refused q.inner (f q.inner.setting) e b → Holds s shape xs q → BeginsWith all (xs ++ f Plain ∷ []) → Complete q.pairs all → Refused s (whole shape all) e q.outer
+element_refused s shape xs all g e q b same v h split complete =
     let r = begins_rest xs all (g Plain) split in
-    subst (λ ys. Refused s (whole shape ys) e q.outer) (sym r.1) (element_refused_at s shape xs r.0 g e q b same v h)
+    subst (λ ys. Refused s (whole shape ys) e q.outer) (sym r.1) (element_refused_at s shape xs r.0 g e q b same v h (subst (λ ys. Complete q.pairs ys) r.1 complete))
 
 answering_stopped : (s t : State) → t ≡ record s { stopped = true } → s.stopped ≡ false → answering t ≡ s
 answering_stopped s t h k = ap answering h ∙ (let e : record s { stopped = false } ≡ s = ap (λ b. record s { stopped = b }) (sym k) in e)
@@ -201,34 +220,34 @@ pays_sizes s text found l why (Err e) t f p = record { kept = p.kept; device = p
     go None h = refl
     go (Some b) h = rw (fits_free s (length b) l f) (rw (fits_free s (length b) [] f) at h)
 
-abbrev Ends : {A : Type 0} → Open → List ℕ → Result A Error → State → Type 0
+abbrev pub Ends : {A : Type 0} → Open → List ℕ → Result A Error → State → Type 0
 Ends q b r t = q.count ≤ length b → Pays (answering q.outer) (whole_text q.shape q.outer.mark q.count b) (found_after q.outer.mark (Some (under (shape_code q.shape))) q.outer.found) [] (unwritten (length b)) r t
 
-end_pays : {A : Type 0} (s : State) (shape : Shape) (xs : List Item) (q : Open) (b : List ℕ) (r : Result A Error) (t : State) → Holds s shape xs q → q.inner.contents ≡ Some b → Ends q b r t → Pays s (marked s.mark (whole shape xs)) (found_after s.mark (kind_code (whole shape xs)) s.found) (sizes (whole shape xs)) (unwritten (length b)) r t
-end_pays s shape xs q b r t h contents p =
+end_pays : {A : Type 0} (s : State) (shape : Shape) (xs : List Item) (q : Open) (b : List ℕ) (r : Result A Error) (t : State) → Holds s shape xs q → Complete q.pairs xs → q.inner.contents ≡ Some b → Ends q b r t → Pays s (marked s.mark (whole shape xs)) (found_after s.mark (kind_code (whole shape xs)) s.found) (sizes (whole shape xs)) (unwritten (length b)) r t
+end_pays s shape xs q b r t h complete contents p =
     let text : parts_text shape (items_of xs) ≡ Some b = run_fits shape xs h.start q.inner b h.empty h.run contents in
     let fits : q.count ≤ length b = omega (arith, h.count, parts_fit shape xs b text) in
     let mark : q.outer.mark ≡ s.mark = ap (λ (x : State). x.mark) h.outer in
     let found : q.outer.found ≡ s.found = ap (λ (x : State). x.found) h.outer in
     let at_s = subst (λ x. Pays x (whole_text q.shape q.outer.mark q.count b) (found_after q.outer.mark (Some (under (shape_code q.shape))) q.outer.found) [] (unwritten (length b)) r t) (answering_stopped s q.outer h.outer h.answered) (p fits) in
-    let same : marked s.mark (whole shape xs) ≡ whole_text q.shape q.outer.mark q.count b = rw (mark, h.shape_is, h.count) (whole_of_some shape s.mark xs b text) in
+    let same : marked s.mark (whole shape xs) ≡ whole_text q.shape q.outer.mark q.count b = rw (mark, h.shape_is, h.count) (whole_of_some shape s.mark xs b (rw h.pairs at complete) text) in
     let code : found_after s.mark (kind_code (whole shape xs)) s.found ≡ found_after q.outer.mark (Some (under (shape_code q.shape))) q.outer.found = rw (mark, found, h.shape_is, whole_code shape xs) refl in
     pays_sizes s _ _ (sizes (whole shape xs)) _ r t (record { plan = h.plan; measure = h.measure }) (pays_text s _ _ _ _ [] _ r t same code at_s)
 
-pub end_wrote_each : {A : Type 0} (q : Open) (b : List ℕ) (r : Result A Error) (t : State) → q.inner.contents ≡ Some b → (q.count ≤ length b → Pays (answering q.outer) (whole_text q.shape q.outer.mark q.count b) (found_after q.outer.mark (Some (under (shape_code q.shape))) q.outer.found) [] (unwritten (length b)) r t) → OnOk r ((s : State) (shape : Shape) (xs : List Item) → Holds s shape xs q → Wrote s (whole shape xs) t)
-end_wrote_each q b (Ok a) t contents p = λ s shape xs h. wrote_pays s (whole shape xs) _ _ _ _ (Ok a) t refl refl refl (end_pays s shape xs q b (Ok a) t h contents p)
+pub end_wrote_each : {A : Type 0} (q : Open) (b : List ℕ) (r : Result A Error) (t : State) → q.inner.contents ≡ Some b → Ends q b r t → OnOk r ((s : State) (shape : Shape) (xs : List Item) → Holds s shape xs q → Complete q.pairs xs → Wrote s (whole shape xs) t)
+end_wrote_each q b (Ok a) t contents p = λ s shape xs h complete. wrote_pays s (whole shape xs) _ _ _ _ (Ok a) t refl refl refl (end_pays s shape xs q b (Ok a) t h complete contents p)
 end_wrote_each q b (Err e) t contents p = tt
 
-pub end_refused_each : {A : Type 0} (q : Open) (b : List ℕ) (r : Result A Error) (t : State) → q.inner.contents ≡ Some b → (q.count ≤ length b → Pays (answering q.outer) (whole_text q.shape q.outer.mark q.count b) (found_after q.outer.mark (Some (under (shape_code q.shape))) q.outer.found) [] (unwritten (length b)) r t) → IfErr r (λ e. (s : State) (shape : Shape) (xs : List Item) → Holds s shape xs q → Refused s (whole shape xs) e t)
+pub end_refused_each : {A : Type 0} (q : Open) (b : List ℕ) (r : Result A Error) (t : State) → q.inner.contents ≡ Some b → Ends q b r t → IfErr r (λ e. (s : State) (shape : Shape) (xs : List Item) → Holds s shape xs q → Complete q.pairs xs → Refused s (whole shape xs) e t)
 end_refused_each q b (Ok a) t contents p = tt
-end_refused_each q b (Err e) t contents p = λ s shape xs h. refused_pays s (whole shape xs) _ _ _ _ (Err e) t refl refl refl (end_pays s shape xs q b (Err e) t h contents p)
+end_refused_each q b (Err e) t contents p = λ s shape xs h complete. refused_pays s (whole shape xs) _ _ _ _ (Err e) t refl refl refl (end_pays s shape xs q b (Err e) t h complete contents p)
 
-pub end_named_each : {A : Type 0} (q : Open) (b : List ℕ) (r : Result A Error) (t : State) → q.inner.contents ≡ Some b → (q.count ≤ length b → Pays (answering q.outer) (whole_text q.shape q.outer.mark q.count b) (found_after q.outer.mark (Some (under (shape_code q.shape))) q.outer.found) [] (unwritten (length b)) r t) → IfErr r (λ e. (s : State) (shape : Shape) (xs : List Item) (body : List ℕ) → Holds s shape xs q → parts_text shape (items_of xs) ≡ Some body → Named s (length body) e t)
+pub end_named_each : {A : Type 0} (q : Open) (b : List ℕ) (r : Result A Error) (t : State) → q.inner.contents ≡ Some b → Ends q b r t → IfErr r (λ e. (s : State) (shape : Shape) (xs : List Item) (body : List ℕ) → Holds s shape xs q → Complete q.pairs xs → parts_text shape (items_of xs) ≡ Some body → Named s (length body) e t)
 end_named_each q b (Ok a) t contents p = tt
-end_named_each q b (Err e) t contents p = λ s shape xs body h text.
+end_named_each q b (Err e) t contents p = λ s shape xs body h complete text.
     let same : Some b ≡ Some body = sym (run_fits shape xs h.start q.inner b h.empty h.run contents) ∙ text in
     let eq : b ≡ body = cc in
-    subst (λ z. Named s (length z) e t) eq (named_pays s _ _ _ (length b) (Err e) t (end_pays s shape xs q b (Err e) t h contents p))
+    subst (λ z. Named s (length z) e t) eq (named_pays s _ _ _ (length b) (Err e) t (end_pays s shape xs q b (Err e) t h complete contents p))
 
 -- a list about one of its elements
 list_split : {X : Type 0} (xs : List X) (k : ℕ) (v : X) → k < length xs → v ≡ get_or xs k v → take k xs ++ v ∷ drop (k + 1) xs ≡ xs
@@ -254,3 +273,11 @@ holds_all f s shape xs k q h held = subst (λ ys. Holds s shape ys q) (ap (map f
 -- what holds of one value holds of its equal
 pub moved : {X : Type 0} (P : X → Type 0) (x y : X) → y ≡ x → P x → P y
 moved P x y e p = subst P (sym e) p
+
+-- another number of parts than announced
+pub full_not : (s : State) (n : ℕ) (xs : List Item) (q : Open) (full : Bool) → Holds s (Shape.Tuple n) xs q → ((k : ℕ) → q.shape ≡ Shape.Tuple k → full ≡ (q.count == k)) → full ≡ false → length xs ≡ n → ⊥
+full_not s n xs q full h test f len = let both : true ≡ false = sym (test n h.shape_is ∙ eq-eqb q.count n (h.count ∙ len)) ∙ f in cc
+
+-- as many parts as announced
+pub full_all : (s : State) (n : ℕ) (xs : List Item) (q : Open) (full : Bool) → Holds s (Shape.Tuple n) xs q → ((k : ℕ) → q.shape ≡ Shape.Tuple k → full ≡ (q.count == k)) → full ≡ true → length xs ≡ n
+full_all s n xs q full h test f = sym h.count ∙ eqb-true q.count n (sym (test n h.shape_is) ∙ f)

@@ -181,6 +181,8 @@ bodies_fit c (x ∷ xs) b h =
 pub parts_fit : (shape : Shape) (xs : List Item) (b : List ℕ) → parts_text shape (items_of xs) ≡ Some b → length xs ≤ length b
 unfolding parts_text
 parts_fit Shape.List xs b h = list_fit xs b h
+parts_fit (Shape.Tuple n) xs b h = list_fit xs b h
+parts_fit Shape.Map xs b h = list_fit xs b h
 parts_fit Shape.Array [] b h = omega arith
 parts_fit Shape.Array (x ∷ xs) b h =
     let p = array_parts x xs b h in

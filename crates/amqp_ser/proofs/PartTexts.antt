@@ -1,13 +1,14 @@
 -- The texts of parts, one more at a time.
-use Rattle.std.proofs.Common.{◌≡◌, ℕ, List, [], ◌∷◌, ◌++◌, refl, sym, ◌∙◌, ap, subst, Option, Some, None, true, false, Bool, if◌then◌else◌, append_assoc}
+use Rattle.std.proofs.Common.{◌≡◌, ℕ, List, [], ◌∷◌, ◌++◌, suc, length, refl, sym, ◌∙◌, ap, subst, Option, Some, None, true, false, Bool, if◌then◌else◌, append_assoc}
 use Rattle.std.proofs.lemmas.List.{append-nil}
-use Rattle.amqp_base.specs.Item.{Item, items_of}
+use Rattle.amqp_base.specs.Item.{Item, items_of, in_turn, count}
+use Rattle.amqp_base.specs.Shapes.{pairs_of}
 use Rattle.amqp_base.specs.Wire.{Constructor}
-use Rattle.amqp_base.specs.Canon.{◌>>=◌, canon, canons, body, bodies, array_body, kind_code, constructor_text, is_under}
+use Rattle.amqp_base.specs.Canon.{◌>>=◌, canon, canons, pair_canons, body, bodies, array_body, kind_code, constructor_text, is_under}
 use Rattle.amqp_base.specs.declared.shape.Shape.{Shape}
 use Rattle.amqp_ser.specs.State.{first, other}
 use Rattle.amqp_ser.specs.Law.{marked, placed}
-use Rattle.amqp_ser.specs.Compound.{parts_text, next_mark, other_of}
+use Rattle.amqp_ser.specs.Compound.{parts_text, next_mark, other_of, Complete}
 
 pub bind_some : {A B : Type 0} (o : Option A) (f : A → Option B) (y : B) → o >>= f ≡ Some y → (x : A) × (o ≡ Some x) × (f x ≡ Some y)
 bind_some None f y h = cc
@@ -136,12 +137,16 @@ array_none y ys rest x a h k =
 pub parts_more : (shape : Shape) (xs : List Item) (x : Item) (a b : List ℕ) → parts_text shape (items_of xs) ≡ Some a → marked (next_mark shape xs) x ≡ Some b → parts_text shape (items_of (xs ++ x ∷ [])) ≡ Some (a ++ b)
 unfolding parts_text next_mark marked array_body
 parts_more Shape.List xs x a b h k = list_more xs x a b h k
+parts_more (Shape.Tuple n) xs x a b h k = list_more xs x a b h k
+parts_more Shape.Map xs x a b h k = list_more xs x a b h k
 parts_more Shape.Array [] x a b h k = let e : [] ≡ a = cc in rw (sym e) (array_first x b k)
 parts_more Shape.Array (y ∷ ys) x a b h k = array_more y ys x a b h k
 
 pub parts_none : (shape : Shape) (xs rest : List Item) (x : Item) (a : List ℕ) → parts_text shape (items_of xs) ≡ Some a → marked (next_mark shape xs) x ≡ None → parts_text shape (items_of (xs ++ x ∷ rest)) ≡ None
 unfolding parts_text next_mark marked array_body
 parts_none Shape.List xs rest x a h k = list_none xs rest x k
+parts_none (Shape.Tuple n) xs rest x a h k = list_none xs rest x k
+parts_none Shape.Map xs rest x a h k = list_none xs rest x k
 parts_none Shape.Array [] rest x a h k = first_refused (kind_code x) (body x) (λ c. bodies c (items_of rest)) k
 parts_none Shape.Array (y ∷ ys) rest x a h k = array_none y ys rest x a h k
 
@@ -150,3 +155,23 @@ pub mark_behind : (shape : Shape) (xs : List Item) (x y : Item) → next_mark sh
 unfolding next_mark
 mark_behind Shape.List xs x y = refl
 mark_behind Shape.Array xs x y = refl
+mark_behind (Shape.Tuple n) xs x y = refl
+mark_behind Shape.Map xs x y = refl
+
+-- keys and values in turn have the texts of the pairs
+pairs_grouped : (k v r : Option (List ℕ)) → (k >>= λ a. v >>= λ b. r >>= λ t. Some (a ++ (b ++ t))) ≡ (k >>= λ a. (v >>= λ b. r >>= λ t. Some (b ++ t)) >>= λ u. Some (a ++ u))
+pairs_grouped None v r = refl
+pairs_grouped (Some a) None r = refl
+pairs_grouped (Some a) (Some b) None = refl
+pairs_grouped (Some a) (Some b) (Some t) = refl
+
+pub pairs_text : (xs : List Item) → Complete true xs → pair_canons (pairs_of xs) ≡ canons (items_of xs)
+unfolding canons pair_canons
+pairs_text [] c = refl
+pairs_text (k ∷ []) c = absurd c
+pairs_text (k ∷ v ∷ xs) c = rw (pairs_text xs c) (pairs_grouped (canon k) (canon v) (canons (items_of xs)))
+
+pub pairs_count : (xs : List Item) → Complete true xs → count (in_turn (pairs_of xs)) ≡ length xs
+pairs_count [] c = refl
+pairs_count (k ∷ []) c = absurd c
+pairs_count (k ∷ v ∷ xs) c = ap (λ n. suc (suc n)) (pairs_count xs c)

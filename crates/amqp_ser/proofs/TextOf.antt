@@ -142,6 +142,8 @@ one_byte n h = ap (λ x. x ∷ []) (omega (arith, h))
 pub whole_none : (shape : Shape) (m : Mark) (k : ℕ) (b : List ℕ) → 4294967291 < length b → whole_text shape m k b ≡ None
 unfolding whole_text
 whole_none Shape.List unmarked k b h = rw (ne_eqb (length b) 0 (λ e. omega (arith, e, h)), lt-leb (length b) 254 (omega (arith, h)), lt-leb (length b) 4294967291 h) refl
+whole_none (Shape.Tuple n) unmarked k b h = rw (ne_eqb (length b) 0 (λ e. omega (arith, e, h)), lt-leb (length b) 254 (omega (arith, h)), lt-leb (length b) 4294967291 h) refl
+whole_none Shape.Map unmarked k b h = rw (lt-leb (length b) 254 (omega (arith, h)), lt-leb (length b) 4294967291 h) refl
 whole_none Shape.Array unmarked k b h = rw (lt-leb (length b) 254 (omega (arith, h)), lt-leb (length b) 4294967291 h) refl
 whole_none shape first k b h = rw (lt-leb (length b) 4294967291 h) refl
 whole_none shape (other d) k b h = rw (lt-leb (length b) 4294967291 h) (if_none (is_under d (Some (under (shape_code shape)))))

@@ -6,7 +6,7 @@ use Rattle.std.specs.Global.{Global}
 use Rattle.amqp_base.specs.declared.fault.FaultCount as FaultCount
 use Rattle.amqp_base.specs.declared.error.Error.{Error}
 use Rattle.amqp_base.specs.declared.format_code.EncodingCodes.{EncodingCodes}
-use Rattle.amqp_base.specs.declared.format_code.EncodingCodes.TheVariants.{List32, Array32}
+use Rattle.amqp_base.specs.declared.format_code.EncodingCodes.TheVariants.{List32, Map32, Array32}
 use Rattle.amqp_base.specs.declared.error.Error.TheVariants.{InvalidValue}
 use Rattle.amqp_base.specs.declared.shape.Setting.TheVariants.{Plain}
 use Rattle.amqp_base.specs.Item.{Item, Items, items_of}
@@ -19,11 +19,14 @@ use Rattle.amqp_ser.specs.State.{State, Mark, unmarked, first, other, state, mar
 use Rattle.amqp_ser.specs.Law.{Goes, placed, Refused, Kept, Stops}
 use Rattle.amqp_ser.specs.declared.compound.Parts.{Parts}
 use Rattle.amqp_ser.specs.declared.seq.SeqSerializer.{SeqSerializer}
+use Rattle.amqp_ser.specs.declared.tuple.TupleSerializer.{TupleSerializer}
 use Rattle.amqp_ser.specs.declared.serializer.Serializer.{Serializer}
 use Rattle.amqp_base.specs.declared.shape.Shape.{Shape}
 
 -- a compound: its serializer, what its parts are written to, how many there are
 pub record Open : Type 0 where
+  -- its parts are keys and values in turn
+  pub pairs : Bool
   pub shape : Shape
   pub outer : State
   pub inner : State
@@ -33,6 +36,8 @@ pub record Open : Type 0 where
 unfoldable pub parts_text : Shape → Items → Option (List ℕ)
 parts_text Shape.List is = canons is
 parts_text Shape.Array is = array_body is
+parts_text (Shape.Tuple n) is = canons is
+parts_text Shape.Map is = canons is
 
 abbrev pub other_of : Option Constructor → Mark
 other_of None = first
@@ -41,15 +46,21 @@ other_of (Some c) = other c
 abbrev pub shape_code : Shape → EncodingCodes
 shape_code Shape.List = List32
 shape_code Shape.Array = Array32
+shape_code (Shape.Tuple n) = List32
+shape_code Shape.Map = Map32
 
 abbrev pub narrow_of : Shape → ℕ
 narrow_of Shape.List = 0xc0
 narrow_of Shape.Array = 0xe0
+narrow_of (Shape.Tuple n) = 0xc0
+narrow_of Shape.Map = 0xc1
 
 -- it is written as one byte
 abbrev pub empty_list : Shape → ℕ → Bool
 empty_list Shape.List n = n == 0
 empty_list Shape.Array n = false
+empty_list (Shape.Tuple k) n = n == 0
+empty_list Shape.Map n = false
 
 -- the text of a compound outside arrays, by what is written of its parts
 abbrev pub shape_text : Shape → ℕ → List ℕ → Option (List ℕ)
@@ -65,6 +76,8 @@ unfoldable pub next_mark : Shape → List Item → Mark
 next_mark Shape.List xs = unmarked
 next_mark Shape.Array [] = first
 next_mark Shape.Array (x ∷ xs) = other_of (kind_code x)
+next_mark (Shape.Tuple n) xs = unmarked
+next_mark Shape.Map xs = unmarked
 
 -- the mark behind a first element
 abbrev pub turned : Mark → Option Constructor → Mark
@@ -84,8 +97,28 @@ pub record Run (shape : Shape) (u : State) (xs : List Item) (v : State) : Type 0
 abbrev pub the_buffer : Serializer (Vec ℕ Global) → State
 the_buffer b = record { contents = Some b.writer.items; faults = 0; grows = true; setting = b.setting; mark = mark_of b.mark; found = found_of b.found; plan = None; measure = None; stopped = b.stopped }
 
+-- parts on a serializer
+abbrev pub open_parts : Bool → State → Parts → Open
+open_parts pairs outer p = record { pairs = pairs; shape = p.shape; outer = outer; inner = the_buffer p.buffer; count = p.count }
+
 unfoldable pub open_state : {W : Type 0} → Write.Ghosts W → FaultCount.Ghosts W → SeqSerializer W Parts → Open
-open_state w f q = record { shape = q.parts.shape; outer = state w f q.ser.now; inner = the_buffer q.parts.buffer; count = q.parts.count }
+open_state w f q = open_parts false (state w f q.ser.now) q.parts
+
+unfoldable pub tuple_state : {W : Type 0} → Write.Ghosts W → FaultCount.Ghosts W → TupleSerializer W Parts → Open
+tuple_state w f q = open_parts false (state w f q.ser.now) q.parts
+
+abbrev pub is_map : Shape → Bool
+is_map Shape.List = false
+is_map Shape.Array = false
+is_map (Shape.Tuple n) = false
+is_map Shape.Map = true
+
+-- no key is without its value, where the parts are keys and values in turn
+abbrev pub Complete : Bool → List Item → Type 0
+Complete false xs = Unit {0}
+Complete true [] = Unit {0}
+Complete true (k ∷ []) = ⊥
+Complete true (k ∷ v ∷ xs) = Complete true xs
 
 -- what a buffer is at first
 pub record Empty (u : State) : Type 0 where
@@ -95,6 +128,7 @@ pub record Empty (u : State) : Type 0 where
 
 -- the compound was opened on a serializer in the state s, and has the parts xs
 pub record Holds (s : State) (shape : Shape) (xs : List Item) (q : Open) : Type 0 where
+  pub pairs : q.pairs ≡ is_map shape
   pub shape_is : q.shape ≡ shape
   pub start : State
   pub empty : Empty start

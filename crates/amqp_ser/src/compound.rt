@@ -1,14 +1,16 @@
 //! What is common to all compounds: their parts so far, and their header.
 
-ghost use Rattle.std.specs.Prelude.{◌≡◌, ◌<◌, ◌≤◌, length, [], true, IfOk, IfErr, OnErr, Some};
+ghost use Rattle.std.specs.Prelude.{◌≡◌, ◌==◌, ◌<◌, ◌≤◌, ◌++◌, ◌∷◌, ℕ, Bool, List, length, [], true, IfOk, IfErr, OnOk, OnErr, Err, Some};
+ghost use Rattle.amqp_base.specs.Item.{Item, items_of};
+ghost use Rattle.amqp_base.specs.Shapes.{whole};
 ghost use Rattle.amqp_base.specs.Wire.{under};
-ghost use Rattle.amqp_ser.specs.State.{state, mark_of, answering};
-ghost use Rattle.amqp_ser.specs.Law.{Kept, IsDevice, unwritten, found_after};
-ghost use Rattle.amqp_ser.specs.Appending.{Pays};
-ghost use Rattle.amqp_ser.specs.Compound.{the_buffer, Empty, Run, whole_text, shape_code, narrow_of, empty_list, next_mark};
+ghost use Rattle.amqp_ser.specs.State.{State, state, mark_of, answering};
+ghost use Rattle.amqp_ser.specs.Law.{Wrote, Refused, Kept, Named, IsDevice, unwritten, found_after};
+ghost use Rattle.amqp_ser.specs.Appending.{Pays, as_error};
+ghost use Rattle.amqp_ser.specs.Compound.{the_buffer, open_parts, is_map, Empty, Run, Holds, Complete, RefusesOpen, BeginsWith, BreaksOff, parts_text, whole_text, shape_code, narrow_of, empty_list, next_mark};
 
-use crate::Serializer;
-use crate::serializer::{LONGEST, Mark, NARROW};
+use crate::serializer::{LONGEST, Mark, NARROW, Refusal, refused};
+use crate::{Serialize, Serializer};
 use amqp_base::{EncodingCodes, Error, Setting, Shape, Sink};
 use std::alloc::{AllocError, Global};
 use std::io::ErrorKind;
@@ -27,13 +29,17 @@ pub struct Parts {
 
 impl Parts {
     /// No parts yet, with room for a few bytes.
+    #[inline(always)]
     pub(crate) fn new(alloc: Global, shape: Shape) -> Result<Parts, AllocError>
         ensures shape { IfOk result (λ p. p.shape ≡ shape) }
         ensures empty { IfOk result (λ p. Empty (the_buffer p.buffer)) }
         ensures run { IfOk result (λ p. Run shape (the_buffer p.buffer) [] (the_buffer p.buffer)) }
         ensures count { IfOk result (λ p. p.count ≡ 0) }
     {
-        let writer = Vec::with_capacity(alloc, FIRST_CAPACITY)?;
+        let writer = match Vec::with_capacity(alloc, FIRST_CAPACITY) {
+            Ok(writer) => writer,
+            Err(e) => return Err(e),
+        };
         let buffer = Serializer {
             writer,
             setting: Setting::Plain,
@@ -47,6 +53,38 @@ impl Parts {
             count: 0,
         })
     }
+
+    /// Whether there are as many parts as were announced.
+    #[inline(always)]
+    pub(crate) fn is_full(&self) -> bool
+        ensures { (n : ℕ) → self.now.shape ≡ Shape.Tuple n → result ≡ (self.now.count == n) }
+    {
+        match self.shape {
+            Shape::Tuple(len) => self.count == len,
+            _ => true,
+        }
+    }
+
+    /// Writes one more part. It is refused as the part's own `serialize`; then all that follows is `InvalidValue`.
+    #[inline(always)]
+    pub(crate) fn write<T: Serialize>(&mut self, alloc: Global, value: &T) -> Result<(), Error>
+        ensures ok { (pairs : Bool) (outer : State) → OnOk result ((s : State) (shape : Shape) (xs : List Item) → Holds s shape xs (open_parts pairs outer self.old) →
+            Holds s shape (xs ++ T.item value.now Setting.Plain ∷ []) (open_parts pairs outer self.new)) }
+        ensures err { (pairs : Bool) (outer : State) → IfErr result (λ e. (s : State) (shape : Shape) (xs all : List Item) → Holds s shape xs (open_parts pairs outer self.old) →
+            BeginsWith all (xs ++ T.item value.now Setting.Plain ∷ []) → Complete pairs all → Refused s (whole shape all) e outer) }
+        ensures stops { (pairs : Bool) (outer : State) → BreaksOff (open_parts pairs outer self.old) result (open_parts pairs outer self.new) }
+    {
+        if self.buffer.stopped {
+            return Err(Error::InvalidValue);
+        }
+        if let Err(e) = value.serialize(alloc, &mut self.buffer) {
+            self.buffer.stopped = true;
+            return Err(e);
+        }
+        self.count = self.count.saturating_add(1);
+        self.buffer.turn();
+        Ok(())
+    }
 }
 
 /// The mark of the first part.
@@ -57,6 +95,8 @@ fn first_mark(shape: Shape) -> Mark
     match shape {
         Shape::List => Mark::Unmarked,
         Shape::Array => Mark::First,
+        Shape::Tuple(_) => Mark::Unmarked,
+        Shape::Map => Mark::Unmarked,
     }
 }
 
@@ -67,6 +107,8 @@ fn wide_code(shape: Shape) -> EncodingCodes
     match shape {
         Shape::List => EncodingCodes::List32,
         Shape::Array => EncodingCodes::Array32,
+        Shape::Tuple(_) => EncodingCodes::List32,
+        Shape::Map => EncodingCodes::Map32,
     }
 }
 
@@ -77,6 +119,8 @@ fn narrow_byte(shape: Shape) -> u8
     match shape {
         Shape::List => 0xc0,
         Shape::Array => 0xe0,
+        Shape::Tuple(_) => 0xc0,
+        Shape::Map => 0xc1,
     }
 }
 
@@ -87,24 +131,75 @@ fn is_empty_list(shape: Shape, len: usize) -> bool
     match shape {
         Shape::List => len == 0,
         Shape::Array => false,
+        Shape::Tuple(_) => len == 0,
+        Shape::Map => false,
     }
 }
 
 impl<W: Sink> Serializer<W> {
+    /// Opens a compound, that holds its serializer from then on.
+    ///
+    /// `OutOfMemory`: there is no memory for its buffer.
+    pub(crate) fn begin(&mut self, alloc: Global, shape: Shape) -> Result<Parts, Error>
+        ensures ok { IfOk result (λ p. Holds (state W.Write W.FaultCount self.old) shape [] (open_parts (is_map shape) (state W.Write W.FaultCount self.new) p)) }
+        ensures held { OnOk result ((state W.Write W.FaultCount self.new).stopped ≡ true) }
+        ensures err { RefusesOpen shape (state W.Write W.FaultCount self.old) result (state W.Write W.FaultCount self.new) }
+    {
+        if self.stopped {
+            return Err(Error::InvalidValue);
+        }
+        self.stopped = true;
+        match Parts::new(alloc, shape) {
+            Ok(parts) => Ok(parts),
+            Err(_) => Err(Error::OutOfMemory),
+        }
+    }
+
+    /// Writes the whole that has these parts, on a serializer that their compound holds. It answers again where that
+    /// succeeds.
+    ///
+    /// `Io(Other)`: the parts have more than 4,294,967,291 bytes. `InvalidValue`: a part was refused, or the array that the
+    /// whole is to stand in has elements under another constructor.
+    pub(crate) fn close(&mut self, parts: Parts) -> Result<(), Error>
+        ensures ok { (pairs : Bool) → OnOk result ((s : State) (shape : Shape) (xs : List Item) → Holds s shape xs (open_parts pairs (state W.Write W.FaultCount self.old) parts) →
+            Complete pairs xs → Wrote s (whole shape xs) (state W.Write W.FaultCount self.new)) }
+        ensures err { (pairs : Bool) → IfErr result (λ e. (s : State) (shape : Shape) (xs : List Item) → Holds s shape xs (open_parts pairs (state W.Write W.FaultCount self.old) parts) →
+            Complete pairs xs → Refused s (whole shape xs) e (state W.Write W.FaultCount self.new)) }
+        ensures named { (pairs : Bool) → IfErr result (λ e. (s : State) (shape : Shape) (xs : List Item) (b : List ℕ) → Holds s shape xs (open_parts pairs (state W.Write W.FaultCount self.old) parts) →
+            Complete pairs xs → parts_text shape (items_of xs) ≡ Some b → Named s (length b) e (state W.Write W.FaultCount self.new)) }
+        ensures kept { Kept (state W.Write W.FaultCount self.old) (state W.Write W.FaultCount self.new) }
+        ensures stopped { OnErr result ((state W.Write W.FaultCount self.old).stopped ≡ true → (state W.Write W.FaultCount self.new).stopped ≡ true) }
+        ensures broken { parts.buffer.stopped ≡ true → result ≡ Err Error.InvalidValue }
+    {
+        let Parts {
+            shape,
+            buffer,
+            count,
+        } = parts;
+        if buffer.stopped {
+            return Err(Error::InvalidValue);
+        }
+        let body = buffer.into_inner();
+        if let Err(e) = self.finish(shape, count, &body) {
+            return Err(refused(e));
+        }
+        Ok(())
+    }
+
     /// Writes a compound of so many parts with this body, on a serializer that the compound holds. It answers again
     /// where that succeeds. A body of more than 4,294,967,291 bytes is `Io(Other)`.
-    pub(crate) fn finish(&mut self, shape: Shape, count: usize, body: &[u8]) -> Result<(), Error>
+    pub(crate) fn finish(&mut self, shape: Shape, count: usize, body: &[u8]) -> Result<(), Refusal>
         ensures law { count ≤ length body.now → Pays (answering (state W.Write W.FaultCount self.old)) (whole_text shape (state W.Write W.FaultCount self.old).mark count body.now)
-            (found_after (state W.Write W.FaultCount self.old).mark (Some (under (shape_code shape))) (state W.Write W.FaultCount self.old).found) [] (unwritten (length body.now)) result (state W.Write W.FaultCount self.new) }
+            (found_after (state W.Write W.FaultCount self.old).mark (Some (under (shape_code shape))) (state W.Write W.FaultCount self.old).found) [] (unwritten (length body.now)) (as_error result) (state W.Write W.FaultCount self.new) }
         ensures kept { Kept (state W.Write W.FaultCount self.old) (state W.Write W.FaultCount self.new) }
-        ensures device { IfErr result (λ e. IsDevice e → W.faults self.old.writer < W.faults self.new.writer) }
+        ensures device { IfErr (as_error result) (λ e. IsDevice e → W.faults self.old.writer < W.faults self.new.writer) }
         ensures err { OnErr result (self.new.stopped ≡ true) }
     {
         self.stopped = false;
         let len = body.len();
         if len > LONGEST {
             self.stopped = true;
-            return Err(Error::Io(ErrorKind::Other));
+            return Err(Refusal::Io(ErrorKind::Other));
         }
         let size = ((len + 4) as u32).to_be_bytes();
         let n = ((count % 0x1_0000_0000) as u32).to_be_bytes();

@@ -6,6 +6,7 @@ ghost use Rattle.amqp_ser.specs.State.{state};
 ghost use Rattle.amqp_ser.specs.Law.{Wrote, Refused, Stops, Spares, Named};
 
 use crate::Serializer;
+use crate::serializer::refused;
 use amqp_base::{EncodingCodes, Error, Sink};
 use amqp_types::{Dec32, Dec64, Dec128, Double, Float};
 use std::alloc::Global;
@@ -28,7 +29,7 @@ impl<W: Sink> Serializer<W> {
             return Err(Error::InvalidValue);
         }
         if let Err(e) = self.four_bytes(EncodingCodes::Float, v.to_bits().to_be_bytes()) {
-            return Err(e);
+            return Err(refused(e));
         }
         Ok(())
     }
@@ -50,7 +51,7 @@ impl<W: Sink> Serializer<W> {
             return Err(Error::InvalidValue);
         }
         if let Err(e) = self.eight_bytes(EncodingCodes::Double, v.to_bits().to_be_bytes()) {
-            return Err(e);
+            return Err(refused(e));
         }
         Ok(())
     }
@@ -71,7 +72,7 @@ impl<W: Sink> Serializer<W> {
             return Err(Error::InvalidValue);
         }
         if let Err(e) = self.four_bytes(EncodingCodes::Decimal32, *v.as_inner()) {
-            return Err(e);
+            return Err(refused(e));
         }
         Ok(())
     }
@@ -93,7 +94,7 @@ impl<W: Sink> Serializer<W> {
             return Err(Error::InvalidValue);
         }
         if let Err(e) = self.eight_bytes(EncodingCodes::Decimal64, *v.as_inner()) {
-            return Err(e);
+            return Err(refused(e));
         }
         Ok(())
     }
@@ -115,7 +116,7 @@ impl<W: Sink> Serializer<W> {
             return Err(Error::InvalidValue);
         }
         if let Err(e) = self.sixteen_bytes(EncodingCodes::Decimal128, *v.as_inner()) {
-            return Err(e);
+            return Err(refused(e));
         }
         Ok(())
     }

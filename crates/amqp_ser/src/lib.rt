@@ -1,5 +1,5 @@
 //! Writing values in the AMQP 1.0 encoding (OASIS AMQP 1.0 part 1, sections 1.2 to 1.6).
-#![tactic(auto, unfolding(crate::specs::State::state, crate::specs::Compound::open_state))]
+#![tactic(auto, unfolding(crate::specs::State::state, crate::specs::Compound::open_state, crate::specs::Compound::tuple_state))]
 
 mod compound;
 mod fixed;
@@ -13,8 +13,10 @@ mod serializer;
 mod signed;
 #[cfg(test)]
 mod tests;
+mod tuple;
 
 pub use compound::Parts;
 pub use seq::SeqSerializer;
 pub use serialize::Serialize;
 pub use serializer::Serializer;
+pub use tuple::TupleSerializer;

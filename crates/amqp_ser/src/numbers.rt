@@ -5,10 +5,10 @@ ghost use Rattle.amqp_base.specs.Item.{scalar, ubyte, ushort, uint, ulong};
 ghost use Rattle.amqp_base.specs.Canon.{kind_code};
 ghost use Rattle.amqp_ser.specs.State.{state};
 ghost use Rattle.amqp_ser.specs.Law.{Wrote, Refused, Stops, Spares, Named, marked, found_after};
-ghost use Rattle.amqp_ser.specs.Appending.{Pays};
+ghost use Rattle.amqp_ser.specs.Appending.{Pays, as_error};
 
 use crate::Serializer;
-use crate::serializer::Mark;
+use crate::serializer::{Mark, Refusal, refused};
 use amqp_base::{EncodingCodes, Error, Sink};
 use std::alloc::Global;
 
@@ -29,7 +29,7 @@ impl<W: Sink> Serializer<W> {
             return Err(Error::InvalidValue);
         }
         if let Err(e) = self.one_byte(EncodingCodes::Ubyte, v) {
-            return Err(e);
+            return Err(refused(e));
         }
         Ok(())
     }
@@ -51,7 +51,7 @@ impl<W: Sink> Serializer<W> {
             return Err(Error::InvalidValue);
         }
         if let Err(e) = self.two_bytes(EncodingCodes::Ushort, v.to_be_bytes()) {
-            return Err(e);
+            return Err(refused(e));
         }
         Ok(())
     }
@@ -73,16 +73,16 @@ impl<W: Sink> Serializer<W> {
             return Err(Error::InvalidValue);
         }
         if let Err(e) = self.uint(v) {
-            return Err(e);
+            return Err(refused(e));
         }
         Ok(())
     }
 
     /// The text of a uint where it stands.
     #[inline(always)]
-    fn uint(&mut self, v: u32) -> Result<(), Error>
+    fn uint(&mut self, v: u32) -> Result<(), Refusal>
         requires { self.old.stopped ≡ false }
-        ensures law { Pays (state W.Write W.FaultCount self.old) (marked (state W.Write W.FaultCount self.old).mark (scalar (uint v))) (found_after (state W.Write W.FaultCount self.old).mark (kind_code (scalar (uint v))) (state W.Write W.FaultCount self.old).found) ([]) Error.InvalidValue result (state W.Write W.FaultCount self.new) }
+        ensures law { Pays (state W.Write W.FaultCount self.old) (marked (state W.Write W.FaultCount self.old).mark (scalar (uint v))) (found_after (state W.Write W.FaultCount self.old).mark (kind_code (scalar (uint v))) (state W.Write W.FaultCount self.old).found) ([]) Error.InvalidValue (as_error result) (state W.Write W.FaultCount self.new) }
     {
         let mark = self.mark;
         match mark {
@@ -109,16 +109,16 @@ impl<W: Sink> Serializer<W> {
             return Err(Error::InvalidValue);
         }
         if let Err(e) = self.ulong(v) {
-            return Err(e);
+            return Err(refused(e));
         }
         Ok(())
     }
 
     /// The text of a ulong where it stands.
     #[inline(always)]
-    fn ulong(&mut self, v: u64) -> Result<(), Error>
+    fn ulong(&mut self, v: u64) -> Result<(), Refusal>
         requires { self.old.stopped ≡ false }
-        ensures law { Pays (state W.Write W.FaultCount self.old) (marked (state W.Write W.FaultCount self.old).mark (scalar (ulong v))) (found_after (state W.Write W.FaultCount self.old).mark (kind_code (scalar (ulong v))) (state W.Write W.FaultCount self.old).found) ([]) Error.InvalidValue result (state W.Write W.FaultCount self.new) }
+        ensures law { Pays (state W.Write W.FaultCount self.old) (marked (state W.Write W.FaultCount self.old).mark (scalar (ulong v))) (found_after (state W.Write W.FaultCount self.old).mark (kind_code (scalar (ulong v))) (state W.Write W.FaultCount self.old).found) ([]) Error.InvalidValue (as_error result) (state W.Write W.FaultCount self.new) }
     {
         let mark = self.mark;
         match mark {

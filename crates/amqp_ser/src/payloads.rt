@@ -6,26 +6,38 @@ ghost use Rattle.amqp_base.specs.Wire.{under};
 ghost use Rattle.amqp_base.specs.Typing.{text_item};
 ghost use Rattle.amqp_ser.specs.State.{state};
 ghost use Rattle.amqp_ser.specs.Law.{Wrote, Refused, Stops, Spares, Named, unwritten, found_after};
-ghost use Rattle.amqp_ser.specs.Appending.{Pays, payload_at};
+ghost use Rattle.amqp_ser.specs.Appending.{Pays, payload_at, as_error};
 
 use crate::Serializer;
-use crate::serializer::{LONGEST, Mark, NARROW};
+use crate::serializer::{LONGEST, Mark, NARROW, Refusal, refused};
 use amqp_base::{EncodingCodes, Error, Setting, Sink};
 use std::alloc::Global;
 use std::io::ErrorKind;
 
 impl<W: Sink> Serializer<W> {
-    /// The bytes of a text, behind a code and their length: `narrow` is the byte of the code with one byte of length,
-    /// `code` the code with four.
+    /// Writes bytes behind a code and their length: `narrow` is the byte of the code with one byte of length, `code` the
+    /// code with four.
     #[inline(always)]
     fn payload(&mut self, narrow: u8, code: EncodingCodes, bytes: &[u8]) -> Result<(), Error>
         requires { self.old.stopped ≡ false }
         ensures law { Pays (state W.Write W.FaultCount self.old) (payload_at (state W.Write W.FaultCount self.old).mark narrow code bytes.now) (found_after (state W.Write W.FaultCount self.old).mark (Some (under code)) (state W.Write W.FaultCount self.old).found) ([]) (unwritten (length bytes.now)) result (state W.Write W.FaultCount self.new) }
     {
+        if let Err(e) = self.payload_text(narrow, code, bytes) {
+            return Err(refused(e));
+        }
+        Ok(())
+    }
+
+    /// The text of a payload where it stands.
+    #[inline(always)]
+    fn payload_text(&mut self, narrow: u8, code: EncodingCodes, bytes: &[u8]) -> Result<(), Refusal>
+        requires { self.old.stopped ≡ false }
+        ensures law { Pays (state W.Write W.FaultCount self.old) (payload_at (state W.Write W.FaultCount self.old).mark narrow code bytes.now) (found_after (state W.Write W.FaultCount self.old).mark (Some (under code)) (state W.Write W.FaultCount self.old).found) ([]) (unwritten (length bytes.now)) (as_error result) (state W.Write W.FaultCount self.new) }
+    {
         let len = bytes.len();
         if len > LONGEST {
             self.stopped = true;
-            return Err(Error::Io(ErrorKind::Other));
+            return Err(Refusal::Io(ErrorKind::Other));
         }
         let size = (len as u32).to_be_bytes();
         let mark = self.mark;

@@ -5,10 +5,10 @@ ghost use Rattle.amqp_base.specs.Item.{scalar, null, boolean, char, timestamp, u
 ghost use Rattle.amqp_base.specs.Canon.{kind_code};
 ghost use Rattle.amqp_ser.specs.State.{state};
 ghost use Rattle.amqp_ser.specs.Law.{Wrote, Refused, Stops, Spares, Named, marked, found_after};
-ghost use Rattle.amqp_ser.specs.Appending.{Pays};
+ghost use Rattle.amqp_ser.specs.Appending.{Pays, as_error};
 
 use crate::Serializer;
-use crate::serializer::Mark;
+use crate::serializer::{Mark, Refusal, refused};
 use amqp_base::{EncodingCodes, Error, Sink};
 use amqp_types::Uuid;
 use std::alloc::Global;
@@ -30,23 +30,23 @@ impl<W: Sink> Serializer<W> {
             return Err(Error::InvalidValue);
         }
         if let Err(e) = self.null() {
-            return Err(e);
+            return Err(refused(e));
         }
         Ok(())
     }
 
     /// Null where it stands.
     #[inline(always)]
-    fn null(&mut self) -> Result<(), Error>
+    fn null(&mut self) -> Result<(), Refusal>
         requires { self.old.stopped ≡ false }
-        ensures law { Pays (state W.Write W.FaultCount self.old) (marked (state W.Write W.FaultCount self.old).mark (scalar null)) (found_after (state W.Write W.FaultCount self.old).mark (kind_code (scalar null)) (state W.Write W.FaultCount self.old).found) ([]) Error.InvalidValue result (state W.Write W.FaultCount self.new) }
+        ensures law { Pays (state W.Write W.FaultCount self.old) (marked (state W.Write W.FaultCount self.old).mark (scalar null)) (found_after (state W.Write W.FaultCount self.old).mark (kind_code (scalar null)) (state W.Write W.FaultCount self.old).found) ([]) Error.InvalidValue (as_error result) (state W.Write W.FaultCount self.new) }
     {
         let mark = self.mark;
         match mark {
             Mark::Unmarked => self.append(&[0x40]),
             _ => {
                 self.stopped = true;
-                Err(Error::InvalidValue)
+                Err(Refusal::InvalidValue)
             }
         }
     }
@@ -83,16 +83,16 @@ impl<W: Sink> Serializer<W> {
             return Err(Error::InvalidValue);
         }
         if let Err(e) = self.boolean(v) {
-            return Err(e);
+            return Err(refused(e));
         }
         Ok(())
     }
 
     /// The text of a boolean where it stands.
     #[inline(always)]
-    fn boolean(&mut self, v: bool) -> Result<(), Error>
+    fn boolean(&mut self, v: bool) -> Result<(), Refusal>
         requires { self.old.stopped ≡ false }
-        ensures law { Pays (state W.Write W.FaultCount self.old) (marked (state W.Write W.FaultCount self.old).mark (scalar (boolean v))) (found_after (state W.Write W.FaultCount self.old).mark (kind_code (scalar (boolean v))) (state W.Write W.FaultCount self.old).found) ([]) Error.InvalidValue result (state W.Write W.FaultCount self.new) }
+        ensures law { Pays (state W.Write W.FaultCount self.old) (marked (state W.Write W.FaultCount self.old).mark (scalar (boolean v))) (found_after (state W.Write W.FaultCount self.old).mark (kind_code (scalar (boolean v))) (state W.Write W.FaultCount self.old).found) ([]) Error.InvalidValue (as_error result) (state W.Write W.FaultCount self.new) }
     {
         let mark = self.mark;
         match mark {
@@ -119,7 +119,7 @@ impl<W: Sink> Serializer<W> {
             return Err(Error::InvalidValue);
         }
         if let Err(e) = self.four_bytes(EncodingCodes::Char, u32::from(v).to_be_bytes()) {
-            return Err(e);
+            return Err(refused(e));
         }
         Ok(())
     }
@@ -141,7 +141,7 @@ impl<W: Sink> Serializer<W> {
             return Err(Error::InvalidValue);
         }
         if let Err(e) = self.eight_bytes(EncodingCodes::Timestamp, v.to_be_bytes()) {
-            return Err(e);
+            return Err(refused(e));
         }
         Ok(())
     }
@@ -162,7 +162,7 @@ impl<W: Sink> Serializer<W> {
             return Err(Error::InvalidValue);
         }
         if let Err(e) = self.sixteen_bytes(EncodingCodes::Uuid, *v.as_inner()) {
-            return Err(e);
+            return Err(refused(e));
         }
         Ok(())
     }

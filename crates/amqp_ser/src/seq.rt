@@ -44,13 +44,9 @@ impl<W: Sink> Serializer<W> {
         ensures opened { IfOk result (λ q. Holds (state W.Write W.FaultCount self.old) Shape.List [] (open_state W.Write W.FaultCount q)) }
     {
         let _ = len;
-        if self.stopped {
-            return Err(Error::InvalidValue);
-        }
-        self.stopped = true;
-        match Parts::new(alloc, Shape::List) {
+        match self.begin(alloc, Shape::List) {
             Ok(parts) => Ok(SeqSerializer { ser: self, parts }),
-            Err(_) => Err(Error::OutOfMemory),
+            Err(e) => Err(e),
         }
     }
 
@@ -69,13 +65,9 @@ impl<W: Sink> Serializer<W> {
         ensures opened { IfOk result (λ q. Holds (state W.Write W.FaultCount self.old) Shape.Array [] (open_state W.Write W.FaultCount q)) }
     {
         let _ = len;
-        if self.stopped {
-            return Err(Error::InvalidValue);
-        }
-        self.stopped = true;
-        match Parts::new(alloc, Shape::Array) {
+        match self.begin(alloc, Shape::Array) {
             Ok(parts) => Ok(SeqSerializer { ser: self, parts }),
-            Err(_) => Err(Error::OutOfMemory),
+            Err(e) => Err(e),
         }
     }
 }
@@ -94,16 +86,7 @@ impl<'a, W: Sink> SeqSerializer<'a, W> {
         ensures kept { Keeps (open_state W.Write W.FaultCount self.old) (open_state W.Write W.FaultCount self.new) }
         ensures stops { BreaksOff (open_state W.Write W.FaultCount self.old) result (open_state W.Write W.FaultCount self.new) }
     {
-        if self.parts.buffer.stopped {
-            return Err(Error::InvalidValue);
-        }
-        if let Err(e) = value.serialize(alloc, &mut self.parts.buffer) {
-            self.parts.buffer.stopped = true;
-            return Err(e);
-        }
-        self.parts.count = self.parts.count.saturating_add(1);
-        self.parts.buffer.turn();
-        Ok(())
+        self.parts.write(alloc, value)
     }
 
     /// Writes the whole: its code, size and count, and the elements (a list without elements is the byte 45). Only then
@@ -123,15 +106,6 @@ impl<'a, W: Sink> SeqSerializer<'a, W> {
         ensures broken { IsBroken (open_state W.Write W.FaultCount self.entry) → result ≡ Err Error.InvalidValue }
     {
         let SeqSerializer { ser, parts } = self;
-        let Parts {
-            shape,
-            buffer,
-            count,
-        } = parts;
-        if buffer.stopped {
-            return Err(Error::InvalidValue);
-        }
-        let body = buffer.into_inner();
-        ser.finish(shape, count, &body)
+        ser.close(parts)
     }
 }

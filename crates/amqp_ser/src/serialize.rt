@@ -184,6 +184,17 @@ impl Serialize for BinaryRef<'_> {
     }
 }
 
+/// Null where there is no value, else the value itself.
+impl<T: Serialize> Serialize for Option<T> {
+    #[inline(always)]
+    fn serialize<W: Sink>(&self, alloc: Global, ser: &mut Serializer<W>) -> Result<(), Error> {
+        match self {
+            None => ser.serialize_none(alloc),
+            Some(value) => ser.serialize_some(alloc, value),
+        }
+    }
+}
+
 impl<T: Serialize> Serialize for Vec<T> {
     #[tactic(auto, using(crate::proofs::Compounds::begins_map, crate::proofs::Compounds::holds_all), unfolding(crate::specs::State::state, crate::specs::Compound::open_state))]
     fn serialize<W: Sink>(&self, alloc: Global, ser: &mut Serializer<W>) -> Result<(), Error> {

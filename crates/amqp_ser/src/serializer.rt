@@ -1,15 +1,17 @@
 //! The serializer: its state, and the bytes that it appends.
 
 ghost use Rattle.std.specs.Prelude.{◌≡◌, ◌≢◌, ◌++◌, ◌∷◌, [], true, false, IfErr, OnOk, OnErr, Some};
+ghost use Rattle.amqp_base.specs.Item.{scalar, null};
 ghost use Rattle.amqp_base.specs.Wire.{under};
 ghost use Rattle.amqp_ser.specs.State.{Fresh, state, mark_of, unmarked, first};
-ghost use Rattle.amqp_ser.specs.Law.{Wrote, Refused, Stops, placed, found_after};
-ghost use Rattle.amqp_ser.specs.Appending.{Appended, Pays};
+ghost use Rattle.amqp_ser.specs.Law.{Wrote, Refused, Stops, Spares, Named, placed, found_after};
+ghost use Rattle.amqp_ser.specs.Appending.{Appended, Pays, error_of, as_error};
 ghost use Rattle.amqp_ser.specs.Compound.{turned};
 
 use crate::Serialize;
 use amqp_base::{EncodingCodes, Error, Setting, Sink};
 use std::alloc::Global;
+use std::io::ErrorKind;
 
 /// The most bytes of a payload or of a compound's body: a size of four bytes counts four more.
 pub(crate) const LONGEST: usize = 4_294_967_291;
@@ -17,6 +19,26 @@ pub(crate) const LONGEST: usize = 4_294_967_291;
 /// The most bytes of a payload or of a compound's body behind a size of one byte. No text has a payload of 255
 /// bytes behind one byte, though it would fit.
 pub(crate) const NARROW: usize = 254;
+
+/// Why nothing was written, inside this crate. It is small enough for registers, as an `Error` with its text isn't.
+#[derive(Clone, Copy)]
+pub(crate) enum Refusal {
+    /// The writer's own fault; or `Other`: too long to write.
+    Io(ErrorKind),
+    /// An element that can't stand where it is to stand.
+    InvalidValue,
+}
+
+/// The error that a public call answers.
+#[cold]
+pub(crate) fn refused(refusal: Refusal) -> Error
+    ensures { result ≡ error_of refusal }
+{
+    match refusal {
+        Refusal::Io(kind) => Error::from(kind),
+        Refusal::InvalidValue => Error::InvalidValue,
+    }
+}
 
 /// Where the next item stands.
 #[derive(Clone, Copy)]
@@ -147,8 +169,8 @@ impl<W: Sink> Serializer<W> {
 
     /// Appends all of `bytes`, or stops.
     #[inline(always)]
-    pub(crate) fn append(&mut self, bytes: &[u8]) -> Result<(), Error>
-        ensures { Appended (state W.Write W.FaultCount self.old) bytes.now result (state W.Write W.FaultCount self.new) }
+    pub(crate) fn append(&mut self, bytes: &[u8]) -> Result<(), Refusal>
+        ensures { Appended (state W.Write W.FaultCount self.old) bytes.now (as_error result) (state W.Write W.FaultCount self.new) }
     {
         let mut rest = bytes;
         while !rest.is_empty() {
@@ -156,7 +178,7 @@ impl<W: Sink> Serializer<W> {
                 Ok(n) => rest = &rest[n..],
                 Err(kind) => {
                     self.stopped = true;
-                    return Err(Error::from(kind));
+                    return Err(Refusal::Io(kind));
                 }
             }
         }
@@ -165,8 +187,8 @@ impl<W: Sink> Serializer<W> {
 
     /// Appends both, one after the other.
     #[inline(always)]
-    pub(crate) fn append_two(&mut self, head: &[u8], body: &[u8]) -> Result<(), Error>
-        ensures { Appended (state W.Write W.FaultCount self.old) (head.now ++ body.now) result (state W.Write W.FaultCount self.new) }
+    pub(crate) fn append_two(&mut self, head: &[u8], body: &[u8]) -> Result<(), Refusal>
+        ensures { Appended (state W.Write W.FaultCount self.old) (head.now ++ body.now) (as_error result) (state W.Write W.FaultCount self.new) }
     {
         match self.append(head) {
             Ok(()) => self.append(body),
@@ -182,10 +204,10 @@ impl<W: Sink> Serializer<W> {
         code: EncodingCodes,
         head: &[u8],
         body: &[u8],
-    ) -> Result<(), Error>
+    ) -> Result<(), Refusal>
         requires answers { self.old.stopped ≡ false }
         requires marked { mark_of self.old.mark ≢ unmarked }
-        ensures law { Pays (state W.Write W.FaultCount self.old) (placed (state W.Write W.FaultCount self.old).mark (Some (under code)) (Some (head.now ++ body.now))) (found_after (state W.Write W.FaultCount self.old).mark (Some (under code)) (state W.Write W.FaultCount self.old).found) ([]) Error.InvalidValue result (state W.Write W.FaultCount self.new) }
+        ensures law { Pays (state W.Write W.FaultCount self.old) (placed (state W.Write W.FaultCount self.old).mark (Some (under code)) (Some (head.now ++ body.now))) (found_after (state W.Write W.FaultCount self.old).mark (Some (under code)) (state W.Write W.FaultCount self.old).found) ([]) Error.InvalidValue (as_error result) (state W.Write W.FaultCount self.new) }
     {
         let mark = self.mark;
         match mark {
@@ -195,21 +217,26 @@ impl<W: Sink> Serializer<W> {
                     return self.append_two(head, body);
                 }
                 self.stopped = true;
-                Err(Error::InvalidValue)
+                Err(Refusal::InvalidValue)
             }
             Mark::Unmarked => {
                 self.stopped = true;
-                Err(Error::InvalidValue)
+                Err(Refusal::InvalidValue)
             }
         }
     }
 
     /// Appends the first element's data behind its constructor.
     #[inline(always)]
-    fn first_element(&mut self, code: EncodingCodes, head: &[u8], body: &[u8]) -> Result<(), Error>
+    fn first_element(
+        &mut self,
+        code: EncodingCodes,
+        head: &[u8],
+        body: &[u8],
+    ) -> Result<(), Refusal>
         requires answers { self.old.stopped ≡ false }
         requires marked { mark_of self.old.mark ≡ first }
-        ensures law { Pays (state W.Write W.FaultCount self.old) (placed (state W.Write W.FaultCount self.old).mark (Some (under code)) (Some (head.now ++ body.now))) (found_after (state W.Write W.FaultCount self.old).mark (Some (under code)) (state W.Write W.FaultCount self.old).found) ([]) Error.InvalidValue result (state W.Write W.FaultCount self.new) }
+        ensures law { Pays (state W.Write W.FaultCount self.old) (placed (state W.Write W.FaultCount self.old).mark (Some (under code)) (Some (head.now ++ body.now))) (found_after (state W.Write W.FaultCount self.old).mark (Some (under code)) (state W.Write W.FaultCount self.old).found) ([]) Error.InvalidValue (as_error result) (state W.Write W.FaultCount self.new) }
     {
         self.found = Some(code);
         match self.append(&[code.byte()]) {
@@ -230,6 +257,20 @@ impl<W: Sink> Serializer<W> {
                 self.mark = Mark::Other(code);
             }
         }
+    }
+
+    /// Writes null (section 1.6.1), as an option that holds nothing. It takes no memory of its own.
+    ///
+    /// `InvalidValue`: it is to stand in an array, whose elements can't be null.
+    #[inline(always)]
+    pub fn serialize_none(&mut self, alloc: Global) -> Result<(), Error>
+        ensures ok { OnOk result (Wrote (state W.Write W.FaultCount self.old) (scalar null) (state W.Write W.FaultCount self.new)) }
+        ensures err { IfErr result (λ e. Refused (state W.Write W.FaultCount self.old) (scalar null) e (state W.Write W.FaultCount self.new)) }
+        ensures named { IfErr result (λ e. Named (state W.Write W.FaultCount self.old) 0 e (state W.Write W.FaultCount self.new)) }
+        ensures stops { Stops (state W.Write W.FaultCount self.old) result (state W.Write W.FaultCount self.new) }
+        ensures spares { Spares (state W.Write W.FaultCount self.old) result (state W.Write W.FaultCount self.new) }
+    {
+        self.serialize_unit(alloc)
     }
 
     /// Writes the value itself, as an option that holds it. It is refused as the value's own `serialize`.

@@ -1,5 +1,6 @@
 //! The bytes of values by the standard's own rules, and what follows a refusal.
 
+mod compounds;
 mod values;
 
 use crate::{Serialize, Serializer};

@@ -1,13 +1,12 @@
-use Rattle.amqp_ser.specs.State.{state}
+use Rattle.std.proofs.lemmas.Result.{IfErr-weaker}
+use Rattle.std.proofs.Common.{false}
 use Rattle.amqp_ser.specs.Compound.{open_state}
-use Rattle.std.proofs.Common.{arith, refl}
-use Rattle.amqp_ser.proofs.Compounds.{element_more, element_refused}
 use Rattle.amqp_ser.proofs.seq.SeqSerializer+W.serialize_element.Goals as goal
 
-pub returns-clause-ok : goal.returns-clause-ok
-unfolding state open_state
-returns-clause-ok g c = λ s shape xs h. element_more s shape xs (g.T.Typed.item c.args.value.now) _ _ _ _ c.in_default.ensures.ok refl (omega (arith, c.serialize.new.ser.writer.ok.0, c.serialize.new.ser.writer.small)) c.turn.ensures refl refl c.saturating_add-self.ensures h
+pub returns-clause-err : goal.returns-clause-err
+unfolding open_state
+returns-clause-err g c = IfErr-weaker c.write.result _ _ (λ e k s shape xs all h begins. k s shape xs all h begins tt) (c.write.ensures.err false _)
 
-pub returns-in-Err-clause-err : goal.returns-in-Err-clause-err
-unfolding state open_state
-returns-in-Err-clause-err g c = λ s shape xs all h split. element_refused s shape xs all (g.T.Typed.item c.args.value.now) _ _ _ refl c.in-Err.ensures.err h split
+pub returns-clause-stops : goal.returns-clause-stops
+unfolding open_state
+returns-clause-stops g c = c.write.ensures.stops false _

@@ -14,4 +14,4 @@ returns g c = appended_all _ _ _ _ c.loop-rest.rest.now refl refl (empty_list _ 
 
 pub returns-in-Err : goal.returns-in-Err
 unfolding state open_state
-returns-in-Err g c = appended_fault _ _ _ _ _ c.in-Err.kind _ c.loop-rest.invariant c.from.ensures c.in-Err.ensures.bytes c.in-Err.ensures.counts c.in-Err.ensures.grows refl
+returns-in-Err g c = appended_fault _ _ _ _ _ c.in-Err.kind _ c.loop-rest.invariant refl c.in-Err.ensures.bytes c.in-Err.ensures.counts c.in-Err.ensures.grows refl

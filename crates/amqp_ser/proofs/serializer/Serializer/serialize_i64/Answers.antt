@@ -13,8 +13,8 @@ returns-clause-ok g c = let f : SFits w64 c.args.v = c.ranges.v in wrote_scalar 
 
 pub returns-in-Err-clause-err : goal.returns-in-Err-clause-err
 unfolding state open_state
-returns-in-Err-clause-err g c = let f : SFits w64 c.args.v = c.ranges.v in refused_scalar _ _ _ _ (simp to_z-of_z at c.in-Err.ensures.law)
+returns-in-Err-clause-err g c = let f : SFits w64 c.args.v = c.ranges.v in rw c.refused.ensures (refused_scalar _ _ _ _ (simp to_z-of_z at c.in-Err.ensures.law))
 
 pub returns-in-Err-clause-named : goal.returns-in-Err-clause-named
 unfolding state open_state
-returns-in-Err-clause-named g c = let f : SFits w64 c.args.v = c.ranges.v in named_pays _ _ _ _ 0 _ _ (simp to_z-of_z at c.in-Err.ensures.law)
+returns-in-Err-clause-named g c = let f : SFits w64 c.args.v = c.ranges.v in rw c.refused.ensures (named_pays _ _ _ _ 0 _ _ (simp to_z-of_z at c.in-Err.ensures.law))

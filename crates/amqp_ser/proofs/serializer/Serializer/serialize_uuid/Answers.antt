@@ -10,8 +10,8 @@ returns-clause-ok g c = wrote_wide _ _ _ _ _ _ (uuid_wide (mark_of c.args.self.n
 
 pub returns-in-Err-clause-err : goal.returns-in-Err-clause-err
 unfolding state open_state
-returns-in-Err-clause-err g c = refused_wide _ _ _ _ _ _ (uuid_wide (mark_of c.args.self.now.mark) c.args.v.now (rw c.as_inner.ensures at c.sixteen_bytes.ensures.width)) (rw c.as_inner.ensures at c.in-Err.ensures.law)
+returns-in-Err-clause-err g c = rw c.refused.ensures (refused_wide _ _ _ _ _ _ (uuid_wide (mark_of c.args.self.now.mark) c.args.v.now (rw c.as_inner.ensures at c.sixteen_bytes.ensures.width)) (rw c.as_inner.ensures at c.in-Err.ensures.law))
 
 pub returns-in-Err-clause-named : goal.returns-in-Err-clause-named
 unfolding state open_state
-returns-in-Err-clause-named g c = named_pays _ _ _ _ 0 _ _ c.in-Err.ensures.law
+returns-in-Err-clause-named g c = rw c.refused.ensures (named_pays _ _ _ _ 0 _ _ c.in-Err.ensures.law)
