@@ -1,5 +1,5 @@
 -- The steps of a compound.
-use Rattle.std.proofs.Common.{◌≡◌, get_or, map, take, drop, suc, add-one, drop-cons, ℕ, ◌+◌, ◌<◌, ◌≤◌, ◌^◌, List, [], ◌∷◌, ◌++◌, length, refl, sym, ◌∙◌, ap, arith, Option, Some, None, true, false, Bool, if◌then◌else◌, Result, Ok, Err, OnOk, IfErr, inl, inr, subst, length-append, min, ◌==◌}
+use Rattle.std.proofs.Common.{◌≡◌, get_or, map, take, drop, suc, add-one, drop-cons, ℕ, ◌+◌, ◌<◌, ◌≤◌, ◌^◌, List, [], ◌∷◌, ◌++◌, length, refl, sym, ◌∙◌, ap, arith, Option, Some, None, true, false, Bool, if◌then◌else◌, Result, Ok, Err, OnOk, IfErr, inl, inr, subst, length-append, min, ◌==◌, ◌%◌}
 use Rattle.std.proofs.lemmas.List.{take-append-drop, take_all, take_more, map-append}
 use Rattle.std.proofs.lemmas.Bool.{eq-eqb, eqb-true}
 use Rattle.std.specs.Io.KnownBytes.{Appends}
@@ -16,11 +16,11 @@ use Rattle.amqp_base.specs.declared.shape.Shape.{Shape}
 use Rattle.amqp_ser.specs.State.{State, Mark, unmarked, first, other, answering}
 use Rattle.amqp_ser.specs.Law.{text_for, fits, marked, found_after, Goes, Wrote, Refused, Kept, Named, unwritten}
 use Rattle.amqp_ser.specs.Appending.{Pays}
-use Rattle.amqp_ser.specs.Compound.{Open, Empty, Run, Holds, Complete, is_map, BeginsWith, whole_text, shape_code, parts_text, next_mark, other_of, turned}
+use Rattle.amqp_ser.specs.Compound.{Open, Empty, Run, Holds, Complete, is_map, awaits_value, BeginsWith, whole_text, shape_code, parts_text, next_mark, other_of, turned}
 use Rattle.amqp_ser.proofs.Bytes.{extends_same, appends_more, appends_none}
 use Rattle.amqp_ser.proofs.Steps.{Free, fits_free, wrote_pays, refused_pays, named_pays}
 use Rattle.amqp_ser.proofs.TextOf.{pays_text}
-use Rattle.amqp_ser.proofs.PartTexts.{parts_more, parts_none, bind_some, pairs_text, pairs_count}
+use Rattle.amqp_ser.proofs.PartTexts.{parts_more, parts_none, bind_some, pairs_text, pairs_count, odd_count}
 use Rattle.amqp_ser.proofs.Lengths.{parts_fit}
 
 kept_stopped : (s : State) → Kept s (record s { stopped = true })
@@ -281,3 +281,14 @@ full_not s n xs q full h test f len = let both : true ≡ false = sym (test n h.
 -- as many parts as announced
 pub full_all : (s : State) (n : ℕ) (xs : List Item) (q : Open) (full : Bool) → Holds s (Shape.Tuple n) xs q → ((k : ℕ) → q.shape ≡ Shape.Tuple k → full ≡ (q.count == k)) → full ≡ true → length xs ≡ n
 full_all s n xs q full h test f = sym h.count ∙ eqb-true q.count n (sym (test n h.shape_is) ∙ f)
+
+-- what a compound of keys and values awaits, by their number
+pub turn_is : (s : State) (xs : List Item) (q : Open) (turn : Bool) → Holds s Shape.Map xs q → turn ≡ (q.count % 2 == 1) → turn ≡ awaits_value xs
+turn_is s xs q turn h test = test ∙ (ap (λ n. n % 2 == 1) h.count ∙ odd_count xs)
+
+-- what begins with a front and two more begins with the front and one more
+pub begins_less : (xs all : List Item) (x y : Item) → BeginsWith all (xs ++ x ∷ y ∷ []) → BeginsWith all (xs ++ x ∷ [])
+begins_less [] [] x y h = absurd h
+begins_less [] (z ∷ all) x y h = (h.0, tt)
+begins_less (w ∷ xs) [] x y h = absurd h
+begins_less (w ∷ xs) (z ∷ all) x y h = (h.0, begins_less xs all x y h.1)

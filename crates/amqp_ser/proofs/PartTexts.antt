@@ -1,5 +1,5 @@
 -- The texts of parts, one more at a time.
-use Rattle.std.proofs.Common.{◌≡◌, ℕ, List, [], ◌∷◌, ◌++◌, suc, length, refl, sym, ◌∙◌, ap, subst, Option, Some, None, true, false, Bool, if◌then◌else◌, append_assoc}
+use Rattle.std.proofs.Common.{arith, ◌%◌, ◌==◌, ◌≡◌, ℕ, List, [], ◌∷◌, ◌++◌, suc, length, refl, sym, ◌∙◌, ap, subst, Option, Some, None, true, false, Bool, if◌then◌else◌, append_assoc}
 use Rattle.std.proofs.lemmas.List.{append-nil}
 use Rattle.amqp_base.specs.Item.{Item, items_of, in_turn, count}
 use Rattle.amqp_base.specs.Shapes.{pairs_of}
@@ -8,7 +8,7 @@ use Rattle.amqp_base.specs.Canon.{◌>>=◌, canon, canons, pair_canons, body, b
 use Rattle.amqp_base.specs.declared.shape.Shape.{Shape}
 use Rattle.amqp_ser.specs.State.{first, other}
 use Rattle.amqp_ser.specs.Law.{marked, placed}
-use Rattle.amqp_ser.specs.Compound.{parts_text, next_mark, other_of, Complete}
+use Rattle.amqp_ser.specs.Compound.{parts_text, next_mark, other_of, Complete, awaits_value}
 
 pub bind_some : {A B : Type 0} (o : Option A) (f : A → Option B) (y : B) → o >>= f ≡ Some y → (x : A) × (o ≡ Some x) × (f x ≡ Some y)
 bind_some None f y h = cc
@@ -158,6 +158,9 @@ mark_behind Shape.Array xs x y = refl
 mark_behind (Shape.Tuple n) xs x y = refl
 mark_behind Shape.Map xs x y = refl
 
+pub true_false : true ≡ false → ⊥
+true_false e = cc
+
 -- keys and values in turn have the texts of the pairs
 pairs_grouped : (k v r : Option (List ℕ)) → (k >>= λ a. v >>= λ b. r >>= λ t. Some (a ++ (b ++ t))) ≡ (k >>= λ a. (v >>= λ b. r >>= λ t. Some (b ++ t)) >>= λ u. Some (a ++ u))
 pairs_grouped None v r = refl
@@ -168,10 +171,22 @@ pairs_grouped (Some a) (Some b) (Some t) = refl
 pub pairs_text : (xs : List Item) → Complete true xs → pair_canons (pairs_of xs) ≡ canons (items_of xs)
 unfolding canons pair_canons
 pairs_text [] c = refl
-pairs_text (k ∷ []) c = absurd c
+pairs_text (k ∷ []) c = absurd (true_false c)
 pairs_text (k ∷ v ∷ xs) c = rw (pairs_text xs c) (pairs_grouped (canon k) (canon v) (canons (items_of xs)))
 
 pub pairs_count : (xs : List Item) → Complete true xs → count (in_turn (pairs_of xs)) ≡ length xs
 pairs_count [] c = refl
-pairs_count (k ∷ []) c = absurd c
+pairs_count (k ∷ []) c = absurd (true_false c)
 pairs_count (k ∷ v ∷ xs) c = ap (λ n. suc (suc n)) (pairs_count xs c)
+
+-- a key stands last where the number of parts is odd
+pub odd_count : (xs : List Item) → (length xs % 2 == 1) ≡ awaits_value xs
+odd_count [] = refl
+odd_count (k ∷ []) = refl
+odd_count (k ∷ v ∷ xs) = let e : suc (suc (length xs)) % 2 ≡ length xs % 2 = omega arith in rw e (odd_count xs)
+
+-- behind a key in turn a value is awaited
+pub awaits_more : (xs : List Item) (k : Item) → awaits_value xs ≡ false → awaits_value (xs ++ k ∷ []) ≡ true
+awaits_more [] k h = refl
+awaits_more (x ∷ []) k h = absurd (true_false h)
+awaits_more (x ∷ y ∷ xs) k h = awaits_more xs k h

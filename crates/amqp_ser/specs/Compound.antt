@@ -1,5 +1,5 @@
 -- What contracts see of an open compound.
-use Rattle.std.specs.Prelude.{◌≡◌, ℕ, ◌==◌, Bool, true, false, if◌then◌else◌, List, [], ◌∷◌, length, Option, Some, None, Result, Err, IfErr, OnErr}
+use Rattle.std.specs.Prelude.{◌≡◌, ℕ, ◌==◌, ◌&&◌, Bool, true, false, if◌then◌else◌, List, [], ◌∷◌, length, Option, Some, None, Result, Err, IfErr, OnErr}
 use Rattle.std.specs.declared.io.Write as Write
 use Rattle.std.specs.declared.vec.Vec.{Vec}
 use Rattle.std.specs.Global.{Global}
@@ -20,6 +20,7 @@ use Rattle.amqp_ser.specs.Law.{Goes, placed, Refused, Kept, Stops}
 use Rattle.amqp_ser.specs.declared.compound.Parts.{Parts}
 use Rattle.amqp_ser.specs.declared.seq.SeqSerializer.{SeqSerializer}
 use Rattle.amqp_ser.specs.declared.tuple.TupleSerializer.{TupleSerializer}
+use Rattle.amqp_ser.specs.declared.map.MapSerializer.{MapSerializer}
 use Rattle.amqp_ser.specs.declared.serializer.Serializer.{Serializer}
 use Rattle.amqp_base.specs.declared.shape.Shape.{Shape}
 
@@ -107,18 +108,24 @@ open_state w f q = open_parts false (state w f q.ser.now) q.parts
 unfoldable pub tuple_state : {W : Type 0} → Write.Ghosts W → FaultCount.Ghosts W → TupleSerializer W Parts → Open
 tuple_state w f q = open_parts false (state w f q.ser.now) q.parts
 
+unfoldable pub map_state : {W : Type 0} → Write.Ghosts W → FaultCount.Ghosts W → MapSerializer W Parts → Open
+map_state w f q = open_parts true (state w f q.ser.now) q.parts
+
 abbrev pub is_map : Shape → Bool
 is_map Shape.List = false
 is_map Shape.Array = false
 is_map (Shape.Tuple n) = false
 is_map Shape.Map = true
 
+-- a key stands last, without its value
+abbrev pub awaits_value : List Item → Bool
+awaits_value [] = false
+awaits_value (k ∷ []) = true
+awaits_value (k ∷ v ∷ xs) = awaits_value xs
+
 -- no key is without its value, where the parts are keys and values in turn
 abbrev pub Complete : Bool → List Item → Type 0
-Complete false xs = Unit {0}
-Complete true [] = Unit {0}
-Complete true (k ∷ []) = ⊥
-Complete true (k ∷ v ∷ xs) = Complete true xs
+Complete pairs xs = (pairs && awaits_value xs) ≡ false
 
 -- what a buffer is at first
 pub record Empty (u : State) : Type 0 where

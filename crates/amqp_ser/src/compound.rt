@@ -1,13 +1,13 @@
 //! What is common to all compounds: their parts so far, and their header.
 
-ghost use Rattle.std.specs.Prelude.{◌≡◌, ◌==◌, ◌<◌, ◌≤◌, ◌++◌, ◌∷◌, ℕ, Bool, List, length, [], true, IfOk, IfErr, OnOk, OnErr, Err, Some};
+ghost use Rattle.std.specs.Prelude.{◌≡◌, ◌==◌, ◌%◌, ◌<◌, ◌≤◌, ◌++◌, ◌∷◌, ℕ, Bool, List, length, [], true, false, IfOk, IfErr, OnOk, OnErr, Err, Some};
 ghost use Rattle.amqp_base.specs.Item.{Item, items_of};
 ghost use Rattle.amqp_base.specs.Shapes.{whole};
 ghost use Rattle.amqp_base.specs.Wire.{under};
 ghost use Rattle.amqp_ser.specs.State.{State, state, mark_of, answering};
 ghost use Rattle.amqp_ser.specs.Law.{Wrote, Refused, Kept, Named, IsDevice, unwritten, found_after};
 ghost use Rattle.amqp_ser.specs.Appending.{Pays, as_error};
-ghost use Rattle.amqp_ser.specs.Compound.{the_buffer, open_parts, is_map, Empty, Run, Holds, Complete, RefusesOpen, BeginsWith, BreaksOff, parts_text, whole_text, shape_code, narrow_of, empty_list, next_mark};
+ghost use Rattle.amqp_ser.specs.Compound.{the_buffer, open_parts, is_map, awaits_value, Empty, Run, Holds, Complete, RefusesOpen, BeginsWith, BreaksOff, parts_text, whole_text, shape_code, narrow_of, empty_list, next_mark};
 
 use crate::serializer::{LONGEST, Mark, NARROW, Refusal, refused};
 use crate::{Serialize, Serializer};
@@ -65,6 +65,14 @@ impl Parts {
         }
     }
 
+    /// Whether a key stands last, without its value.
+    #[inline(always)]
+    pub(crate) fn awaits_value(&self) -> bool
+        ensures { result ≡ (self.now.count % 2 == 1) }
+    {
+        self.count % 2 == 1
+    }
+
     /// Writes one more part. It is refused as the part's own `serialize`; then all that follows is `InvalidValue`.
     #[inline(always)]
     pub(crate) fn write<T: Serialize>(&mut self, alloc: Global, value: &T) -> Result<(), Error>
@@ -84,6 +92,32 @@ impl Parts {
         self.count = self.count.saturating_add(1);
         self.buffer.turn();
         Ok(())
+    }
+
+    /// Writes one more key or value of a map. Out of turn it is `InvalidValue`, and so is then all that follows.
+    #[inline(always)]
+    pub(crate) fn write_in_turn<T: Serialize>(
+        &mut self,
+        alloc: Global,
+        is_value: bool,
+        part: &T,
+    ) -> Result<(), Error>
+        ensures ok { (outer : State) → OnOk result ((s : State) (xs : List Item) → Holds s Shape.Map xs (open_parts true outer self.old) →
+            Holds s Shape.Map (xs ++ T.item part.now Setting.Plain ∷ []) (open_parts true outer self.new)) }
+        ensures err { (outer : State) → IfErr result (λ e. (s : State) (xs all : List Item) → Holds s Shape.Map xs (open_parts true outer self.old) → awaits_value xs ≡ is_value →
+            BeginsWith all (xs ++ T.item part.now Setting.Plain ∷ []) → awaits_value all ≡ false → Refused s (whole Shape.Map all) e outer) }
+        ensures turn { (outer s : State) (xs : List Item) → Holds s Shape.Map xs (open_parts true outer self.old) → (awaits_value xs ≡ is_value → ⊥) → result ≡ Err Error.InvalidValue }
+        ensures stops { (outer : State) → BreaksOff (open_parts true outer self.old) result (open_parts true outer self.new) }
+    {
+        if self.buffer.stopped {
+            return Err(Error::InvalidValue);
+        }
+        let turn = self.awaits_value();
+        if turn == is_value {
+            return self.write(alloc, part);
+        }
+        self.buffer.stopped = true;
+        Err(Error::InvalidValue)
     }
 }
 

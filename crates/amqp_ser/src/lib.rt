@@ -1,9 +1,10 @@
 //! Writing values in the AMQP 1.0 encoding (OASIS AMQP 1.0 part 1, sections 1.2 to 1.6).
-#![tactic(auto, unfolding(crate::specs::State::state, crate::specs::Compound::open_state, crate::specs::Compound::tuple_state))]
+#![tactic(auto, unfolding(crate::specs::State::state, crate::specs::Compound::open_state, crate::specs::Compound::tuple_state, crate::specs::Compound::map_state))]
 
 mod compound;
 mod fixed;
 mod floats;
+mod map;
 mod numbers;
 mod payloads;
 mod scalars;
@@ -16,6 +17,7 @@ mod tests;
 mod tuple;
 
 pub use compound::Parts;
+pub use map::MapSerializer;
 pub use seq::SeqSerializer;
 pub use serialize::Serialize;
 pub use serializer::Serializer;
