@@ -2,6 +2,7 @@
 use Rattle.std.proofs.Common.{◌≡◌, ℕ, ◌+◌, ◌≤◌, Bool, true, false, ◌||◌, List, ◌++◌, Ok, Err, refl, sym, ap, subst, ◌∙◌, arith, inl, inr, ◌⊎◌, IsTrue}
 use Rattle.amqp_base.specs.declared.error.Error.{Error}
 use Rattle.amqp_base.specs.declared.error.Error.TheVariants.{InvalidValue}
+use Rattle.amqp_base.specs.declared.format_code.EncodingCodes.{EncodingCodes}
 use Rattle.amqp_base.specs.Codes.{Kind, row}
 use Rattle.amqp_base.specs.Item.{Item, Scalar, scalar, list, map, array, described}
 use Rattle.amqp_base.specs.Canon.{kind_of}
@@ -48,13 +49,6 @@ of_kind_is k (map ps) t = absurd cc
 of_kind_is k (array is) t = absurd cc
 of_kind_is k (described d v) t = absurd cc
 
-pub of_kind_bare : (k : Kind) (i : Item) → IsTrue (is_of k i) → IsDescribed i → ⊥
-of_kind_bare k (scalar v) t d = d
-of_kind_bare k (list is) t d = d
-of_kind_bare k (map ps) t d = d
-of_kind_bare k (array is) t d = d
-of_kind_bare k (described d v) t q = absurd cc
-
 -- where an item stands that isn't described, its byte stands
 pub byte_stands : (c : Constructor) (t rest : List ℕ) (i : Item) → (IsDescribed i → ⊥) → Wire lenient c t i → (x : ℕ × List ℕ) × (byte_under c (t ++ rest) ≡ Ok x)
 byte_stands bare t rest i d (of_code {x = x} {b = b} p h) = ((x, b ++ rest), refl)
@@ -71,13 +65,27 @@ or_right : (a b : Bool) → IsTrue b → IsTrue (a || b)
 or_right true b h = refl
 or_right false b h = h
 
-pub found : (k : Kind) (v : Scalar) (old mid : Decoding) (r : Reading) (b : ℕ) → kind_of v ≡ k → Begins old mid b → IsData b (scalar v) mid.reading r → Found (is_of k) (λ i. i ≡ scalar v) old (answered mid r)
-found k v old mid r x h b d = record {
+-- what a call takes has no parts, and its data parse
+pub record Reads (takes : Item → Bool) (parse : EncodingCodes → List ℕ → Parsed Scalar) : Type 0 where
+  pub scalars : (i : Item) → IsTrue (takes i) → (v : Scalar) × (i ≡ scalar v)
+  pub understands : (e : EncodingCodes) (t rest : List ℕ) (v : Scalar) → IsTrue (takes (scalar v)) → Wire lenient (under e) t (scalar v) → parse e (t ++ rest) ≡ Ok (v, rest)
+
+pub reads_kind : (k : Kind) → Reads (is_of k) (data_at k)
+reads_kind k = record {
+  scalars = λ i t. let p = of_kind_is k i t in (p.0, p.1);
+  understands = λ e t rest v h w. understands k e t rest v (same_kind_is (kind_of v) k h) w;
+}
+
+scalar_bare : (i : Item) (v : Scalar) → i ≡ scalar v → IsDescribed i → ⊥
+scalar_bare i v p d = let q : IsDescribed (scalar v) = rw p at d in q
+
+pub found : (takes : Item → Bool) (v : Scalar) (old mid : Decoding) (r : Reading) (b : ℕ) → IsTrue (takes (scalar v)) → Begins old mid b → IsData b (scalar v) mid.reading r → Found takes (λ i. i ≡ scalar v) old (answered mid r)
+found takes v old mid r x h b d = record {
   front = λ a. record {
     item = scalar v;
     text = b.text ++ d.text;
     spelled = b.whole d.code d.text (scalar v) d.code_is d.spelled;
-    taken = of_kind k v h;
+    taken = h;
     value = refl;
     step = takes_then old.reading mid.reading r b.text d.text b.step d.step;
     answers = refl;
@@ -90,10 +98,11 @@ found k v old mid r x h b d = record {
 }
 
 -- no byte
-pub missed_byte : (k : Kind) (grows buffers : Bool) (old new : Decoding) (e : Error) → BeginsNot buffers old new e → Missed (is_of k) (grows || buffers) buffers old new e
-missed_byte k grows buffers old new e n = record {
+pub missed_byte : {takes : Item → Bool} {parse : EncodingCodes → List ℕ → Parsed Scalar} (grows buffers : Bool) (old new : Decoding) (e : Error) → Reads takes parse → BeginsNot buffers old new e → Missed takes (grows || buffers) buffers old new e
+missed_byte grows buffers old new e g n = record {
   why = λ a i t rest w q at h.
-      let s = byte_stands (stands_under old) t rest i (of_kind_bare k i q) w in
+      let p = g.scalars i q in
+      let s = byte_stands (stands_under old) t rest i (scalar_bare i p.0 p.1) w in
       excused_more old.reading new.reading e (or_right grows buffers) (not_refused old.reading new.reading _ s.0 e s.1 (n.rejects.why (t ++ rest) at h));
   spent = λ a. record { most = let f = n.few in let t = n.rejects.steady.taken in omega (arith, f, t, one_refused (stands_under old)) };
   steady = n.rejects.steady;
@@ -101,58 +110,30 @@ missed_byte k grows buffers old new e n = record {
 }
 
 -- no data
-pub missed_data : (k : Kind) (grows buffers : Bool) (old mid : Decoding) (r : Reading) (b : ℕ) (e : Error) → Begins old mid b → Rejects grows buffers (behind_byte (data_at k) b) mid.reading r e → Missed (is_of k) grows buffers old (refused mid r) e
-missed_data k grows buffers old mid r x e b n = record {
+pub missed_data : {takes : Item → Bool} (parse : EncodingCodes → List ℕ → Parsed Scalar) (grows buffers : Bool) (old mid : Decoding) (r : Reading) (b : ℕ) (e : Error) → Reads takes parse → Begins old mid b → Rejects grows buffers (behind_byte parse b) mid.reading r e
+    → Missed takes grows buffers old (refused mid r) e
+missed_data {takes = takes} parse grows buffers old mid r x e g b n = record {
   why = λ a i t rest w q at h.
-      let o = b.only t rest i (of_kind_bare k i q) w at in
-      let p = of_kind_is k i q in
+      let p = g.scalars i q in
+      let o = b.only t rest i (scalar_bare i p.0 p.1) w at in
       let v : Wire lenient (under o.0) o.1 (scalar p.0) = subst (λ (z : Item). Wire lenient (under o.0) o.1 z) p.1 o.3 in
-      let parsed = behind_code (data_at k) x o.0 (o.1 ++ rest) o.2 ∙ understands k o.0 o.1 rest p.0 p.2 v in
+      let taken : IsTrue (takes (scalar p.0)) = rw p.1 at q in
+      let parsed = behind_code parse x o.0 (o.1 ++ rest) o.2 ∙ g.understands o.0 o.1 rest p.0 taken v in
       excused_before old.reading mid.reading r b.text e b.step (not_refused mid.reading r _ _ e parsed (n.why (o.1 ++ rest) o.4 (b.step.steady.honest ∙ h)));
   spent = λ a. spent_refused old (refused mid r) (begun_spent old mid (refused mid r) x b n.steady refl);
   steady = steady_then old.reading mid.reading r b.step.steady n.steady;
   device = λ d. let f = b.step.steady.faults in let g = n.device d in omega (arith, f, g);
 }
 
--- a call that isn't answered
-pub missed_closed : (k : Kind) (grows buffers : Bool) (old : Decoding) → old.answers ≡ false → Missed (is_of k) grows buffers old old InvalidValue
-missed_closed k grows buffers old c = record {
-  why = λ a. absurd cc (a, c);
-  spent = λ a. absurd cc (a, c);
-  steady = steady_same old.reading;
-  device = λ d. absurd d;
-}
-
 -- the exact answers
-parsed_item : (k : Kind) (c : Constructor) (s : List ℕ) (b : ℕ) (rest : List ℕ) (z : Parsed Scalar) → byte_under c s ≡ Ok (b, rest) → behind_byte (data_at k) b rest ≡ z → item_at (data_at k) c s ≡ z
-parsed_item k c s b rest z p q = rw p q
+parsed_item : (parse : EncodingCodes → List ℕ → Parsed Scalar) (c : Constructor) (s : List ℕ) (b : ℕ) (rest : List ℕ) (z : Parsed Scalar) → byte_under c s ≡ Ok (b, rest) → behind_byte parse b rest ≡ z → item_at parse c s ≡ z
+parsed_item parse c s b rest z p q = rw p q
 
-no_item : (k : Kind) (c : Constructor) (s : List ℕ) (e : Error) → byte_under c s ≡ Err e → item_at (data_at k) c s ≡ Err e
-no_item k c s e p = rw p refl
-
-pub exact_data : {V : Type 0} (view : V → Scalar) (k : Kind) (grows buffers : Bool) (u : V) (old mid : Decoding) (r : Reading) (b : ℕ) → kind_of (view u) ≡ k → Begins old mid b → IsData b (scalar (view u)) mid.reading r
-    → Exact view grows buffers (item_at (data_at k) (stands_under old)) old.reading (Ok u) r
-exact_data view k grows buffers u old mid r x h b d = record {
+pub exact_data : {V : Type 0} {takes : Item → Bool} (view : V → Scalar) (parse : EncodingCodes → List ℕ → Parsed Scalar) (grows buffers : Bool) (u : V) (old mid : Decoding) (r : Reading) (b : ℕ) → Reads takes parse → IsTrue (takes (scalar (view u))) → Begins old mid b
+    → IsData b (scalar (view u)) mid.reading r → Exact view grows buffers (item_at parse (stands_under old)) old.reading (Ok u) r
+exact_data view parse grows buffers u old mid r x g h b d = record {
   answer = λ s at honest.
       let o = b.exact s at in
       let p = behind mid.reading r o.0 d.text d.step o.1 in
-      (p.0, p.1, parsed_item k (stands_under old) s x o.0 _ o.2 (behind_code (data_at k) x d.code o.0 d.code_is ∙ ap (data_at k d.code) p.2 ∙ understands k d.code d.text p.0 (view u) h d.spelled));
+      (p.0, p.1, parsed_item parse (stands_under old) s x o.0 _ o.2 (behind_code parse x d.code o.0 d.code_is ∙ ap (parse d.code) p.2 ∙ g.understands d.code d.text p.0 (view u) h d.spelled));
 }
-
-pub exact_byte : {V : Type 0} (view : V → Scalar) (k : Kind) (grows buffers : Bool) (old new : Decoding) (e : Error) → BeginsNot buffers old new e
-    → Exact view (grows || buffers) buffers (item_at (data_at k) (stands_under old)) old.reading (Err e) new.reading
-exact_byte view k grows buffers old new e n = record { answer = λ s at h. tell s (n.rejects.why s at h) }
-  where
-    tell : (s : List ℕ) → (byte_under (stands_under old) s ≡ Err e) ⊎ Excused buffers buffers old.reading new.reading e → (item_at (data_at k) (stands_under old) s ≡ Err e) ⊎ Excused (grows || buffers) buffers old.reading new.reading e
-    tell s (inl p) = inl (no_item k (stands_under old) s e p)
-    tell s (inr y) = inr (excused_more old.reading new.reading e (or_right grows buffers) y)
-
-pub exact_no_data : {V : Type 0} (view : V → Scalar) (k : Kind) (grows buffers : Bool) (old mid : Decoding) (r : Reading) (b : ℕ) (e : Error) → Begins old mid b → Rejects grows buffers (behind_byte (data_at k) b) mid.reading r e
-    → Exact view grows buffers (item_at (data_at k) (stands_under old)) old.reading (Err e) r
-exact_no_data view k grows buffers old mid r x e b n = record {
-  answer = λ s at h. let o = b.exact s at in tell s o.0 o.2 (n.why o.0 o.1 (b.step.steady.honest ∙ h));
-}
-  where
-    tell : (s rest : List ℕ) → byte_under (stands_under old) s ≡ Ok (x, rest) → (behind_byte (data_at k) x rest ≡ Err e) ⊎ Excused grows buffers mid.reading r e → (item_at (data_at k) (stands_under old) s ≡ Err e) ⊎ Excused grows buffers old.reading r e
-    tell s rest o (inl p) = inl (parsed_item k (stands_under old) s x rest (Err e) o p)
-    tell s rest o (inr y) = inr (excused_before old.reading mid.reading r b.text e b.step y)

@@ -30,7 +30,7 @@ pub payload_is : (e : EncodingCodes) (b rest : List ℕ) (v : Scalar) → payloa
 payload_is e b rest v h = rw h refl
 
 -- a payload of a code, by its category
-by_category_is : {e : EncodingCodes} {c : Category} {t : List ℕ} {v : Scalar} → ScalarData e c t v → (rest : List ℕ) → by_category e c (t ++ rest) ≡ Ok (v, rest)
+pub by_category_is : {e : EncodingCodes} {c : Category} {t : List ℕ} {v : Scalar} → ScalarData e c t v → (rest : List ℕ) → by_category e c (t ++ rest) ≡ Ok (v, rest)
 by_category_is {e} (fixed {n = n} {b = b} {v = v} l p) rest = rw (bytes_there n b rest l) (payload_is e b rest v p)
 by_category_is {e} (variable {w = w} l b {v = v} ll n p) rest =
     rw (append_assoc l b rest, bytes_there w l (b ++ rest) ll, n, bytes_there (length b) b rest refl) (payload_is e b rest v p)

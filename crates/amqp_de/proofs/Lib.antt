@@ -12,3 +12,5 @@ pub mod Opening
 pub mod Sequence
 pub mod ReadParts
 pub mod Looking
+pub mod LookedFirst
+pub mod Decimals

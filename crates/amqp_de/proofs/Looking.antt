@@ -168,3 +168,10 @@ looks_pair old d f a c = record {
   exact = λ s at. (s, rw c (pair_code d f s));
   kind = λ i t rest w at. looks_kind (under_pair d f) DescribedType t rest (t ++ rest) i (rw c at w) (pair_code d f (t ++ rest));
 }
+
+-- where an item stands, its code stands
+pub code_stands : (c : Constructor) (t rest : List ℕ) (i : Item) → Wire lenient c t i → (x : EncodingCodes × List ℕ) × (code_at c (t ++ rest) ≡ Ok x)
+code_stands bare _ rest i (of_code {x = x} {e = e} {b = b} p w) = ((e, b ++ rest), code_here x e _ (b ++ rest) refl (any_code_is x e p))
+code_stands bare _ rest _ (of_described a b g w) = ((DescribedType, (a ++ b) ++ rest), code_here 0 DescribedType _ ((a ++ b) ++ rest) refl zero_any)
+code_stands (under f) t rest i w = ((f, t ++ rest), inherited_code f (t ++ rest))
+code_stands (under_pair d f) t rest i w = ((DescribedType, t ++ rest), pair_code d f (t ++ rest))

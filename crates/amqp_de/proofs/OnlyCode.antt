@@ -34,7 +34,7 @@ either true b p h = h
 either false b p h = absurd cc
 
 -- a code of the kind has the one byte
-alone_byte : (k : Kind) (b x : ℕ) (es : List EncodingCodes) (e : EncodingCodes) → IsTrue (alone k b es) → among x es ≡ Some e → (row e).kind ≡ k → x ≡ b
+pub alone_byte : (k : Kind) (b x : ℕ) (es : List EncodingCodes) (e : EncodingCodes) → IsTrue (alone k b es) → among x es ≡ Some e → (row e).kind ≡ k → x ≡ b
 alone_byte k b x [] e t h q = absurd cc
 alone_byte k b x (d ∷ es) e t h q = tell (x == (row d).byte) refl (λ r. alone_byte k b x es e (both _ _ t).1 r q)
   where

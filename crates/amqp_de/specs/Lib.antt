@@ -8,3 +8,4 @@ pub mod Seq
 pub mod ReadParts
 pub mod Look
 pub mod OneCode
+pub mod Decimals

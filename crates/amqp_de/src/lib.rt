@@ -3,6 +3,7 @@
 
 mod any;
 mod constructor;
+mod decimal;
 mod deserialize;
 mod deserializer;
 mod fixed;

@@ -1,0 +1,164 @@
+-- Calls behind a look at the same item.
+use Rattle.std.proofs.Common.{◌≡◌, ℕ, ◌+◌, ◌^◌, ◌≤◌, Bool, true, IsTrue, List, ◌++◌, length, Option, Some, None, refl, sym, ap, ◌∙◌, arith}
+use Rattle.std.specs.Io.KnownBytes.{Keeps, Consumes}
+use Rattle.amqp_base.specs.declared.error.Error.{Error}
+use Rattle.amqp_base.specs.declared.error.Error.TheVariants.{InvalidFormatCode, Message, Io, InvalidValue, InvalidUtf8Encoding, SequenceLengthMismatch, InvalidLength, OutOfMemory}
+use Rattle.amqp_base.specs.declared.format_code.EncodingCodes.{EncodingCodes}
+use Rattle.amqp_base.specs.Codes.{Kind, row}
+use Rattle.amqp_base.specs.Item.{Item, scalar}
+use Rattle.amqp_base.specs.Typing.{is_of}
+use Rattle.amqp_base.specs.Refusals.{IsCustom, IsDevice}
+use Rattle.amqp_base.specs.Wire.{Constructor, bare, under, under_pair, Wire, lenient, of_code, of_described}
+use Rattle.amqp_read.specs.Reading.{Reading, Takes, Stays}
+use Rattle.amqp_read.specs.Steps.{Looked}
+use Rattle.amqp_de.specs.Decoding.{Decoding, stands_under}
+use Rattle.amqp_de.specs.Law.{Found, Missed, Excused, Overfull, Spent, free, refused_free, no_memory, faulted, uncounted}
+use Rattle.amqp_de.specs.Look.{item_kind, looked_at, Looks, LooksNot}
+use Rattle.amqp_de.proofs.Readings.{steady_then, behind, excused_more}
+use Rattle.amqp_de.proofs.Answered.{of_kind_is, not_refused, spent_refused}
+use Rattle.amqp_de.proofs.Looking.{code_stands}
+
+keeps_known : (k l : Option (List ℕ)) (s : List ℕ) → Keeps k l → k ≡ Some s → l ≡ Some s
+keeps_known None l s h e = absurd cc
+keeps_known (Some t) None s h e = absurd h
+keeps_known (Some t) (Some u) s h e = ap Some h ∙ e
+
+keeps_overfull : (n : ℕ) (k l : Option (List ℕ)) → Keeps k l → Overfull n l → Overfull n k
+keeps_overfull n None l h o = tt
+keeps_overfull n (Some t) None h o = absurd h
+keeps_overfull n (Some t) (Some u) h o = rw h at o
+
+keeps_consumes : (k l m : Option (List ℕ)) (x : List ℕ) → Keeps k l → Consumes l m x → Consumes k m x
+keeps_consumes None l m x h c = tt
+keeps_consumes (Some t) None m x h c = absurd h
+keeps_consumes (Some t) (Some u) None x h c = absurd c
+keeps_consumes (Some t) (Some u) (Some v) x h c = sym h ∙ c
+
+excused_kept : {grows buffers : Bool} (old mid new : Reading) (e : Error) → Stays old mid → Excused grows buffers mid new e → Excused grows buffers old new e
+excused_kept old mid new e s (no_memory p q) = no_memory p q
+excused_kept old mid new e s (faulted p q) = faulted (let f = s.steady.faults in omega (arith, f, p)) q
+excused_kept old mid new e s (uncounted p q o) = uncounted p q (keeps_overfull old.taken old.to_come mid.to_come s.to_come (rw s.taken at o))
+
+-- the next item stands under the same
+same_place : (old mid : Decoding) (x : EncodingCodes) → Looks old mid x → stands_under mid ≡ stands_under old
+same_place old mid x l = rw (l.inherited, l.described) refl
+
+-- a byte that was looked at is the item's own
+own_byte : (c : Constructor) (t : List ℕ) (i : Item) → Wire lenient c t i → looked_at c ≤ length t
+own_byte bare t i (of_code p h) = omega arith
+own_byte bare t i (of_described a b g h) = omega arith
+own_byte (under e) t i w = omega arith
+own_byte (under_pair d e) t i w = omega arith
+
+takes_behind : (n : ℕ) (old mid new : Reading) (x : List ℕ) → Looked n old mid → n ≤ length x → Takes mid new x → Takes old new x
+takes_behind n old mid new x l h t = record {
+  to_come = keeps_consumes old.to_come mid.to_come new.to_come x l.stays.to_come t.to_come;
+  taken = omega (arith, t.taken, l.stays.taken);
+  ahead = omega (arith, l.ahead, l.stays.ahead, t.ahead, h);
+  steady = steady_then old mid new l.stays.steady t.steady;
+}
+
+spent_behind : (old mid new : Decoding) (x : EncodingCodes) (n : ℕ) → Looks old mid x → Spent n mid new → Spent n old new
+spent_behind old mid new x n l s = record { most = omega (arith, s.most, l.begun, l.looked.stays.taken) }
+
+pub found_behind : (takes : Item → Bool) (means : Item → Type 0) (old mid new : Decoding) (x : EncodingCodes) → Looks old mid x → Found takes means mid new → Found takes means old new
+found_behind takes means old mid new x l f = record {
+  front = λ a.
+      let o = f.front l.answers in
+      let same = same_place old mid x l in
+      let w : Wire lenient (stands_under old) o.text o.item = rw same at (o.spelled) in
+      record {
+        item = o.item;
+        text = o.text;
+        spelled = w;
+        taken = o.taken;
+        value = o.value;
+        step = takes_behind (looked_at (stands_under old)) old.reading mid.reading new.reading o.text l.looked (own_byte (stands_under old) o.text o.item w) o.step;
+        answers = o.answers;
+        inherited = o.inherited ∙ l.inherited;
+        described = o.described;
+        begun = rw (← same, ← l.begun) o.begun;
+      };
+  spent = λ a. let same = same_place old mid x l in let s = f.spent l.answers in spent_behind old mid new x _ l (rw same at s);
+  steady = steady_then old.reading mid.reading new.reading l.looked.stays.steady f.steady;
+}
+
+pub missed_behind : (takes some : Item → Bool) (more grows buffers : Bool) (old mid new : Decoding) (x : EncodingCodes) (e : Error) → (IsTrue more → IsTrue grows) → ((i : Item) → IsTrue (some i) → IsTrue (takes i)) → Looks old mid x → Missed takes more buffers mid new e
+    → Missed some grows buffers old new e
+missed_behind takes some more grows buffers old mid new x e g h l m = record {
+  why = λ a i t rest w q at f.
+      let same = same_place old mid x l in
+      let v : Wire lenient (stands_under mid) t i = rw same w in
+      excused_kept old.reading mid.reading new.reading e l.looked.stays (excused_more mid.reading new.reading e g (m.why l.answers i t rest v (h i q) (keeps_known old.reading.to_come mid.reading.to_come (t ++ rest) l.looked.stays.to_come at) (l.looked.stays.steady.honest ∙ f)));
+  spent = λ a. let same = same_place old mid x l in let s = m.spent l.answers in spent_behind old mid new x _ l (rw same at s);
+  steady = steady_then old.reading mid.reading new.reading l.looked.stays.steady m.steady;
+  device = λ d. let f = l.looked.stays.steady.faults in let n = m.device d in omega (arith, f, n);
+}
+
+-- less is taken
+pub found_as : (takes some : Item → Bool) (means same : Item → Type 0) (old new : Decoding) → ((i : Item) → IsTrue (takes i) → means i → IsTrue (some i) × same i) → Found takes means old new → Found some same old new
+found_as takes some means same old new h f = record {
+  front = λ a. let o = f.front a in let p = h o.item o.taken o.value in record {
+    item = o.item;
+    text = o.text;
+    spelled = o.spelled;
+    taken = p.0;
+    value = p.1;
+    step = o.step;
+    answers = o.answers;
+    inherited = o.inherited;
+    described = o.described;
+    begun = o.begun;
+  };
+  spent = f.spent;
+  steady = f.steady;
+}
+
+kind_is : (k : Kind) (i : Item) → IsTrue (is_of k i) → item_kind i ≡ k
+kind_is k i q = let p = of_kind_is k i q in ap item_kind p.1 ∙ p.2
+
+none_spent : (old new : Decoding) → new.begun ≡ old.begun → Stays old.reading new.reading → Spent (refused_free (stands_under old)) old new
+none_spent old new b s = record { most = omega (arith, b, s.taken) }
+
+-- no code stands there
+pub missed_look : (k : Kind) (buffers : Bool) (old new : Decoding) (e : Error) → LooksNot buffers old new e → Missed (is_of k) true buffers old new e
+missed_look k buffers old new e n = record {
+  why = λ a i t rest w q at h.
+      let s = code_stands (stands_under old) t rest i w in
+      let r = n.rejects a in
+      excused_more old.reading new.reading e (λ b. refl) (not_refused old.reading new.reading _ s.0 e s.1 (r.why (t ++ rest) at h));
+  spent = λ a. none_spent old new n.begun n.stays;
+  steady = n.stays.steady;
+  device = n.device;
+}
+
+custom_device : (text : List ℕ) (e : Error) → IsCustom text e → IsDevice e → ⊥
+custom_device text (Message s) c d = d
+custom_device text OutOfMemory c d = d
+custom_device text (Io k) c d = c
+custom_device text _ c d = d
+
+-- a code of another kind stands there
+pub missed_custom : (k : Kind) (buffers : Bool) (old new : Decoding) (x : EncodingCodes) (text : List ℕ) (e : Error) → Looks old new x → ((row x).kind ≡ k → ⊥) → IsCustom text e → Missed (is_of k) true buffers old new e
+missed_custom k buffers old new x text e l n c = record {
+  why = λ a i t rest w q at h. absurd (n (l.kind i t rest w at ∙ kind_is k i q));
+  spent = λ a. none_spent old new l.begun l.looked.stays;
+  steady = l.looked.stays.steady;
+  device = λ d. absurd (custom_device text e c d);
+}
+
+-- an item of another kind was read
+pub missed_other : (k : Kind) (buffers : Bool) (takes : Item → Bool) (means : Item → Type 0) (old mid new : Decoding) (x : EncodingCodes) → Looks old mid x → Found takes means mid new → ((i : Item) → means i → item_kind i ≡ k → ⊥)
+    → Missed (is_of k) true buffers old new InvalidFormatCode
+missed_other k buffers takes means old mid new x l f n = record {
+  why = λ a i t rest w q at h.
+      let o = f.front l.answers in
+      let known = keeps_known old.reading.to_come mid.reading.to_come (t ++ rest) l.looked.stays.to_come at in
+      let b = behind mid.reading new.reading (t ++ rest) o.text o.step known in
+      let same = same_place old mid x l in
+      let v : Wire lenient (stands_under old) o.text o.item = rw same at (o.spelled) in
+      absurd (n o.item o.value (sym (l.kind o.item o.text b.0 v (at ∙ ap Some b.2)) ∙ l.kind i t rest w at ∙ kind_is k i q));
+  spent = λ a. let same = same_place old mid x l in let s = f.spent l.answers in spent_refused old new (spent_behind old mid new x _ l (rw same at s));
+  steady = steady_then old.reading mid.reading new.reading l.looked.stays.steady f.steady;
+  device = λ d. absurd d;
+}

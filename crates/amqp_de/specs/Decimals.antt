@@ -1,0 +1,30 @@
+-- Decimals of any width.
+use Rattle.std.specs.Prelude.{ℕ, Bool, true, false, ◌||◌, if◌then◌else◌, List, Err}
+use Rattle.amqp_base.specs.declared.error.Error.TheVariants.{InvalidFormatCode}
+use Rattle.amqp_base.specs.declared.format_code.EncodingCodes.{EncodingCodes}
+use Rattle.amqp_base.specs.Codes.{Kind, row}
+use Rattle.amqp_base.specs.SameKind.{same_kind}
+use Rattle.amqp_base.specs.Canon.{kind_of}
+use Rattle.amqp_base.specs.Item.{Scalar, decimal32, decimal64, decimal128, Item, scalar}
+use Rattle.amqp_types.specs.declared.decimal.Decimal.{Decimal}
+use Rattle.amqp_types.specs.declared.decimal.Decimal.TheVariants.{Dec32, Dec64, Dec128}
+use Rattle.amqp_de.specs.Parse.{Parsed, by_category}
+
+-- the three kinds (1.6.13 to 1.6.15)
+abbrev pub is_decimal_kind : Kind → Bool
+is_decimal_kind k = same_kind k Kind.decimal32 || (same_kind k Kind.decimal64 || same_kind k Kind.decimal128)
+
+-- an item of one of them
+abbrev pub is_decimal : Item → Bool
+is_decimal (scalar v) = is_decimal_kind (kind_of v)
+is_decimal i = false
+
+-- its data
+unfoldable pub decimal_at : EncodingCodes → List ℕ → Parsed Scalar
+decimal_at e s = if is_decimal_kind (row e).kind then by_category e (row e).category s else Err InvalidFormatCode
+
+-- what a decimal is on the wire
+abbrev pub decimal : Decimal → Scalar
+decimal (Dec32 b) = decimal32 b
+decimal (Dec64 b) = decimal64 b
+decimal (Dec128 b) = decimal128 b

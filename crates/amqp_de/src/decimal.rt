@@ -1,0 +1,149 @@
+//! Decimals.
+
+ghost use Rattle.std.specs.Prelude.{◌≡◌, true, ◌||◌, IsTrue, IfOk, IfErr};
+ghost use Rattle.amqp_base.specs.Codes.{row, codes};
+ghost use Rattle.amqp_base.specs.Canon.{kind_of};
+ghost use Rattle.amqp_base.specs.Item.{scalar};
+ghost use Rattle.amqp_base.specs.Typing.{is_of};
+ghost use Rattle.amqp_base.specs.declared.error.Error.TheVariants.{InvalidFormatCode};
+ghost use Rattle.amqp_de.specs.Decimals.{is_decimal_kind, is_decimal, decimal_at, decimal};
+ghost use Rattle.amqp_de.specs.Decoding.{stands_under};
+ghost use Rattle.amqp_de.specs.Law.{Found, Missed};
+ghost use Rattle.amqp_de.specs.OneCode.{alone};
+ghost use Rattle.amqp_de.specs.Parse.{item_at, behind_byte};
+ghost use Rattle.amqp_de.specs.Steps.{IsData, Rejects, Exact, Stops};
+
+use crate::{Deserialize, Deserializer};
+use amqp_base::{EncodingCodes, Error};
+use amqp_read::{Read, read_const_bytes};
+use amqp_types::{Dec32, Dec64, Dec128, Decimal};
+use std::alloc::Global;
+
+/// The data of a decimal's code, given its byte.
+#[inline(always)]
+fn data<R: Read>(reader: &mut R, code: u8) -> Result<Decimal, Error>
+    ensures ok { IfOk result (λ d. IsData code (scalar (decimal d)) (R.reading reader.old) (R.reading reader.new)) }
+    ensures err { IfErr result (λ e. Rejects R.buffers R.buffers (behind_byte decimal_at code) (R.reading reader.old) (R.reading reader.new) e) }
+{
+    match code {
+        0x74 => match read_const_bytes::<R, 4>(reader) {
+            Ok(bytes) => Ok(Decimal::Dec32(Dec32::from(bytes))),
+            Err(e) => Err(e),
+        },
+        0x84 => match read_const_bytes::<R, 8>(reader) {
+            Ok(bytes) => Ok(Decimal::Dec64(Dec64::from(bytes))),
+            Err(e) => Err(e),
+        },
+        0x94 => match read_const_bytes::<R, 16>(reader) {
+            Ok(bytes) => Ok(Decimal::Dec128(Dec128::from(bytes))),
+            Err(e) => Err(e),
+        },
+        _ => Err(Error::InvalidFormatCode),
+    }
+}
+
+impl<R: Read> Deserializer<R> {
+    /// A decimal of any of the three widths (part 1, sections 1.6.13 to 1.6.15): its 4, 8 or 16 bytes, as they are.
+    ///
+    /// `Io(UnexpectedEof)` where bytes are missing, `InvalidFormatCode` where another item stands. A refusal ends the
+    /// deserializer.
+    #[inline(always)]
+    pub fn deserialize_decimal(&mut self) -> Result<Decimal, Error>
+        ensures ok { IfOk result (λ d. Found is_decimal (λ i. i ≡ scalar (decimal d)) self.old self.new) }
+        ensures err { IfErr result (λ e. Missed is_decimal R.buffers R.buffers self.old self.new e) }
+        ensures exact { IsTrue self.old.answers → Exact decimal R.buffers R.buffers (item_at decimal_at (stands_under self.old)) self.old.reading result self.new.reading }
+        ensures stops { Stops self.old result self.new }
+    {
+        if !self.answers {
+            return Err(Error::InvalidValue);
+        }
+        match self.begin() {
+            Ok(code) => match data(&mut self.reader, code) {
+                Ok(value) => {
+                    self.answers = true;
+                    Ok(value)
+                }
+                Err(e) => Err(e),
+            },
+            Err(e) => Err(e),
+        }
+    }
+}
+
+/// A decimal, where no code of another width stands than the one that is wanted.
+#[inline(always)]
+fn of_width<R: Read>(
+    alloc: Global,
+    de: &mut Deserializer<R>,
+    wanted: EncodingCodes,
+    refusal: &'static str,
+) -> Result<Decimal, Error>
+    requires { IsTrue (alone (row wanted).kind (row wanted).byte codes) × IsTrue (is_decimal_kind (row wanted).kind) }
+    ensures ok { IfOk result (λ d. Found is_decimal (λ i. i ≡ scalar (decimal d)) de.old de.new) }
+    ensures other { IfOk result (λ d. (kind_of (decimal d) ≡ (row wanted).kind → ⊥) → Missed (is_of (row wanted).kind) true R.buffers de.old de.new InvalidFormatCode) }
+    ensures err { IfErr result (λ e. Missed (is_of (row wanted).kind) true R.buffers de.old de.new e) }
+{
+    match de.deserialize_any() {
+        Ok(code) => {
+            let byte = code.byte();
+            if (byte == 0x74 || byte == 0x84 || byte == 0x94) && byte != wanted.byte() {
+                return Err(Error::custom(alloc, refusal));
+            }
+            match de.deserialize_decimal() {
+                Ok(value) => Ok(value),
+                Err(e) => Err(e),
+            }
+        }
+        Err(e) => Err(e),
+    }
+}
+
+impl<R: Read> Deserialize<R> for Dec32 {
+    /// A decimal32 (part 1, section 1.6.13). A decimal of another width is a `Message`, before its data are looked at, and
+    /// consumes nothing; else the refusals are those of `deserialize_decimal`.
+    #[tactic(auto, unfolding(amqp_base::specs::Codes::row, amqp_base::specs::SameKind::same_kind, amqp_base::specs::SameKind::place))]
+    fn deserialize(alloc: Global, de: &mut Deserializer<R>) -> Result<Dec32, Error> {
+        match of_width(alloc, de, EncodingCodes::Decimal32, "expected a decimal32") {
+            Ok(decimal) => match decimal {
+                Decimal::Dec32(value) => Ok(value),
+                _ => Err(Error::InvalidFormatCode),
+            },
+            Err(e) => Err(e),
+        }
+    }
+}
+
+impl<R: Read> Deserialize<R> for Dec64 {
+    /// A decimal64 (part 1, section 1.6.14). A decimal of another width is a `Message`, before its data are looked at, and
+    /// consumes nothing; else the refusals are those of `deserialize_decimal`.
+    #[tactic(auto, unfolding(amqp_base::specs::Codes::row, amqp_base::specs::SameKind::same_kind, amqp_base::specs::SameKind::place))]
+    fn deserialize(alloc: Global, de: &mut Deserializer<R>) -> Result<Dec64, Error> {
+        match of_width(alloc, de, EncodingCodes::Decimal64, "expected a decimal64") {
+            Ok(decimal) => match decimal {
+                Decimal::Dec64(value) => Ok(value),
+                _ => Err(Error::InvalidFormatCode),
+            },
+            Err(e) => Err(e),
+        }
+    }
+}
+
+impl<R: Read> Deserialize<R> for Dec128 {
+    /// A decimal128 (part 1, section 1.6.15). A decimal of another width is a `Message`, before its data are looked at,
+    /// and consumes nothing; else the refusals are those of `deserialize_decimal`.
+    #[tactic(auto, unfolding(amqp_base::specs::Codes::row, amqp_base::specs::SameKind::same_kind, amqp_base::specs::SameKind::place))]
+    fn deserialize(alloc: Global, de: &mut Deserializer<R>) -> Result<Dec128, Error> {
+        match of_width(
+            alloc,
+            de,
+            EncodingCodes::Decimal128,
+            "expected a decimal128",
+        ) {
+            Ok(decimal) => match decimal {
+                Decimal::Dec128(value) => Ok(value),
+                _ => Err(Error::InvalidFormatCode),
+            },
+            Err(e) => Err(e),
+        }
+    }
+}
