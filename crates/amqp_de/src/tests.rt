@@ -4,6 +4,7 @@ mod lists;
 mod looks;
 mod refusals;
 mod scalars;
+mod tuples;
 
 use crate::{Deserialize, Deserializer};
 use amqp_base::Error;
