@@ -11,6 +11,7 @@ pub mod Headers
 pub mod Opening
 pub mod Sequence
 pub mod ReadParts
+pub mod JustSoMany
 pub mod Looking
 pub mod LookedFirst
 pub mod Decimals

@@ -11,7 +11,7 @@ use Rattle.amqp_de.specs.Law.{Excused, free}
 use Rattle.amqp_de.specs.Parse.{Parsed, byte_under, behind_byte, item_at, list_data}
 use Rattle.amqp_de.specs.Steps.{Begins, BeginsNot, IsDescribed, Rejects, ParsesAs}
 use Rattle.amqp_de.specs.Access.{Listing, HasParts, shared_by, cost, OpensData, Opens, OpensExactly, OpensNot}
-use Rattle.amqp_de.proofs.Readings.{steady_then, takes_then, excused_before, excused_more}
+use Rattle.amqp_de.proofs.Readings.{steady_then, takes_then, excused_before}
 use Rattle.amqp_de.proofs.Answered.{byte_stands, not_refused}
 use Rattle.amqp_de.proofs.Data.{behind_code}
 use Rattle.amqp_de.proofs.Headers.{list_parses}
@@ -80,20 +80,20 @@ opens_exactly old mid r x c begun left limit b d = record {
       (p.0, p.1, parsed_list (stands_under old) s x o.0 _ o.2 p.2);
 }
 
-refused_list : {buffers : Bool} (old new : Decoding) (e : Error) → BeginsNot buffers old new e → Rejects true buffers (item_at list_data (stands_under old)) old.reading new.reading e
+refused_list : {buffers : Bool} (old new : Decoding) (e : Error) → BeginsNot buffers old new e → Rejects buffers buffers (item_at list_data (stands_under old)) old.reading new.reading e
 refused_list {buffers = buffers} old new e n = record { why = λ s at h. tell s (n.rejects.why s at h); steady = n.rejects.steady; device = n.rejects.device }
   where
-    tell : (s : List ℕ) → (byte_under (stands_under old) s ≡ Err e) ⊎ Excused buffers buffers old.reading new.reading e → (item_at list_data (stands_under old) s ≡ Err e) ⊎ Excused true buffers old.reading new.reading e
+    tell : (s : List ℕ) → (byte_under (stands_under old) s ≡ Err e) ⊎ Excused buffers buffers old.reading new.reading e → (item_at list_data (stands_under old) s ≡ Err e) ⊎ Excused buffers buffers old.reading new.reading e
     tell s (inl p) = inl (no_list (stands_under old) s e p)
-    tell s (inr y) = inr (excused_more old.reading new.reading e (λ _. refl) y)
+    tell s (inr y) = inr y
 
-pub opens_no_item : (buffers : Bool) (old new : Decoding) (e : Error) → IsTrue old.answers → BeginsNot buffers old new e → OpensNot list_data buffers old new e
+pub opens_no_item : (buffers : Bool) (old new : Decoding) (e : Error) → IsTrue old.answers → BeginsNot buffers old new e → OpensNot list_data buffers buffers old new e
 opens_no_item buffers old new e a n = record {
   unanswered = λ c. absurd cc (a, c);
   rejects = λ _. refused_list old new e n;
   why = λ t rest i is p w at h _.
       let s = byte_stands (stands_under old) t rest i (has_bare i is p) w in
-      excused_more old.reading new.reading e (λ _. refl) (not_refused old.reading new.reading _ s.0 e s.1 (n.rejects.why (t ++ rest) at h));
+      not_refused old.reading new.reading _ s.0 e s.1 (n.rejects.why (t ++ rest) at h);
   steady = n.rejects.steady;
   device = n.rejects.device;
   closed = n.closed;
@@ -104,7 +104,7 @@ opens_no_item buffers old new e a n = record {
 abbrev pub refused_data : Decoding → Reading → Decoding
 refused_data mid r = record { reading = r; answers = mid.answers; inherited = mid.inherited; described = mid.described; begun = mid.begun }
 
-pub opens_no_list : (buffers : Bool) (old mid : Decoding) (r : Reading) (x : ℕ) (e : Error) → IsTrue old.answers → Begins old mid x → Rejects buffers buffers (behind_byte list_data x) mid.reading r e → OpensNot list_data buffers old (refused_data mid r) e
+pub opens_no_list : (buffers : Bool) (old mid : Decoding) (r : Reading) (x : ℕ) (e : Error) → IsTrue old.answers → Begins old mid x → Rejects buffers buffers (behind_byte list_data x) mid.reading r e → OpensNot list_data buffers buffers old (refused_data mid r) e
 opens_no_list buffers old mid r x e a b n = record {
   unanswered = λ c. absurd cc (a, c);
   rejects = λ _. record {
@@ -115,19 +115,16 @@ opens_no_list buffers old mid r x e a b n = record {
   why = λ t rest i is p w at h _.
       let o = b.only t rest i (has_bare i is p) w at in
       let q = list_parses o.0 o.1 rest i is p o.3 in
-      more (excused_before old.reading mid.reading r b.text e b.step (not_refused mid.reading r _ q.0 e (behind_code list_data x o.0 (o.1 ++ rest) o.2 ∙ q.1) (n.why (o.1 ++ rest) o.4 (b.step.steady.honest ∙ h))));
+      excused_before old.reading mid.reading r b.text e b.step (not_refused mid.reading r _ q.0 e (behind_code list_data x o.0 (o.1 ++ rest) o.2 ∙ q.1) (n.why (o.1 ++ rest) o.4 (b.step.steady.honest ∙ h)));
   steady = steady_then old.reading mid.reading r b.step.steady n.steady;
   device = device;
   closed = b.closed;
   few = omega (arith, b.begun);
 }
   where
-    more : Excused buffers buffers old.reading r e → Excused true buffers old.reading r e
-    more y = excused_more old.reading r e (λ _. refl) y
-
     device : IsDevice e → old.reading.faults < r.faults
     device d = let f = b.step.steady.faults in let g = n.device d in omega (arith, f, g)
 
-    tell : (s rest : List ℕ) → byte_under (stands_under old) s ≡ Ok (x, rest) → (behind_byte list_data x rest ≡ Err e) ⊎ Excused buffers buffers mid.reading r e → (item_at list_data (stands_under old) s ≡ Err e) ⊎ Excused true buffers old.reading r e
+    tell : (s rest : List ℕ) → byte_under (stands_under old) s ≡ Ok (x, rest) → (behind_byte list_data x rest ≡ Err e) ⊎ Excused buffers buffers mid.reading r e → (item_at list_data (stands_under old) s ≡ Err e) ⊎ Excused buffers buffers old.reading r e
     tell s rest o (inl p) = inl (parsed_list (stands_under old) s x rest (Err e) o p)
-    tell s rest o (inr y) = inr (more (excused_before old.reading mid.reading r b.text e b.step y))
+    tell s rest o (inr y) = inr (excused_before old.reading mid.reading r b.text e b.step y)

@@ -1,5 +1,5 @@
 -- Reading an item part by part, each part by a type of its own.
-use Rattle.std.proofs.Common.{◌≡◌, ℕ, suc, ◌+◌, Bool, true, false, List, [], ◌∷◌, ◌++◌, length, Option, Some, None, Result, Ok, Err, IfOk, IfErr, IsErrAnd, OnOk, refl, sym, ap, subst, ◌∙◌, arith, inl, inr, ◌⊎◌, append_assoc, IsTrue}
+use Rattle.std.proofs.Common.{◌≡◌, ℕ, suc, ◌+◌, Bool, true, false, ◌||◌, List, [], ◌∷◌, ◌++◌, length, Option, Some, None, Result, Ok, Err, IfOk, IfErr, IsErrAnd, OnOk, refl, sym, ap, subst, ◌∙◌, arith, inl, inr, ◌⊎◌, append_assoc, IsTrue}
 use Rattle.std.proofs.lemmas.List.{length-append, append-nil}
 use Rattle.amqp_base.specs.declared.error.Error.{Error}
 use Rattle.amqp_base.specs.declared.error.Error.TheVariants.{InvalidValue, SequenceLengthMismatch}
@@ -12,10 +12,10 @@ use Rattle.amqp_base.proofs.OneFront.{same_wire}
 use Rattle.amqp_read.specs.Reading.{Steady}
 use Rattle.amqp_de.specs.Decoding.{Decoding, stands_under}
 use Rattle.amqp_de.specs.Law.{Found, Missed, Excused, Spent, free}
-use Rattle.amqp_de.specs.Parse.{list_data}
+use Rattle.amqp_de.specs.Parse.{item_at, list_data}
 use Rattle.amqp_de.specs.Access.{Listing, Within, HasParts, items_of_all, Opens, OpensNot, Part, NoPart, Next, Ends, ended}
 use Rattle.amqp_de.specs.ReadParts.{Progress, HasRead, MoreRead, RefusesParts, and_last, joined}
-use Rattle.amqp_de.proofs.Readings.{takes_nothing, steady_then, takes_then, behind, excused_before, excused_more}
+use Rattle.amqp_de.proofs.Readings.{takes_nothing, steady_then, takes_then, behind, excused_before, excused_more, rejects_more}
 use Rattle.amqp_de.proofs.Answered.{free_refused, one_refused}
 use Rattle.amqp_de.proofs.Sequence.{left_of, within_less, within_all, stands_is, cost_step, refused_two}
 
@@ -70,17 +70,29 @@ meant_fields ms (described d v) js p t = absurd p
 -- ---- the steps
 
 -- no list was opened
-pub fields_unopened : (fields : List (Item → Bool)) (buffers : Bool) (old last : Decoding) (e : Error) → OpensNot list_data buffers old last e → Missed (takes_fields fields) true buffers old last e
-fields_unopened fields buffers old last e o = record {
+pub fields_unopened : (fields : List (Item → Bool)) (grows buffers : Bool) (old last : Decoding) (e : Error) → OpensNot list_data grows buffers old last e → Missed (takes_fields fields) grows buffers old last e
+fields_unopened fields grows buffers old last e o = record {
   why = λ a i text rest' w t at h. let p = parts_of_fields fields i t in o.why text rest' i p.0 p.1 w at h a;
   spent = λ _. record { most = let f = o.few in let s = o.steady.taken in omega (arith, f, s, one_refused (stands_under old)) };
   steady = o.steady;
   device = o.device;
 }
 
-pub parts_refused : {A : Type 0} (buffers : Bool) (old last : Decoding) (r : Result A Error) → IfErr r (λ e. OpensNot list_data buffers old last e) → IfErr r (λ e. RefusesParts buffers old last e)
+-- lists take no memory, but other items may
+opens_not_more : (buffers : Bool) (old last : Decoding) (e : Error) → OpensNot list_data buffers buffers old last e → OpensNot list_data true buffers old last e
+opens_not_more buffers old last e o = record {
+  unanswered = o.unanswered;
+  rejects = λ a. rejects_more (item_at list_data (stands_under old)) old.reading last.reading e (λ _. refl) (o.rejects a);
+  why = λ t rest' i is p w at h a. excused_more old.reading last.reading e (λ _. refl) (o.why t rest' i is p w at h a);
+  steady = o.steady;
+  device = o.device;
+  closed = o.closed;
+  few = o.few;
+}
+
+pub parts_refused : {A : Type 0} (buffers : Bool) (old last : Decoding) (r : Result A Error) → IfErr r (λ e. OpensNot list_data buffers buffers old last e) → IfErr r (λ e. RefusesParts buffers old last e)
 parts_refused buffers old last (Ok v) o = o
-parts_refused buffers old last (Err e) o = record { not_opened = o; missed = λ fields. fields_unopened fields buffers old last e o }
+parts_refused buffers old last (Err e) o = let m = opens_not_more buffers old last e o in record { not_opened = m; missed = λ fields. fields_unopened fields true buffers old last e m }
 
 pub progress_start : (old : Decoding) (l : Listing) → Opens old l → (all : List (Item → Bool)) → Progress old all all none l
 progress_start old l o all = record {
@@ -155,7 +167,7 @@ module _ (old : Decoding) (all others : List (Item → Bool)) (parts : Items) (n
           (js, b, w, j ∙ item, omega (arith, n, p.left), k.1 ∙ ap Some (rest p.front.text a k.0 (b ++ rest') s'.0 (sym k.2)), omega (arith, len, length-append a b, same, p.front.step.taken))
 
   -- a part was refused
-  pub field_missed : (t : Item → Bool) (behind_it : List (Item → Bool)) (grows buffers : Bool) (next : Listing) (last : Decoding) (e : Error) → others ≡ t ∷ behind_it → NoPart t grows buffers now next e → last ≡ next.state → Missed (takes_fields all) true buffers old last e
+  pub field_missed : (t : Item → Bool) (behind_it : List (Item → Bool)) (grows buffers : Bool) (next : Listing) (last : Decoding) (e : Error) → others ≡ t ∷ behind_it → NoPart t grows buffers now next e → last ≡ next.state → Missed (takes_fields all) grows buffers old last e
   field_missed t behind_it grows buffers next last e split n l = record {
     why = λ a i text rest' w t' at h.
         let p = parts_of_fields all i t' in
@@ -168,10 +180,10 @@ module _ (old : Decoding) (all others : List (Item → Bool)) (parts : Items) (n
     device = λ d. rw l (let f = whole_step.faults in let g = n.device d in omega (arith, f, g));
   }
     where
-      tell : Excused grows buffers now.state.reading next.state.reading e → Excused true buffers old.reading last.reading e
-      tell y = rw l (excused_more old.reading next.state.reading e (λ _. refl) (excused_before old.reading now.state.reading next.state.reading (s.opened.text ++ s.text) e (takes_then old.reading s.from.state.reading now.state.reading s.opened.text s.text s.opened.step s.step) y))
+      tell : Excused grows buffers now.state.reading next.state.reading e → Excused grows buffers old.reading last.reading e
+      tell y = rw l (excused_before old.reading now.state.reading next.state.reading (s.opened.text ++ s.text) e (takes_then old.reading s.from.state.reading now.state.reading s.opened.text s.text s.opened.step s.step) y)
 
-      go : (js : Items) (y rest' : List ℕ) → Parts lenient s.from.state.inherited y js → IsTrue (all_fields (t ∷ behind_it) js) → count js ≡ now.left → now.state.reading.to_come ≡ Some (y ++ rest') → Within s.from.limit (now.state.reading.taken + length y) → IsTrue now.state.reading.honest → Excused true buffers old.reading last.reading e
+      go : (js : Items) (y rest' : List ℕ) → Parts lenient s.from.state.inherited y js → IsTrue (all_fields (t ∷ behind_it) js) → count js ≡ now.left → now.state.reading.to_come ≡ Some (y ++ rest') → Within s.from.limit (now.state.reading.taken + length y) → IsTrue now.state.reading.honest → Excused grows buffers old.reading last.reading e
       go none y rest' w t' c at f h = absurd (omega (arith, c, n.some_left s.answers))
       go (more j js) _ rest' (part a b' k w) t' c at f h =
           let k' : Wire lenient (stands_under now.state) a j = rw here k in
@@ -182,9 +194,9 @@ module _ (old : Decoding) (all others : List (Item → Bool)) (parts : Items) (n
   fields_spent last b r = record { most = rw (b, r) (omega (arith, s.spent, s.opened.spent)) }
 
   -- what is refused, as it isn't taken
-  not_taken : (buffers : Bool) (last : Decoding) → last.reading ≡ now.state.reading → last.begun ≡ now.state.begun
-      → ((js : Items) → count js ≡ now.left → IsTrue (all_fields others js) → ⊥) → Missed (takes_fields all) true buffers old last SequenceLengthMismatch
-  not_taken buffers last r b absent = record {
+  pub not_taken : (grows buffers : Bool) (last : Decoding) → last.reading ≡ now.state.reading → last.begun ≡ now.state.begun
+      → ((js : Items) → count js ≡ now.left → IsTrue (all_fields others js) → ⊥) → Missed (takes_fields all) grows buffers old last SequenceLengthMismatch
+  not_taken grows buffers last r b absent = record {
     why = λ a i text rest' w t' at h.
         let p = parts_of_fields all i t' in
         let q = s.opened.only text rest' i p.0 p.1 w at in
@@ -196,8 +208,8 @@ module _ (old : Decoding) (all others : List (Item → Bool)) (parts : Items) (n
   }
 
   -- the parts are used up, and a field is left
-  pub too_few : (t : Item → Bool) (behind_it : List (Item → Bool)) (buffers : Bool) (last : Decoding) → others ≡ t ∷ behind_it → now.left ≡ 0 → last ≡ now.state → Missed (takes_fields all) true buffers old last SequenceLengthMismatch
-  too_few t behind_it buffers last split z l = not_taken buffers last (ap (λ (d : Decoding). d.reading) l) (ap (λ (d : Decoding). d.begun) l) absent
+  pub too_few : (t : Item → Bool) (behind_it : List (Item → Bool)) (buffers : Bool) (last : Decoding) → others ≡ t ∷ behind_it → now.left ≡ 0 → last ≡ now.state → Missed (takes_fields all) false buffers old last SequenceLengthMismatch
+  too_few t behind_it buffers last split z l = not_taken false buffers last (ap (λ (d : Decoding). d.reading) l) (ap (λ (d : Decoding). d.begun) l) absent
     where
       absent : (js : Items) → count js ≡ now.left → IsTrue (all_fields others js) → ⊥
       absent none c t' = cc (ap (λ (x : List (Item → Bool)). all_fields x none) split, t')
@@ -229,16 +241,16 @@ module _ (old : Decoding) (all others : List (Item → Bool)) (parts : Items) (n
       taken = ap (λ (x : Items). all_fields all x) (sym (join_none parts)) ∙ (s.fields none ∙ ap (λ (x : List (Item → Bool)). all_fields x none) e)
 
   -- the end was refused
-  pub too_many : (buffers : Bool) (last : Decoding) (e : Error) → others ≡ [] → Ends now (Err e) last → Missed (takes_fields all) true buffers old last e
+  pub too_many : (buffers : Bool) (last : Decoding) (e : Error) → others ≡ [] → Ends now (Err e) last → Missed (takes_fields all) false buffers old last e
   too_many buffers last e o n = tell n.3
     where
       absent : (now.left ≡ 0 → ⊥) → (js : Items) → count js ≡ now.left → IsTrue (all_fields others js) → ⊥
       absent some none c t' = some (sym c)
       absent some (more j js) c t' = cc (ap (λ (x : List (Item → Bool)). all_fields x (more j js)) o, t')
 
-      tell : ((now.answers ≡ false) × (e ≡ InvalidValue)) ⊎ (IsTrue now.answers × (now.left ≡ 0 → ⊥) × (e ≡ SequenceLengthMismatch)) → Missed (takes_fields all) true buffers old last e
+      tell : ((now.answers ≡ false) × (e ≡ InvalidValue)) ⊎ (IsTrue now.answers × (now.left ≡ 0 → ⊥) × (e ≡ SequenceLengthMismatch)) → Missed (takes_fields all) false buffers old last e
       tell (inl p) = absurd cc (p.0, s.answers)
-      tell (inr p) = rw p.2 (not_taken buffers last n.1 n.2 (absent p.1))
+      tell (inr p) = rw p.2 (not_taken false buffers last n.1 n.2 (absent p.1))
 
 -- the parts mean the fields
 pub found_meant : (fields : List (Item → Bool)) (ms : List {1} (Item → Type 0)) (parts : Items) (old new : Decoding) → Found (takes_fields fields) (λ i. HasParts i parts) old new → all_meanings ms parts → Found (takes_fields fields) (λ i. means_fields ms i) old new
@@ -260,6 +272,28 @@ found_meant fields ms parts old new f m = record {
 }
 
 -- ---- the calls
+
+-- more may be refused for want of memory
+pub missed_more : {takes : Item → Bool} {more grows buffers : Bool} {old last : Decoding} {e : Error} → (IsTrue more → IsTrue grows) → Missed takes more buffers old last e → Missed takes grows buffers old last e
+missed_more {old = old} {last = last} {e = e} g m = record {
+  why = λ a i text rest' w t at h. excused_more old.reading last.reading e g (m.why a i text rest' w t at h);
+  spent = m.spent;
+  steady = m.steady;
+  device = m.device;
+}
+
+-- for the flag of a type with fields
+pub or_left : (a b : Bool) → IsTrue a → IsTrue (a || b)
+or_left true b h = refl
+or_left false b h = absurd cc
+
+pub or_right : (a b : Bool) → IsTrue b → IsTrue (a || b)
+or_right true b h = refl
+or_right false b h = h
+
+pub or_more : (a b c : Bool) → (IsTrue a → IsTrue b) → IsTrue (a || c) → IsTrue (b || c)
+or_more true b c p h = or_left b c (p refl)
+or_more false b c p h = or_right b c h
 
 some_same : {A : Type 0} {x y : A} → Some x ≡ Some y → x ≡ y
 some_same e = cc
@@ -283,14 +317,14 @@ module _ (buffers : Bool) (now : Listing) where
 
   -- none is left, though one is wanted
   pub next_none : {T : Type 0} (t : Item → Bool) (means : Item → T → Type 0) (grows : Bool) (next : Listing) (r : Result (Option T) Error) → Next t means grows buffers now r next
-      → IfOk r (λ o. o ≡ None → (old : Decoding) (all rest : List (Item → Bool)) → HasRead old all (t ∷ rest) now → Missed (takes_fields all) true buffers old next.state SequenceLengthMismatch)
+      → IfOk r (λ o. o ≡ None → (old : Decoding) (all rest : List (Item → Bool)) → HasRead old all (t ∷ rest) now → Missed (takes_fields all) false buffers old next.state SequenceLengthMismatch)
   next_none t means grows next (Ok None) n = λ e old all rest s. too_few old all (t ∷ rest) s.parts now s.progress t rest buffers next.state refl n.0 (ap (λ (l : Listing). l.state) n.1)
   next_none t means grows next (Ok (Some w)) n = λ e. absurd cc
   next_none t means grows next (Err e) n = tt
 
   -- the next part is refused
   pub next_missed : {T : Type 0} (t : Item → Bool) (means : Item → T → Type 0) (grows : Bool) (next : Listing) (r : Result (Option T) Error) → Next t means grows buffers now r next
-      → IfErr r (λ e. (old : Decoding) (all rest : List (Item → Bool)) → HasRead old all (t ∷ rest) now → Missed (takes_fields all) true buffers old next.state e)
+      → IfErr r (λ e. (old : Decoding) (all rest : List (Item → Bool)) → HasRead old all (t ∷ rest) now → Missed (takes_fields all) grows buffers old next.state e)
   next_missed t means grows next (Ok o) n = tt
   next_missed t means grows next (Err e) n = λ old all rest s. field_missed old all (t ∷ rest) s.parts now s.progress t rest grows buffers next next.state e refl n refl
 
@@ -301,7 +335,7 @@ module _ (buffers : Bool) (now : Listing) where
   end_found (Err e) last n = tt
 
   pub end_missed : (r : Result (Unit {0}) Error) (last : Decoding) → Ends now r last
-      → IfErr r (λ e. (old : Decoding) (all : List (Item → Bool)) → HasRead old all [] now → Missed (takes_fields all) true buffers old last e)
+      → IfErr r (λ e. (old : Decoding) (all : List (Item → Bool)) → HasRead old all [] now → Missed (takes_fields all) false buffers old last e)
   end_missed (Ok u) last n = tt
   end_missed (Err e) last n = λ old all s. too_many old all [] s.parts now s.progress buffers last e refl n
 
@@ -314,13 +348,21 @@ reads_begun old (Ok o) l p = reads_start old (l o) p
 reads_begun old (Err e) l p = p
 
 -- where the deserializer stands in the end
-pub missed_at : {takes : Item → Bool} {grows buffers : Bool} {old : Decoding} {e : Error} (last x : Decoding) → last ≡ x → Missed takes grows buffers old x e → Missed takes grows buffers old last e
-missed_at last x l m = rw l m
+pub missed_here : {takes : Item → Bool} {more grows buffers : Bool} {old : Decoding} {e : Error} (last x : Decoding) → (IsTrue more → IsTrue grows) → last ≡ x → Missed takes more buffers old x e → Missed takes grows buffers old last e
+missed_here last x g l m = rw l (missed_more g m)
+
+-- the same of a type that takes memory
+pub missed_at : {takes : Item → Bool} {more buffers : Bool} {old : Decoding} {e : Error} (last x : Decoding) → last ≡ x → Missed takes more buffers old x e → Missed takes true buffers old last e
+missed_at last x l m = missed_here last x (λ _. refl) l m
 
 pub found_at : {takes : Item → Bool} {means : Item → Type 0} {old : Decoding} (last x : Decoding) → last ≡ x → Found takes means old x → Found takes means old last
 found_at last x l m = rw l m
 
 -- a refusal that `?` passes on
-pub missed_on : {A : Type 0} {takes : Item → Bool} {grows buffers : Bool} {old : Decoding} {e : Error} (r : Result A Error) (last x : Decoding) → IsErrAnd r (λ y. y ≡ e) → last ≡ x → Missed takes grows buffers old x e → IfErr r (λ y. Missed takes grows buffers old last y)
-missed_on (Ok v) last x h l m = absurd h
-missed_on (Err y) last x h l m = rw (h, l) m
+pub missed_by : {A : Type 0} {takes : Item → Bool} {more grows buffers : Bool} {old : Decoding} {e : Error} (r : Result A Error) (last x : Decoding) → (IsTrue more → IsTrue grows) → IsErrAnd r (λ y. y ≡ e) → last ≡ x → Missed takes more buffers old x e → IfErr r (λ y. Missed takes grows buffers old last y)
+missed_by (Ok v) last x g h l m = absurd h
+missed_by (Err y) last x g h l m = rw (h, l) (missed_more g m)
+
+-- the same of a type that takes memory
+pub missed_on : {A : Type 0} {takes : Item → Bool} {more buffers : Bool} {old : Decoding} {e : Error} (r : Result A Error) (last x : Decoding) → IsErrAnd r (λ y. y ≡ e) → last ≡ x → Missed takes more buffers old x e → IfErr r (λ y. Missed takes true buffers old last y)
+missed_on r last x h l m = missed_by r last x (λ _. refl) h l m

@@ -174,9 +174,9 @@ pub within_all : (l : Option ℕ) (m n : ℕ) → m ≡ n → Within l n → Wit
 within_all l m n e w = rw e w
 
 -- no list was opened
-pub none_opened : (takes : Item → Bool) (buffers : Bool) (old last : Decoding) (e : Error) → OpensNot list_data buffers old last e → Missed (is_list_of takes) true buffers old last e
+pub none_opened : {grows : Bool} (takes : Item → Bool) (buffers : Bool) (old last : Decoding) (e : Error) → OpensNot list_data grows buffers old last e → Missed (is_list_of takes) true buffers old last e
 none_opened takes buffers old last e o = record {
-  why = λ a i text rest' w t at h. let p = parts_of takes i t in o.why text rest' i p.0 p.1 w at h a;
+  why = λ a i text rest' w t at h. let p = parts_of takes i t in excused_more old.reading last.reading e (λ _. refl) (o.why text rest' i p.0 p.1 w at h a);
   spent = λ _. record { most = let f = o.few in let s = o.steady.taken in omega (arith, f, s, one_refused (stands_under old)) };
   steady = o.steady;
   device = o.device;

@@ -95,11 +95,11 @@ pub record OpensExactly (parse : EncodingCodes → List ℕ → Parsed ℕ) (old
   pub exact : (s : List ℕ) → old.reading.to_come ≡ Some s → (rest : List ℕ) × (l.state.reading.to_come ≡ Some rest) × (item_at parse (stands_under old) s ≡ Ok (l.left, rest))
 
 -- no item with parts was begun
-pub record OpensNot (parse : EncodingCodes → List ℕ → Parsed ℕ) (buffers : Bool) (old new : Decoding) (err : Error) : Type 0 where
+pub record OpensNot (parse : EncodingCodes → List ℕ → Parsed ℕ) (grows buffers : Bool) (old new : Decoding) (err : Error) : Type 0 where
   -- a call that isn't answered changes nothing
   pub unanswered : old.answers ≡ false → (err ≡ InvalidValue) × (new ≡ old)
-  pub rejects : IsTrue old.answers → Rejects true buffers (item_at parse (stands_under old)) old.reading new.reading err
-  pub why : (t rest : List ℕ) (i : Item) (is : Items) → HasParts i is → Wire lenient (stands_under old) t i → old.reading.to_come ≡ Some (t ++ rest) → IsTrue old.reading.honest → IsTrue old.answers → Excused true buffers old.reading new.reading err
+  pub rejects : IsTrue old.answers → Rejects grows buffers (item_at parse (stands_under old)) old.reading new.reading err
+  pub why : (t rest : List ℕ) (i : Item) (is : Items) → HasParts i is → Wire lenient (stands_under old) t i → old.reading.to_come ≡ Some (t ++ rest) → IsTrue old.reading.honest → IsTrue old.answers → Excused grows buffers old.reading new.reading err
   pub steady : Steady old.reading new.reading
   pub device : IsDevice err → old.reading.faults < new.reading.faults
   pub closed : new.answers ≡ false

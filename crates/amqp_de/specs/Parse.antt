@@ -1,9 +1,9 @@
 -- What stands at the front of the bytes, or the first rule that they break.
-use Rattle.std.specs.Prelude.{ℕ, zero, suc, Bool, true, false, ◌&&◌, nat_lt, if◌then◌else◌, List, [], ◌∷◌, length, take, drop, Option, Some, None, Result, Ok, Err}
+use Rattle.std.specs.Prelude.{ℕ, zero, suc, ◌==◌, Bool, true, false, ◌&&◌, nat_lt, if◌then◌else◌, List, [], ◌∷◌, length, take, drop, Option, Some, None, Result, Ok, Err}
 use Rattle.std.specs.Str.{is_utf8}
 use Rattle.std.specs.declared.io.ErrorKind.TheVariants.{UnexpectedEof}
 use Rattle.amqp_base.specs.declared.error.Error.{Error}
-use Rattle.amqp_base.specs.declared.error.Error.TheVariants.{Io, InvalidFormatCode, InvalidValue, InvalidUtf8Encoding, InvalidLength}
+use Rattle.amqp_base.specs.declared.error.Error.TheVariants.{Io, InvalidFormatCode, InvalidValue, InvalidUtf8Encoding, SequenceLengthMismatch, InvalidLength}
 use Rattle.amqp_base.specs.declared.format_code.EncodingCodes.{EncodingCodes}
 use Rattle.amqp_base.specs.declared.format_code.EncodingCodes.TheVariants.{DescribedType, List0, List8, List32}
 use Rattle.amqp_base.specs.declared.format_code.Category.{Category}
@@ -128,3 +128,10 @@ list_data List0 s = Ok (0, s)
 list_data List8 s = count_at 1 s
 list_data List32 s = count_at 4 s
 list_data _ s = Err InvalidFormatCode
+
+abbrev pub of_length : ℕ → ℕ → List ℕ → Parsed ℕ
+of_length len n s = if n == len then Ok (n, s) else Err SequenceLengthMismatch
+
+-- the same of a list that has just so many elements
+unfoldable pub tuple_data : ℕ → EncodingCodes → List ℕ → Parsed ℕ
+tuple_data len e s = list_data e s >>= λ n. of_length len n.0 n.1

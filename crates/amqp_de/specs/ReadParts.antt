@@ -1,13 +1,15 @@
 -- What was read of an item part by part, each part by a type of its own.
-use Rattle.std.specs.Prelude.{◌≡◌, ℕ, ◌+◌, ◌*◌, ◌≤◌, min, Bool, true, false, List, ◌++◌, length, IsTrue, Some}
+use Rattle.std.specs.Prelude.{◌≡◌, ℕ, ◌+◌, ◌*◌, ◌≤◌, min, Bool, true, false, List, ◌++◌, length, IsTrue, IfErr, Some, Result}
 use Rattle.amqp_base.specs.declared.error.Error.{Error}
+use Rattle.amqp_base.specs.declared.error.Error.TheVariants.{InvalidValue}
 use Rattle.amqp_base.specs.Item.{Item, Items, none, more, count}
 use Rattle.amqp_base.specs.Wire.{lenient, Parts}
 use Rattle.amqp_base.specs.Fields.{all_fields, takes_fields}
 use Rattle.amqp_read.specs.Reading.{Takes}
-use Rattle.amqp_de.specs.Decoding.{Decoding}
+use Rattle.amqp_de.specs.Decoding.{Decoding, stands_under}
 use Rattle.amqp_de.specs.Law.{Missed}
-use Rattle.amqp_de.specs.Parse.{list_data}
+use Rattle.amqp_de.specs.Parse.{item_at, list_data, tuple_data}
+use Rattle.amqp_de.specs.Steps.{Rejects}
 use Rattle.amqp_de.specs.Seq.{listing, seq_listing}
 use Rattle.amqp_de.specs.Access.{Listing, Within, Opens, OpensNot, items_of_all, cost}
 use Rattle.amqp_de.specs.declared.list.ListAccess.{ListAccess}
@@ -65,5 +67,18 @@ pub record MoreRead (old : Decoding) (all rest : List (Item → Bool)) (parts : 
 
 -- no item with parts was opened: so a list of any fields is missed
 pub record RefusesParts (buffers : Bool) (old last : Decoding) (e : Error) : Type 0 where
-  pub not_opened : OpensNot list_data buffers old last e
+  pub not_opened : OpensNot list_data true buffers old last e
   pub missed : (fields : List (Item → Bool)) → Missed (takes_fields fields) true buffers old last e
+
+-- no list of just so many parts was opened: so one of as many fields is missed, and want of memory is no excuse
+pub record NoTuple (len : ℕ) (buffers : Bool) (old last : Decoding) (e : Error) : Type 0 where
+  -- a call that isn't answered changes nothing
+  pub unanswered : old.answers ≡ false → (e ≡ InvalidValue) × (last ≡ old)
+  pub rejects : IsTrue old.answers → Rejects buffers buffers (item_at (tuple_data len) (stands_under old)) old.reading last.reading e
+  pub closed : last.answers ≡ false
+  pub missed : (fields : List (Item → Bool)) → length fields ≡ len → Missed (takes_fields fields) buffers buffers old last e
+
+-- the same of a call's answer
+pub record RefusesTuple {A : Type 0} (len : ℕ) (buffers : Bool) (old : Decoding) (r : Result A Error) (last : Decoding) : Type 0 where
+  pub unopened : IfErr r (λ e. NoTuple len buffers old last e)
+  pub law : IfErr r (λ e. (fields : List (Item → Bool)) (grows : Bool) → length fields ≡ len → (IsTrue buffers → IsTrue grows) → Missed (takes_fields fields) grows buffers old last e)

@@ -17,6 +17,7 @@ mod scalars;
 mod seq;
 #[cfg(test)]
 mod tests;
+mod tuples;
 
 pub use deserialize::Deserialize;
 pub use deserializer::Deserializer;

@@ -9,9 +9,9 @@ ghost use Rattle.amqp_base.specs.Wire.{bare};
 ghost use Rattle.amqp_de.specs.Access.{Listing, Within, HasParts, Next, Ends, Opens, OpensExactly, OpensNot, shut};
 ghost use Rattle.amqp_de.specs.Decoding.{Decoding};
 ghost use Rattle.amqp_de.specs.Law.{Found, Missed};
-ghost use Rattle.amqp_de.specs.Parse.{list_data};
+ghost use Rattle.amqp_de.specs.Parse.{list_data, tuple_data};
 ghost use Rattle.amqp_de.specs.Places.{constructor_of, limit_of};
-ghost use Rattle.amqp_de.specs.ReadParts.{Progress, HasRead, MoreRead, RefusesParts, open_list};
+ghost use Rattle.amqp_de.specs.ReadParts.{Progress, HasRead, MoreRead, RefusesParts, RefusesTuple, open_list};
 ghost use Rattle.amqp_de.specs.Seq.{listing};
 ghost use Rattle.amqp_de.specs.contracts.deserializer.Deserializer.{the_row};
 
@@ -90,7 +90,7 @@ impl<R: Read> Deserializer<R> {
     pub(crate) fn open_list(&mut self) -> Result<Opened, Error>
         ensures ok { IfOk result (λ o. Opens self.old (record { state = self.new; left = o.left; answers = true; outer = constructor_of o.beyond.outer; limit = limit_of o.beyond.limit })) }
         ensures exact { IfOk result (λ o. OpensExactly list_data self.old (record { state = self.new; left = o.left; answers = true; outer = constructor_of o.beyond.outer; limit = limit_of o.beyond.limit })) }
-        ensures err { IfErr result (λ e. OpensNot list_data R.buffers self.old self.new e) }
+        ensures err { IfErr result (λ e. OpensNot list_data R.buffers R.buffers self.old self.new e) }
         ensures missed { IfErr result (λ e. RefusesParts R.buffers self.old self.new e) }
         ensures reads { IfOk result (λ o. (all : List (Item → Bool)) → HasRead self.old all all (record { state = self.new; left = o.left; answers = true; outer = constructor_of o.beyond.outer; limit = limit_of o.beyond.limit })) }
         ensures progress { IfOk result (λ o. (all : List (Item → Bool)) → Progress self.old all all none (record { state = self.new; left = o.left; answers = true; outer = constructor_of o.beyond.outer; limit = limit_of o.beyond.limit })) }
@@ -102,7 +102,7 @@ impl<R: Read> Deserializer<R> {
     fn begin_list(&mut self) -> Result<Opened, Error>
         ensures ok { IfOk result (λ o. Opens self.old (record { state = self.new; left = o.left; answers = true; outer = constructor_of o.beyond.outer; limit = limit_of o.beyond.limit })) }
         ensures exact { IfOk result (λ o. OpensExactly list_data self.old (record { state = self.new; left = o.left; answers = true; outer = constructor_of o.beyond.outer; limit = limit_of o.beyond.limit })) }
-        ensures err { IfErr result (λ e. OpensNot list_data R.buffers self.old self.new e) }
+        ensures err { IfErr result (λ e. OpensNot list_data R.buffers R.buffers self.old self.new e) }
     {
         if !self.answers {
             return Err(Error::InvalidValue);
@@ -124,12 +124,58 @@ impl<R: Read> Deserializer<R> {
 
     #[inline(always)]
     pub(crate) fn deserialize_list(&mut self) -> Result<ListAccess<'_, R>, Error>
-        ensures* refused { sem 𝓛 (RestsIfErr (the_row R.row R.Read) self.entry (λ a. a.de.ghost_name) result (λ last. IfErr result (λ e. OpensNot list_data R.buffers self.old last e))) }
+        ensures* refused { sem 𝓛 (RestsIfErr (the_row R.row R.Read) self.entry (λ a. a.de.ghost_name) result (λ last. IfErr result (λ e. OpensNot list_data R.buffers R.buffers self.old last e))) }
         ensures same_reference { IfOk result (λ a. a.de.ghost_name ≡ self.entry.ghost_name) }
         ensures opened { IfOk result (λ a. Opens self.old (listing a)) }
         ensures exact { IfOk result (λ a. OpensExactly list_data self.old (listing a)) }
     {
         let opened = self.open_list()?;
+        Ok(ListAccess {
+            de: self,
+            left: opened.left,
+            answers: true,
+            beyond: opened.beyond,
+        })
+    }
+
+    /// Begins a list of just so many parts.
+    #[inline(always)]
+    fn open_tuple(&mut self, len: usize) -> Result<Opened, Error>
+        ensures ok { IfOk result (λ o. Opens self.old (record { state = self.new; left = o.left; answers = true; outer = constructor_of o.beyond.outer; limit = limit_of o.beyond.limit })) }
+        ensures exact { IfOk result (λ o. OpensExactly (tuple_data len) self.old (record { state = self.new; left = o.left; answers = true; outer = constructor_of o.beyond.outer; limit = limit_of o.beyond.limit })) }
+        ensures len { IfOk result (λ o. o.left ≡ len) }
+        ensures err { RefusesTuple len R.buffers self.old result self.new }
+        ensures reads { IfOk result (λ o. (all : List (Item → Bool)) → HasRead self.old all all (record { state = self.new; left = o.left; answers = true; outer = constructor_of o.beyond.outer; limit = limit_of o.beyond.limit })) }
+        ensures progress { IfOk result (λ o. (all : List (Item → Bool)) → Progress self.old all all none (record { state = self.new; left = o.left; answers = true; outer = constructor_of o.beyond.outer; limit = limit_of o.beyond.limit })) }
+    {
+        match self.open_list() {
+            Ok(opened) => {
+                if opened.left as usize != len {
+                    return Err(Error::SequenceLengthMismatch);
+                }
+                Ok(opened)
+            }
+            Err(e) => Err(e),
+        }
+    }
+
+    /// Opens a tuple: a list (part 1, section 1.6.22) of `len` elements. Its code, size and count are consumed. The size
+    /// is not compared with the bytes that are there.
+    ///
+    /// In this order: `Io(UnexpectedEof)` where there is no byte, `InvalidFormatCode` where it is no list's code,
+    /// `Io(UnexpectedEof)` where size or count are missing, `InvalidValue` where the count is above 65,536,
+    /// `InvalidLength` where the size doesn't cover the count's own bytes, `SequenceLengthMismatch` where the count isn't
+    /// `len`. A refusal ends the deserializer.
+    pub fn deserialize_tuple(&mut self, len: usize) -> Result<ListAccess<'_, R>, Error>
+        ensures* refused { sem 𝓛 (RestsIfErr (the_row R.row R.Read) self.entry (λ a. a.de.ghost_name) result (λ last. RefusesTuple len R.buffers self.old result last)) }
+        ensures same_reference { IfOk result (λ a. a.de.ghost_name ≡ self.entry.ghost_name) }
+        ensures opened { IfOk result (λ a. Opens self.old (listing a)) }
+        ensures exact { IfOk result (λ a. OpensExactly (tuple_data len) self.old (listing a)) }
+        ensures len { IfOk result (λ a. a.left ≡ len) }
+        ensures reads { IfOk result (λ a. (all : List (Item → Bool)) → HasRead self.old all all (open_list a)) }
+        ensures progress { IfOk result (λ a. (all : List (Item → Bool)) → Progress self.old all all none (open_list a)) }
+    {
+        let opened = self.open_tuple(len)?;
         Ok(ListAccess {
             de: self,
             left: opened.left,
@@ -155,9 +201,9 @@ impl<'a, R: Read> ListAccess<'a, R> {
         ensures part { IfOk result (λ o. (v : T) → o ≡ Some v → (old : Decoding) (all rest : List (Item → Bool)) (parts : Items) → Progress old all (T.takes ∷ rest) parts (open_list self.old) →
             MoreRead old all rest parts (λ i. T.means i v) (open_list self.new)) }
         ensures too_few { IfOk result (λ o. o ≡ None → (old : Decoding) (all rest : List (Item → Bool)) → HasRead old all (T.takes ∷ rest) (open_list self.old) →
-            Missed (takes_fields all) true R.buffers old self.new.de.now SequenceLengthMismatch) }
+            Missed (takes_fields all) false R.buffers old self.new.de.now SequenceLengthMismatch) }
         ensures missed { IfErr result (λ e. (old : Decoding) (all rest : List (Item → Bool)) → HasRead old all (T.takes ∷ rest) (open_list self.old) →
-            Missed (takes_fields all) true R.buffers old self.new.de.now e) }
+            Missed (takes_fields all) (T.grows || R.buffers) R.buffers old self.new.de.now e) }
     {
         self.next_part(alloc)
     }
@@ -205,7 +251,7 @@ impl<'a, R: Read> ListAccess<'a, R> {
     pub fn end(self) -> Result<(), Error>
         ensures ends { Ends (listing self.entry) result self.exit.0.now }
         ensures found { OnOk result ((old : Decoding) (all : List (Item → Bool)) (parts : Items) → Progress old all [] parts (open_list self.entry) → Found (takes_fields all) (λ i. HasParts i parts) old self.exit.0.now) }
-        ensures missed { IfErr result (λ e. (old : Decoding) (all : List (Item → Bool)) → HasRead old all [] (open_list self.entry) → Missed (takes_fields all) true R.buffers old self.exit.0.now e) }
+        ensures missed { IfErr result (λ e. (old : Decoding) (all : List (Item → Bool)) → HasRead old all [] (open_list self.entry) → Missed (takes_fields all) false R.buffers old self.exit.0.now e) }
     {
         let ListAccess {
             de,

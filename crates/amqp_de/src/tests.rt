@@ -5,6 +5,7 @@ mod looks;
 mod primitives;
 mod refusals;
 mod scalars;
+mod tuples;
 
 use crate::{Deserialize, Deserializer};
 use amqp_base::Error;
