@@ -1,6 +1,6 @@
 //! A struct.
 
-use amqp_base::{Error, Sink, Typed};
+use amqp_base::{Error, RoundTrip, Sink, Typed};
 use amqp_de::{Deserialize, Deserializer};
 use amqp_read::Read;
 use amqp_ser::{Serialize, Serializer};
@@ -37,6 +37,17 @@ impl Typed for Measurement {
     ghost in_described_basic = { λ _. refl };
 
     ghost one_value = { λ i v w. one_fields _ _ (one_more _ _ ⟦<u32 as Typed>⟧.one_value v.amount w.amount (one_last ⟦<String as Typed>⟧.one_value v.unit w.unit)) i };
+}
+
+impl RoundTrip for Measurement {
+    ghost use Rattle.std.specs.Prelude.{refl, string_bytes};
+    ghost use Rattle.amqp_base.specs.Item.{uint, string};
+    ghost use Rattle.amqp_base.specs.Fields.{taken_more, taken_none, read_more, read_none, list_of_taken, list_of_read};
+    ghost use Rattle.amqp_base.specs.ReadBack.{of_own_kind};
+
+    ghost taken_back = { λ v. list_of_taken (taken_more (of_own_kind (uint v.amount)) (taken_more (of_own_kind (string (string_bytes v.unit))) taken_none)) };
+
+    ghost read_back = { λ v. list_of_read (read_more refl (read_more refl read_none)) };
 }
 
 impl Serialize for Measurement {

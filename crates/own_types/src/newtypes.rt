@@ -28,16 +28,6 @@ impl Typed for Tags {
     ghost one_value = { λ i v w. ⟦<Vec<String> as Typed>⟧.one_value i v.0 w.0 };
 }
 
-impl RoundTrip for Tags {
-    ghost taken_back = { λ v. ⟦<Vec<String> as RoundTrip>⟧.taken_back v.0 };
-
-    ghost read_back = { λ v. ⟦<Vec<String> as RoundTrip>⟧.read_back v.0 };
-}
-
-impl NeverNull for Tags {
-    ghost never_null = { λ v. ⟦<Vec<String> as NeverNull>⟧.never_null v.0 };
-}
-
 impl Serialize for Tags {
     fn serialize<W: Sink>(&self, alloc: Global, ser: &mut Serializer<W>) -> Result<(), Error> {
         ser.serialize_newtype_struct(alloc, "Tags", &self.0)
@@ -73,13 +63,19 @@ impl Typed for Celsius {
 }
 
 impl RoundTrip for Celsius {
-    ghost taken_back = { λ v. ⟦<i32 as RoundTrip>⟧.taken_back v.0 };
+    ghost use Rattle.std.specs.Prelude.{refl};
+    ghost use Rattle.amqp_base.specs.Item.{int};
+    ghost use Rattle.amqp_base.specs.ReadBack.{of_own_kind};
 
-    ghost read_back = { λ v. ⟦<i32 as RoundTrip>⟧.read_back v.0 };
+    ghost taken_back = { λ v. of_own_kind (int v.0) };
+
+    ghost read_back = { λ _. refl };
 }
 
 impl NeverNull for Celsius {
-    ghost never_null = { λ v. ⟦<i32 as NeverNull>⟧.never_null v.0 };
+    ghost use Rattle.std.specs.Prelude.{refl};
+
+    ghost never_null = { λ _. refl };
 }
 
 impl Serialize for Celsius {
