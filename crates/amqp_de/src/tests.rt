@@ -2,6 +2,7 @@
 
 mod lists;
 mod looks;
+mod options;
 mod refusals;
 mod scalars;
 mod tuples;
