@@ -15,3 +15,4 @@ pub mod JustSoMany
 pub mod Looking
 pub mod LookedFirst
 pub mod Decimals
+pub mod Nulls

@@ -83,17 +83,21 @@ found_behind takes means old mid new x l f = record {
   steady = steady_then old.reading mid.reading new.reading l.looked.stays.steady f.steady;
 }
 
-pub missed_behind : (takes some : Item → Bool) (more grows buffers : Bool) (old mid new : Decoding) (x : EncodingCodes) (e : Error) → (IsTrue more → IsTrue grows) → ((i : Item) → IsTrue (some i) → IsTrue (takes i)) → Looks old mid x → Missed takes more buffers mid new e
+pub missed_of_kind : (takes some : Item → Bool) (more grows buffers : Bool) (old mid new : Decoding) (x : EncodingCodes) (e : Error) → (IsTrue more → IsTrue grows) → ((i : Item) → (row x).kind ≡ item_kind i → IsTrue (some i) → IsTrue (takes i)) → Looks old mid x → Missed takes more buffers mid new e
     → Missed some grows buffers old new e
-missed_behind takes some more grows buffers old mid new x e g h l m = record {
+missed_of_kind takes some more grows buffers old mid new x e g h l m = record {
   why = λ a i t rest w q at f.
       let same = same_place old mid x l in
       let v : Wire lenient (stands_under mid) t i = rw same w in
-      excused_kept old.reading mid.reading new.reading e l.looked.stays (excused_more mid.reading new.reading e g (m.why l.answers i t rest v (h i q) (keeps_known old.reading.to_come mid.reading.to_come (t ++ rest) l.looked.stays.to_come at) (l.looked.stays.steady.honest ∙ f)));
+      excused_kept old.reading mid.reading new.reading e l.looked.stays (excused_more mid.reading new.reading e g (m.why l.answers i t rest v (h i (l.kind i t rest w at) q) (keeps_known old.reading.to_come mid.reading.to_come (t ++ rest) l.looked.stays.to_come at) (l.looked.stays.steady.honest ∙ f)));
   spent = λ a. let same = same_place old mid x l in let s = m.spent l.answers in spent_behind old mid new x _ l (rw same at s);
   steady = steady_then old.reading mid.reading new.reading l.looked.stays.steady m.steady;
   device = λ d. let f = l.looked.stays.steady.faults in let n = m.device d in omega (arith, f, n);
 }
+
+pub missed_behind : (takes some : Item → Bool) (more grows buffers : Bool) (old mid new : Decoding) (x : EncodingCodes) (e : Error) → (IsTrue more → IsTrue grows) → ((i : Item) → IsTrue (some i) → IsTrue (takes i)) → Looks old mid x → Missed takes more buffers mid new e
+    → Missed some grows buffers old new e
+missed_behind takes some more grows buffers old mid new x e g h l m = missed_of_kind takes some more grows buffers old mid new x e g (λ i k q. h i q) l m
 
 -- less is taken
 pub found_as : (takes some : Item → Bool) (means same : Item → Type 0) (old new : Decoding) → ((i : Item) → IsTrue (takes i) → means i → IsTrue (some i) × same i) → Found takes means old new → Found some same old new
@@ -121,16 +125,19 @@ none_spent : (old new : Decoding) → new.begun ≡ old.begun → Stays old.read
 none_spent old new b s = record { most = omega (arith, b, s.taken) }
 
 -- no code stands there
-pub missed_look : (k : Kind) (buffers : Bool) (old new : Decoding) (e : Error) → LooksNot buffers old new e → Missed (is_of k) true buffers old new e
-missed_look k buffers old new e n = record {
+pub missed_unseen : (takes : Item → Bool) (grows buffers : Bool) (old new : Decoding) (e : Error) → (IsTrue buffers → IsTrue grows) → LooksNot buffers old new e → Missed takes grows buffers old new e
+missed_unseen takes grows buffers old new e g n = record {
   why = λ a i t rest w q at h.
       let s = code_stands (stands_under old) t rest i w in
       let r = n.rejects a in
-      excused_more old.reading new.reading e (λ b. refl) (not_refused old.reading new.reading _ s.0 e s.1 (r.why (t ++ rest) at h));
+      excused_more old.reading new.reading e g (not_refused old.reading new.reading _ s.0 e s.1 (r.why (t ++ rest) at h));
   spent = λ a. none_spent old new n.begun n.stays;
   steady = n.stays.steady;
   device = n.device;
 }
+
+pub missed_look : (k : Kind) (buffers : Bool) (old new : Decoding) (e : Error) → LooksNot buffers old new e → Missed (is_of k) true buffers old new e
+missed_look k buffers old new e n = missed_unseen (is_of k) true buffers old new e (λ b. refl) n
 
 custom_device : (text : List ℕ) (e : Error) → IsCustom text e → IsDevice e → ⊥
 custom_device text (Message s) c d = d

@@ -9,3 +9,4 @@ pub mod ReadParts
 pub mod Look
 pub mod OneCode
 pub mod Decimals
+pub mod Optional

@@ -11,6 +11,7 @@ mod header;
 mod leaf;
 mod list;
 mod numbers;
+mod option;
 mod payloads;
 mod plain;
 mod scalars;

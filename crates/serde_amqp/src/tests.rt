@@ -1,5 +1,6 @@
 //! Values and bytes, each as they stand in the standard's tables or follow from them.
 
+mod compounds;
 mod forms;
 mod refusals;
 mod texts;

@@ -1,0 +1,43 @@
+//! Values that may be missing.
+
+ghost use Rattle.std.specs.Prelude.{◌≡◌, ℕ, Bool, ◌||◌, List, Some, IfOk, IfErr};
+ghost use Rattle.amqp_base.specs.Options.{takes_option, means_option};
+ghost use Rattle.amqp_de.specs.Law.{Found, Missed};
+ghost use Rattle.amqp_de.specs.Optional.{read_option};
+ghost use Rattle.amqp_de.specs.Steps.{Stops};
+
+use crate::{Deserialize, Deserializer};
+use amqp_base::{EncodingCodes, Error};
+use amqp_read::Read;
+use std::alloc::Global;
+
+impl<R: Read> Deserializer<R> {
+    /// A value that may be missing: null (part 1, section 1.6.1) is `None`, and its byte is consumed, save in an array,
+    /// where it isn't there. Any other item is read as a `T`.
+    ///
+    /// `Io(UnexpectedEof)` where there is no byte, `InvalidFormatCode` where it is no code, else the refusals of `T`. Each
+    /// of them, also one that `T` makes itself, ends the deserializer.
+    pub fn deserialize_option<T: Deserialize<R>>(
+        &mut self,
+        alloc: Global,
+    ) -> Result<Option<T>, Error>
+        ensures ok { IfOk result (λ v. Found (takes_option T.takes) (λ i. read_option self.old.reading.to_come T.means i v) self.old self.new) }
+        ensures known { IfOk result (λ v. (s : List ℕ) → self.old.reading.to_come ≡ Some s → Found (takes_option T.takes) (λ i. means_option T.means i v) self.old self.new) }
+        ensures err { IfErr result (λ e. Missed (takes_option T.takes) (T.grows || R.buffers) R.buffers self.old self.new e) }
+        ensures stops { Stops self.old result self.new }
+    {
+        match self.deserialize_any() {
+            Ok(code) => match code {
+                EncodingCodes::Null => match self.deserialize_unit() {
+                    Ok(()) => Ok(None),
+                    Err(e) => Err(e),
+                },
+                _ => match self.deserialize_newtype_struct::<T>(alloc, "") {
+                    Ok(value) => Ok(Some(value)),
+                    Err(e) => Err(e),
+                },
+            },
+            Err(e) => Err(e),
+        }
+    }
+}

@@ -1,0 +1,125 @@
+//! Options and tuples.
+
+use crate::{Error, from_slice, to_vec};
+use std::io::ErrorKind;
+use std::test::Fail;
+
+#[test]
+fn options_are_null_or_the_value(rt: HostRuntime) -> Result<(), Fail> {
+    let alloc = rt.alloc();
+    let none: Option<i32> = None;
+    assert_eq!(rt; to_vec(alloc, &none)?.as_slice(), [0x40].as_slice());
+    assert_eq!(rt;
+        to_vec(alloc, &Some(1i32))?.as_slice(),
+        [0x54, 1].as_slice()
+    );
+    assert!(rt; from_slice::<Option<i32>>(alloc, &[0x40])? == None);
+    assert!(rt; from_slice::<Option<i32>>(alloc, &[0x54, 1])? == Some(1));
+    // a value that is written as null is read as none
+    assert_eq!(rt; to_vec(alloc, &Some(()))?.as_slice(), [0x40].as_slice());
+    assert!(rt; from_slice::<Option<()>>(alloc, &[0x40])? == None);
+    let mixed = vec![in alloc; Some(1u32), None]?;
+    let text = [0xc0, 4, 2, 0x52, 1, 0x40];
+    assert_eq!(rt; to_vec(alloc, &mixed)?.as_slice(), text.as_slice());
+    assert!(rt; from_slice::<Vec<Option<u32>>>(alloc, &text)? == mixed);
+    Ok(())
+}
+
+#[test]
+fn refusals_of_options(rt: HostRuntime) {
+    let alloc = rt.alloc();
+    assert!(rt;
+        matches!(
+            &from_slice::<Option<i32>>(alloc, &[]),
+            Err(Error::Io(ErrorKind::UnexpectedEof))
+        )
+    );
+    assert!(rt;
+        matches!(
+            &from_slice::<Option<i32>>(alloc, &[0x57]),
+            Err(Error::InvalidFormatCode)
+        )
+    );
+    assert!(rt;
+        matches!(
+            &from_slice::<Option<i32>>(alloc, &[0x43]),
+            Err(Error::InvalidFormatCode)
+        )
+    );
+}
+
+#[test]
+fn tuples_are_lists_of_their_length(rt: HostRuntime) -> Result<(), Fail> {
+    let alloc = rt.alloc();
+    let pair = [0xc0, 4, 2, 0x52, 0x0d, 0x41];
+    assert_eq!(rt; to_vec(alloc, &(13u32, true))?.as_slice(), pair.as_slice());
+    assert!(rt; from_slice::<(u32, bool)>(alloc, &pair)? == (13, true));
+    assert_eq!(rt;
+        to_vec(alloc, &(1i32,))?.as_slice(),
+        [0xc0, 3, 1, 0x54, 1].as_slice()
+    );
+    assert!(rt; from_slice::<(i32,)>(alloc, &[0xc0, 3, 1, 0x54, 1])? == (1,));
+    let triple = (true, 13u64, String::from_str(alloc, "amqp")?);
+    let text = [
+        0xc0, 10, 3, 0x41, 0x53, 0x0d, 0xa1, 4, 0x61, 0x6d, 0x71, 0x70,
+    ];
+    assert_eq!(rt; to_vec(alloc, &triple)?.as_slice(), text.as_slice());
+    assert!(rt; from_slice::<(bool, u64, String)>(alloc, &text)? == triple);
+    let four = [0xc0, 5, 4, 0x40, 0x41, 0x42, 0x43];
+    assert_eq!(rt;
+        to_vec(alloc, &((), true, false, 0u32))?.as_slice(),
+        four.as_slice()
+    );
+    assert!(rt; from_slice::<((), bool, bool, u32)>(alloc, &four)? == ((), true, false, 0));
+    Ok(())
+}
+
+#[test]
+fn refusals_of_tuples(rt: HostRuntime) {
+    let alloc = rt.alloc();
+    // another number of parts
+    assert!(rt;
+        matches!(
+            &from_slice::<(u32, bool)>(alloc, &[0x45]),
+            Err(Error::SequenceLengthMismatch)
+        )
+    );
+    assert!(rt;
+        matches!(
+            &from_slice::<(u32, bool)>(alloc, &[0xc0, 4, 3, 0x43, 0x41, 0x41]),
+            Err(Error::SequenceLengthMismatch)
+        )
+    );
+    // the rule of the header comes first
+    assert!(rt;
+        matches!(
+            &from_slice::<(u32, bool)>(alloc, &[0xc0, 0]),
+            Err(Error::Io(ErrorKind::UnexpectedEof))
+        )
+    );
+    assert!(rt;
+        matches!(
+            &from_slice::<(u32, bool)>(alloc, &[0xc0, 0, 0]),
+            Err(Error::InvalidLength)
+        )
+    );
+    assert!(rt;
+        matches!(
+            &from_slice::<(u32, bool)>(alloc, &[0xd0, 0, 0, 0, 0, 0, 1, 0, 1]),
+            Err(Error::InvalidValue)
+        )
+    );
+    // and the parts last
+    assert!(rt;
+        matches!(
+            &from_slice::<(u32, bool)>(alloc, &[0xc0, 3, 2, 0x43, 0x43]),
+            Err(Error::InvalidFormatCode)
+        )
+    );
+    assert!(rt;
+        matches!(
+            &from_slice::<(u32, bool)>(alloc, &[0xc1, 3, 2, 0x43, 0x41]),
+            Err(Error::InvalidFormatCode)
+        )
+    );
+}
