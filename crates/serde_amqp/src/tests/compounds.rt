@@ -1,6 +1,6 @@
 //! Options and tuples.
 
-use crate::{Error, from_slice, to_vec};
+use crate::{Deserializer, Error, SliceReader, from_slice, to_vec};
 use std::io::ErrorKind;
 use std::test::Fail;
 
@@ -13,39 +13,15 @@ fn options_are_null_or_the_value(rt: HostRuntime) -> Result<(), Fail> {
         to_vec(alloc, &Some(1i32))?.as_slice(),
         [0x54, 1].as_slice()
     );
-    assert!(rt; from_slice::<Option<i32>>(alloc, &[0x40])? == None);
-    assert!(rt; from_slice::<Option<i32>>(alloc, &[0x54, 1])? == Some(1));
     // a value that is written as null is read as none
     assert_eq!(rt; to_vec(alloc, &Some(()))?.as_slice(), [0x40].as_slice());
-    assert!(rt; from_slice::<Option<()>>(alloc, &[0x40])? == None);
     let mixed = vec![in alloc; Some(1u32), None]?;
-    let text = [0xc0, 4, 2, 0x52, 1, 0x40];
-    assert_eq!(rt; to_vec(alloc, &mixed)?.as_slice(), text.as_slice());
-    assert!(rt; from_slice::<Vec<Option<u32>>>(alloc, &text)? == mixed);
+    let text = to_vec(alloc, &mixed)?;
+    assert_eq!(rt; text.as_slice(), [0xc0, 4, 2, 0x52, 1, 0x40].as_slice());
+    let mut de = Deserializer::new(SliceReader::new(&[0x40, 0x54, 1]));
+    assert!(rt; de.deserialize_option::<()>(alloc)? == None);
+    assert!(rt; de.deserialize_option::<i32>(alloc)? == Some(1));
     Ok(())
-}
-
-#[test]
-fn refusals_of_options(rt: HostRuntime) {
-    let alloc = rt.alloc();
-    assert!(rt;
-        matches!(
-            &from_slice::<Option<i32>>(alloc, &[]),
-            Err(Error::Io(ErrorKind::UnexpectedEof))
-        )
-    );
-    assert!(rt;
-        matches!(
-            &from_slice::<Option<i32>>(alloc, &[0x57]),
-            Err(Error::InvalidFormatCode)
-        )
-    );
-    assert!(rt;
-        matches!(
-            &from_slice::<Option<i32>>(alloc, &[0x43]),
-            Err(Error::InvalidFormatCode)
-        )
-    );
 }
 
 #[test]
