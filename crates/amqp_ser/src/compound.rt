@@ -174,6 +174,7 @@ impl<W: Sink> Serializer<W> {
     /// Opens a compound, that holds its serializer from then on.
     ///
     /// `OutOfMemory`: there is no memory for its buffer.
+    #[inline(always)]
     pub(crate) fn begin(&mut self, alloc: Global, shape: Shape) -> Result<Parts, Error>
         ensures ok { IfOk result (λ p. Holds (state W.Write W.FaultCount self.old) shape [] (open_parts (is_map shape) (state W.Write W.FaultCount self.new) p)) }
         ensures held { OnOk result ((state W.Write W.FaultCount self.new).stopped ≡ true) }

@@ -32,6 +32,7 @@ impl<W: Sink> Serializer<W> {
     /// Opens a list (section 1.6.22). `len` is a hint and not used.
     ///
     /// `OutOfMemory`: there is no memory for its buffer.
+    #[inline(always)]
     pub fn serialize_seq(
         &mut self,
         alloc: Global,
@@ -53,6 +54,7 @@ impl<W: Sink> Serializer<W> {
     /// Opens an array (section 1.6.24). `len` is a hint and not used.
     ///
     /// `OutOfMemory`: there is no memory for its buffer.
+    #[inline(always)]
     pub fn serialize_array(
         &mut self,
         alloc: Global,
@@ -86,7 +88,10 @@ impl<'a, W: Sink> SeqSerializer<'a, W> {
         ensures kept { Keeps (open_state W.Write W.FaultCount self.old) (open_state W.Write W.FaultCount self.new) }
         ensures stops { BreaksOff (open_state W.Write W.FaultCount self.old) result (open_state W.Write W.FaultCount self.new) }
     {
-        self.parts.write(alloc, value)
+        match self.parts.write(alloc, value) {
+            Ok(()) => Ok(()),
+            Err(e) => Err(e),
+        }
     }
 
     /// Writes the whole: its code, size and count, and the elements (a list without elements is the byte 45). Only then

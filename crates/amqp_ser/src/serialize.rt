@@ -26,161 +26,230 @@ pub trait Serialize: Typed {
 impl Serialize for bool {
     #[inline(always)]
     fn serialize<W: Sink>(&self, alloc: Global, ser: &mut Serializer<W>) -> Result<(), Error> {
-        ser.serialize_bool(alloc, *self)
+        match ser.serialize_bool(alloc, *self) {
+            Ok(()) => Ok(()),
+            Err(e) => Err(e),
+        }
     }
 }
 
 impl Serialize for u8 {
     #[inline(always)]
     fn serialize<W: Sink>(&self, alloc: Global, ser: &mut Serializer<W>) -> Result<(), Error> {
-        ser.serialize_u8(alloc, *self)
+        match ser.serialize_u8(alloc, *self) {
+            Ok(()) => Ok(()),
+            Err(e) => Err(e),
+        }
     }
 }
 
 impl Serialize for u16 {
     #[inline(always)]
     fn serialize<W: Sink>(&self, alloc: Global, ser: &mut Serializer<W>) -> Result<(), Error> {
-        ser.serialize_u16(alloc, *self)
+        match ser.serialize_u16(alloc, *self) {
+            Ok(()) => Ok(()),
+            Err(e) => Err(e),
+        }
     }
 }
 
 impl Serialize for u32 {
     #[inline(always)]
     fn serialize<W: Sink>(&self, alloc: Global, ser: &mut Serializer<W>) -> Result<(), Error> {
-        ser.serialize_u32(alloc, *self)
+        match ser.serialize_u32(alloc, *self) {
+            Ok(()) => Ok(()),
+            Err(e) => Err(e),
+        }
     }
 }
 
 impl Serialize for u64 {
     #[inline(always)]
     fn serialize<W: Sink>(&self, alloc: Global, ser: &mut Serializer<W>) -> Result<(), Error> {
-        ser.serialize_u64(alloc, *self)
+        match ser.serialize_u64(alloc, *self) {
+            Ok(()) => Ok(()),
+            Err(e) => Err(e),
+        }
     }
 }
 
 impl Serialize for i8 {
     #[inline(always)]
     fn serialize<W: Sink>(&self, alloc: Global, ser: &mut Serializer<W>) -> Result<(), Error> {
-        ser.serialize_i8(alloc, *self)
+        match ser.serialize_i8(alloc, *self) {
+            Ok(()) => Ok(()),
+            Err(e) => Err(e),
+        }
     }
 }
 
 impl Serialize for i16 {
     #[inline(always)]
     fn serialize<W: Sink>(&self, alloc: Global, ser: &mut Serializer<W>) -> Result<(), Error> {
-        ser.serialize_i16(alloc, *self)
+        match ser.serialize_i16(alloc, *self) {
+            Ok(()) => Ok(()),
+            Err(e) => Err(e),
+        }
     }
 }
 
 impl Serialize for i32 {
     #[inline(always)]
     fn serialize<W: Sink>(&self, alloc: Global, ser: &mut Serializer<W>) -> Result<(), Error> {
-        ser.serialize_i32(alloc, *self)
+        match ser.serialize_i32(alloc, *self) {
+            Ok(()) => Ok(()),
+            Err(e) => Err(e),
+        }
     }
 }
 
 impl Serialize for i64 {
     #[inline(always)]
     fn serialize<W: Sink>(&self, alloc: Global, ser: &mut Serializer<W>) -> Result<(), Error> {
-        ser.serialize_i64(alloc, *self)
+        match ser.serialize_i64(alloc, *self) {
+            Ok(()) => Ok(()),
+            Err(e) => Err(e),
+        }
     }
 }
 
 impl Serialize for char {
     #[inline(always)]
     fn serialize<W: Sink>(&self, alloc: Global, ser: &mut Serializer<W>) -> Result<(), Error> {
-        ser.serialize_char(alloc, *self)
+        match ser.serialize_char(alloc, *self) {
+            Ok(()) => Ok(()),
+            Err(e) => Err(e),
+        }
     }
 }
 
 impl Serialize for () {
     #[inline(always)]
     fn serialize<W: Sink>(&self, alloc: Global, ser: &mut Serializer<W>) -> Result<(), Error> {
-        ser.serialize_unit(alloc)
+        match ser.serialize_unit(alloc) {
+            Ok(()) => Ok(()),
+            Err(e) => Err(e),
+        }
     }
 }
 
 impl Serialize for String {
     #[inline(always)]
     fn serialize<W: Sink>(&self, alloc: Global, ser: &mut Serializer<W>) -> Result<(), Error> {
-        ser.serialize_str(alloc, self.as_str())
+        match ser.serialize_str(alloc, self.as_str()) {
+            Ok(()) => Ok(()),
+            Err(e) => Err(e),
+        }
     }
 }
 
 impl Serialize for Float {
     #[inline(always)]
     fn serialize<W: Sink>(&self, alloc: Global, ser: &mut Serializer<W>) -> Result<(), Error> {
-        ser.serialize_f32(alloc, *self)
+        match ser.serialize_f32(alloc, *self) {
+            Ok(()) => Ok(()),
+            Err(e) => Err(e),
+        }
     }
 }
 
 impl Serialize for Double {
     #[inline(always)]
     fn serialize<W: Sink>(&self, alloc: Global, ser: &mut Serializer<W>) -> Result<(), Error> {
-        ser.serialize_f64(alloc, *self)
+        match ser.serialize_f64(alloc, *self) {
+            Ok(()) => Ok(()),
+            Err(e) => Err(e),
+        }
     }
 }
 
 impl Serialize for Dec32 {
     #[inline(always)]
     fn serialize<W: Sink>(&self, alloc: Global, ser: &mut Serializer<W>) -> Result<(), Error> {
-        ser.serialize_decimal32(alloc, self)
+        match ser.serialize_decimal32(alloc, self) {
+            Ok(()) => Ok(()),
+            Err(e) => Err(e),
+        }
     }
 }
 
 impl Serialize for Dec64 {
     #[inline(always)]
     fn serialize<W: Sink>(&self, alloc: Global, ser: &mut Serializer<W>) -> Result<(), Error> {
-        ser.serialize_decimal64(alloc, self)
+        match ser.serialize_decimal64(alloc, self) {
+            Ok(()) => Ok(()),
+            Err(e) => Err(e),
+        }
     }
 }
 
 impl Serialize for Dec128 {
     #[inline(always)]
     fn serialize<W: Sink>(&self, alloc: Global, ser: &mut Serializer<W>) -> Result<(), Error> {
-        ser.serialize_decimal128(alloc, self)
+        match ser.serialize_decimal128(alloc, self) {
+            Ok(()) => Ok(()),
+            Err(e) => Err(e),
+        }
     }
 }
 
 impl Serialize for Timestamp {
     #[inline(always)]
     fn serialize<W: Sink>(&self, alloc: Global, ser: &mut Serializer<W>) -> Result<(), Error> {
-        ser.serialize_timestamp(alloc, self.milliseconds())
+        match ser.serialize_timestamp(alloc, self.milliseconds()) {
+            Ok(()) => Ok(()),
+            Err(e) => Err(e),
+        }
     }
 }
 
 impl Serialize for Uuid {
     #[inline(always)]
     fn serialize<W: Sink>(&self, alloc: Global, ser: &mut Serializer<W>) -> Result<(), Error> {
-        ser.serialize_uuid(alloc, self)
+        match ser.serialize_uuid(alloc, self) {
+            Ok(()) => Ok(()),
+            Err(e) => Err(e),
+        }
     }
 }
 
 impl Serialize for Symbol {
     #[inline(always)]
     fn serialize<W: Sink>(&self, alloc: Global, ser: &mut Serializer<W>) -> Result<(), Error> {
-        ser.serialize_symbol(alloc, self.as_str())
+        match ser.serialize_symbol(alloc, self.as_str()) {
+            Ok(()) => Ok(()),
+            Err(e) => Err(e),
+        }
     }
 }
 
 impl Serialize for SymbolRef<'_> {
     #[inline(always)]
     fn serialize<W: Sink>(&self, alloc: Global, ser: &mut Serializer<W>) -> Result<(), Error> {
-        ser.serialize_symbol(alloc, self.as_str())
+        match ser.serialize_symbol(alloc, self.as_str()) {
+            Ok(()) => Ok(()),
+            Err(e) => Err(e),
+        }
     }
 }
 
 impl Serialize for Binary {
     #[inline(always)]
     fn serialize<W: Sink>(&self, alloc: Global, ser: &mut Serializer<W>) -> Result<(), Error> {
-        ser.serialize_bytes(alloc, self.as_slice())
+        match ser.serialize_bytes(alloc, self.as_slice()) {
+            Ok(()) => Ok(()),
+            Err(e) => Err(e),
+        }
     }
 }
 
 impl Serialize for BinaryRef<'_> {
     #[inline(always)]
     fn serialize<W: Sink>(&self, alloc: Global, ser: &mut Serializer<W>) -> Result<(), Error> {
-        ser.serialize_bytes(alloc, self.0)
+        match ser.serialize_bytes(alloc, self.0) {
+            Ok(()) => Ok(()),
+            Err(e) => Err(e),
+        }
     }
 }
 
@@ -198,7 +267,10 @@ impl<T: Serialize> Serialize for Option<T> {
 impl<T: Serialize> Serialize for Vec<T> {
     #[tactic(auto, using(crate::proofs::Compounds::begins_map, crate::proofs::Compounds::holds_all), unfolding(crate::specs::State::state, crate::specs::Compound::open_state))]
     fn serialize<W: Sink>(&self, alloc: Global, ser: &mut Serializer<W>) -> Result<(), Error> {
-        let mut seq = ser.serialize_seq(alloc, Some(self.len()))?;
+        let mut seq = match ser.serialize_seq(alloc, Some(self.len())) {
+            Ok(seq) => seq,
+            Err(e) => return Err(e),
+        };
         for value in self {
             if let Err(e) = seq.serialize_element(alloc, value) {
                 return Err(e);

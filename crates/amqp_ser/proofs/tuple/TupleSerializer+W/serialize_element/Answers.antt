@@ -1,12 +1,15 @@
-use Rattle.std.proofs.lemmas.Result.{IfErr-weaker}
 use Rattle.std.proofs.Common.{false, refl}
 use Rattle.amqp_ser.specs.Compound.{tuple_state}
 use Rattle.amqp_ser.proofs.tuple.TupleSerializer+W.serialize_element.Goals as goal
 
-pub returns-clause-err : goal.returns-clause-err
+pub returns-in-Err-clause-err : goal.returns-in-Err-clause-err
 unfolding tuple_state
-returns-clause-err g c = IfErr-weaker c.write.result _ _ (λ e k s shape xs all h begins. k s shape xs all h begins refl) (c.write.ensures.err false _)
+returns-in-Err-clause-err g c = λ s shape xs all h begins. c.in-Err.ensures.err false _ s shape xs all h begins refl
 
-pub returns-clause-stops : goal.returns-clause-stops
+pub returns-in-Err-clause-stops : goal.returns-in-Err-clause-stops
 unfolding tuple_state
-returns-clause-stops g c = c.write.ensures.stops false _
+returns-in-Err-clause-stops g c = c.in-Err.ensures.stops false _
+
+pub returns-in-Ok-clause-stops : goal.returns-in-Ok-clause-stops
+unfolding tuple_state
+returns-in-Ok-clause-stops g c = c.in-Ok.ensures.stops false _
