@@ -85,13 +85,17 @@ impl Parts {
         if self.buffer.stopped {
             return Err(Error::InvalidValue);
         }
-        if let Err(e) = value.serialize(alloc, &mut self.buffer) {
-            self.buffer.stopped = true;
-            return Err(e);
+        match value.serialize(alloc, &mut self.buffer) {
+            Ok(()) => {
+                self.count = self.count.saturating_add(1);
+                self.buffer.turn();
+                Ok(())
+            }
+            Err(e) => {
+                self.buffer.stopped = true;
+                Err(e)
+            }
         }
-        self.count = self.count.saturating_add(1);
-        self.buffer.turn();
-        Ok(())
     }
 
     /// Writes one more key or value of a map. Out of turn it is `InvalidValue`, and so is then all that follows.

@@ -272,8 +272,9 @@ impl<T: Serialize> Serialize for Vec<T> {
             Err(e) => return Err(e),
         };
         for value in self {
-            if let Err(e) = seq.serialize_element(alloc, value) {
-                return Err(e);
+            match seq.serialize_element(alloc, value) {
+                Ok(()) => {}
+                Err(e) => return Err(e),
             }
         }
         seq.end()

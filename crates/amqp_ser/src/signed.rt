@@ -28,10 +28,10 @@ impl<W: Sink> Serializer<W> {
         if self.stopped {
             return Err(Error::InvalidValue);
         }
-        if let Err(e) = self.one_byte(EncodingCodes::Byte, v.cast_unsigned()) {
-            return Err(refused(e));
+        match self.one_byte(EncodingCodes::Byte, v.cast_unsigned()) {
+            Ok(()) => Ok(()),
+            Err(e) => Err(refused(e)),
         }
-        Ok(())
     }
 
     /// Writes a short in two's complement (section 1.6.8): 61 and two bytes, the high one first; in an array the two
@@ -50,10 +50,10 @@ impl<W: Sink> Serializer<W> {
         if self.stopped {
             return Err(Error::InvalidValue);
         }
-        if let Err(e) = self.two_bytes(EncodingCodes::Short, v.to_be_bytes()) {
-            return Err(refused(e));
+        match self.two_bytes(EncodingCodes::Short, v.to_be_bytes()) {
+            Ok(()) => Ok(()),
+            Err(e) => Err(refused(e)),
         }
-        Ok(())
     }
 
     /// Writes an int in two's complement (section 1.6.9): outside arrays 54 and a byte from -128 to 127, else 71 and four
@@ -72,10 +72,10 @@ impl<W: Sink> Serializer<W> {
         if self.stopped {
             return Err(Error::InvalidValue);
         }
-        if let Err(e) = self.int(v) {
-            return Err(refused(e));
+        match self.int(v) {
+            Ok(()) => Ok(()),
+            Err(e) => Err(refused(e)),
         }
-        Ok(())
     }
 
     /// The text of an int where it stands.
@@ -110,10 +110,10 @@ impl<W: Sink> Serializer<W> {
         if self.stopped {
             return Err(Error::InvalidValue);
         }
-        if let Err(e) = self.long(v) {
-            return Err(refused(e));
+        match self.long(v) {
+            Ok(()) => Ok(()),
+            Err(e) => Err(refused(e)),
         }
-        Ok(())
     }
 
     /// The text of a long where it stands.

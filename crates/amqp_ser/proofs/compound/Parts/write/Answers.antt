@@ -3,9 +3,9 @@ use Rattle.std.proofs.Common.{arith, refl}
 use Rattle.amqp_ser.proofs.Compounds.{element_more, element_refused}
 use Rattle.amqp_ser.proofs.compound.Parts.write.Goals as goal
 
-pub returns-clause-ok : goal.returns-clause-ok
+pub returns-in-Ok-clause-ok : goal.returns-in-Ok-clause-ok
 unfolding state
-returns-clause-ok g c = λ pairs outer s shape xs h. element_more s shape xs (g.T.Typed.item c.args.value.now) _ _ _ _ c.in_default.ensures.ok refl (omega (arith, c.serialize.new.ser.writer.ok.0, c.serialize.new.ser.writer.small)) c.turn.ensures refl refl refl c.saturating_add-self.ensures h
+returns-in-Ok-clause-ok g c = λ pairs outer s shape xs h. element_more s shape xs (g.T.Typed.item c.args.value.now) _ _ _ _ c.in-Ok.ensures.ok refl (omega (arith, c.serialize.new.ser.writer.ok.0, c.serialize.new.ser.writer.small)) c.turn.ensures refl refl refl c.saturating_add-self.ensures h
 
 pub returns-in-Err-clause-err : goal.returns-in-Err-clause-err
 unfolding state

@@ -23,6 +23,6 @@ loop-value-preserved g c =
     let xs = c.args.self.now.items in
     let k = c.loop-value.value-index in
     record {
-      same_reference = c.in_default.ensures.same_reference ∙ c.loop-value.invariant.same_reference;
-      holds = holds_next item _ Shape.List xs k c.value-item.result _ (rw c.deref-value-items.ensures.value at c.loop-value-test.true) (rw c.deref-value-items.ensures.value at c.value-item.is) (c.in_default.ensures.ok _ Shape.List (map item (take k xs)) c.loop-value.invariant.holds);
+      same_reference = c.in-Ok-serialize_element.ensures.same_reference ∙ c.loop-value.invariant.same_reference;
+      holds = holds_next item _ Shape.List xs k c.value-item.result _ (rw c.deref-value-items.ensures.value at c.loop-value-test.true) (rw c.deref-value-items.ensures.value at c.value-item.is) (c.in-Ok-serialize_element.ensures.ok _ Shape.List (map item (take k xs)) c.loop-value.invariant.holds);
     }
