@@ -2,5 +2,5 @@
 
 pub use amqp_types::{
     Binary, BinaryRef, Boolean, Byte, Char, Dec32, Dec64, Dec128, Decimal, Double, Float, Int,
-    List, Long, Short, Symbol, SymbolRef, Timestamp, Ubyte, Uint, Ulong, Ushort, Uuid,
+    List, Long, OrderedMap, Short, Symbol, SymbolRef, Timestamp, Ubyte, Uint, Ulong, Ushort, Uuid,
 };

@@ -1,4 +1,4 @@
 //! Writing.
 
 pub use crate::to_vec;
-pub use amqp_ser::{SeqSerializer, Serialize, Serializer};
+pub use amqp_ser::{MapSerializer, SeqSerializer, Serialize, Serializer, TupleSerializer};
