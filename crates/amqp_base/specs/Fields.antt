@@ -7,6 +7,7 @@
 use Rattle.std.specs.Prelude.{◌≡◌, ℕ, Bool, true, false, ◌&&◌, IsTrue, List, [], ◌∷◌}
 use Rattle.std.proofs.Common.{refl}
 use Rattle.amqp_base.specs.Item.{Item, scalar, list, map, array, described, Items, none, more, items_of}
+use Rattle.amqp_base.specs.ReadBack.{both}
 use Rattle.amqp_base.specs.Shapes.{whole}
 use Rattle.amqp_base.specs.declared.shape.Shape.{Shape}
 use Rattle.amqp_base.specs.Typing.{OneValue, is_null}
@@ -61,10 +62,6 @@ one_fields P Q rows (array is) p q = absurd p
 one_fields P Q rows (described d v) p q = absurd p
 
 -- ---- a row of values is read back as it was written
-
-both : (a b : Bool) → IsTrue a → IsTrue b → IsTrue (a && b)
-both true b p q = q
-both false b p q = p
 
 -- each item is taken by its field
 pub record TakenBack (fields : List (Item → Bool)) (xs : List Item) : Type 0 where

@@ -2,6 +2,7 @@
 use Rattle.std.specs.Prelude.{◌≡◌, Bool, true, false, ◌||◌, IsTrue, Option, Some, None}
 use Rattle.std.proofs.Common.{refl}
 use Rattle.amqp_base.specs.Item.{Item, scalar, null}
+use Rattle.amqp_base.specs.ReadBack.{second}
 use Rattle.amqp_base.specs.Typing.{OneValue, is_null}
 use Rattle.amqp_base.specs.declared.shape.Setting.{Setting}
 
@@ -36,14 +37,10 @@ one_option means same one i None (Some w) p q = absurd cc (p, q.0)
 one_option means same one i (Some v) None p q = absurd cc (p.0, q)
 one_option means same one i (Some v) (Some w) p q = one i v w p.1 q.1
 
-either : (a b : Bool) → IsTrue b → IsTrue (a || b)
-either true b h = refl
-either false b h = h
-
 -- an option of a type that is read back and never null is read back
 pub option_taken_back : {T : Type 0} (takes : Item → Bool) (item : T → Setting → Item) (s : Setting) → ((v : T) → IsTrue (takes (item v s))) → (o : Option T) → IsTrue (takes_option takes (option_item item o s))
 option_taken_back takes item s h None = refl
-option_taken_back takes item s h (Some v) = either (is_null (item v s)) (takes (item v s)) (h v)
+option_taken_back takes item s h (Some v) = second (is_null (item v s)) (takes (item v s)) (h v)
 
 pub option_read_back : {T : Type 0} (means : Item → T → Type 0) (item : T → Setting → Item) (s : Setting) → ((v : T) → is_null (item v s) ≡ false) → ((v : T) → means (item v s) v) → (o : Option T) → means_option means (option_item item o s) o
 option_read_back means item s n h None = refl

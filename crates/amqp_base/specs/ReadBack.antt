@@ -1,5 +1,5 @@
 -- A value's own item is read as that value.
-use Rattle.std.specs.Prelude.{◌≡◌, Bool, true, false, ◌&&◌, IsTrue, List, [], ◌∷◌, map}
+use Rattle.std.specs.Prelude.{◌≡◌, Bool, true, false, ◌&&◌, ◌||◌, IsTrue, List, [], ◌∷◌, map}
 use Rattle.std.proofs.Common.{refl}
 use Rattle.std.proofs.lemmas.Bool.{eq-eqb}
 use Rattle.amqp_base.specs.SameKind.{place, same_kind}
@@ -14,14 +14,19 @@ pub of_own_kind : (v : Scalar) → IsTrue (is_of (kind_of v) (scalar v))
 unfolding same_kind
 of_own_kind v = eq-eqb (place (kind_of v)) (place (kind_of v)) refl
 
+-- what holds of both, and of the second of two
+pub both : (a b : Bool) → IsTrue a → IsTrue b → IsTrue (a && b)
+both true b p q = q
+both false b p q = p
+
+pub second : (a b : Bool) → IsTrue b → IsTrue (a || b)
+second true b h = refl
+second false b h = h
+
 -- parts that are taken and mean the values
 all_taken_back : {T : Type 0} (takes : Item → Bool) (item : T → Item) → ((v : T) → IsTrue (takes (item v))) → (vs : List T) → IsTrue (all_taken takes (items_of (map item vs)))
 all_taken_back takes item h [] = refl
 all_taken_back takes item h (v ∷ vs) = both (takes (item v)) (all_taken takes (items_of (map item vs))) (h v) (all_taken_back takes item h vs)
-  where
-    both : (a b : Bool) → IsTrue a → IsTrue b → IsTrue (a && b)
-    both true b p q = q
-    both false b p q = p
 
 all_read_back : {T : Type 0} (means : Item → T → Type 0) (item : T → Item) → ((v : T) → means (item v) v) → (vs : List T) → all_mean means (items_of (map item vs)) vs
 all_read_back means item h [] = tt

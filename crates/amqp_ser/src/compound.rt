@@ -4,7 +4,7 @@ ghost use Rattle.std.specs.Prelude.{◌≡◌, ◌==◌, ◌%◌, ◌<◌, ◌�
 ghost use Rattle.amqp_base.specs.Item.{Item, items_of};
 ghost use Rattle.amqp_base.specs.Shapes.{whole};
 ghost use Rattle.amqp_base.specs.Wire.{under};
-ghost use Rattle.amqp_ser.specs.State.{State, state, mark_of, answering};
+ghost use Rattle.amqp_ser.specs.State.{State, state, mark_of, unmarked, answering};
 ghost use Rattle.amqp_ser.specs.Law.{Wrote, Refused, Kept, Named, IsDevice, unwritten, found_after};
 ghost use Rattle.amqp_ser.specs.Appending.{Pays, as_error};
 ghost use Rattle.amqp_ser.specs.Compound.{the_buffer, open_parts, is_map, awaits_value, Empty, Run, Holds, Complete, RefusesOpen, BeginsWith, BreaksOff, parts_text, whole_text, shape_code, narrow_of, empty_list, next_mark};
@@ -244,36 +244,41 @@ impl<W: Sink> Serializer<W> {
         let n = ((count % 0x1_0000_0000) as u32).to_be_bytes();
         let mark = self.mark;
         match mark {
-            Mark::Unmarked => {
-                if is_empty_list(shape, len) {
-                    self.append(&[0x45])
-                } else if len <= NARROW {
-                    self.append_two(
-                        &[narrow_byte(shape), (len + 1) as u8, (count % 256) as u8],
-                        body,
-                    )
-                } else {
-                    self.append_two(
-                        &[
-                            wide_code(shape).byte(),
-                            size[0],
-                            size[1],
-                            size[2],
-                            size[3],
-                            n[0],
-                            n[1],
-                            n[2],
-                            n[3],
-                        ],
-                        body,
-                    )
-                }
-            }
+            Mark::Unmarked => self.finish_unmarked(shape, count, body),
             _ => self.element(
                 wide_code(shape),
                 &[size[0], size[1], size[2], size[3], n[0], n[1], n[2], n[3]],
                 body,
             ),
         }
+    }
+    /// Writes the whole outside arrays: an empty list as one byte, any other behind the shortest header.
+    #[inline(always)]
+    fn finish_unmarked(&mut self, shape: Shape, count: usize, body: &[u8]) -> Result<(), Refusal>
+        requires answers { self.old.stopped ≡ false }
+        requires marked { mark_of self.old.mark ≡ unmarked }
+        requires short { length body.now ≤ 4294967291 }
+        ensures law { count ≤ length body.now → Pays (state W.Write W.FaultCount self.old) (whole_text shape (state W.Write W.FaultCount self.old).mark count body.now)
+            (found_after (state W.Write W.FaultCount self.old).mark (Some (under (shape_code shape))) (state W.Write W.FaultCount self.old).found) [] (unwritten (length body.now)) (as_error result) (state W.Write W.FaultCount self.new) }
+        ensures kept { Kept (state W.Write W.FaultCount self.old) (state W.Write W.FaultCount self.new) }
+        ensures device { IfErr (as_error result) (λ e. IsDevice e → W.faults self.old.writer < W.faults self.new.writer) }
+        ensures err { OnErr result (self.new.stopped ≡ true) }
+    {
+        let len = body.len();
+        if is_empty_list(shape, len) {
+            return self.append(&[0x45]);
+        }
+        if len <= NARROW {
+            let head = [narrow_byte(shape), (len + 1) as u8, (count % 256) as u8];
+            return self.append_two(&head, body);
+        }
+        let code = wide_code(shape).byte();
+        let length = ((len + 4) as u32).to_be_bytes();
+        let parts = ((count % 0x1_0000_0000) as u32).to_be_bytes();
+        let head = [
+            code, length[0], length[1], length[2], length[3], parts[0], parts[1], parts[2],
+            parts[3],
+        ];
+        self.append_two(&head, body)
     }
 }

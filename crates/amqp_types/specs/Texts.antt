@@ -3,7 +3,7 @@ use Rattle.std.specs.Prelude.{◌≡◌, ℕ, Bool, true, false, ◌||◌, IsTru
 use Rattle.std.proofs.Common.{refl, sym, ◌∙◌}
 use Rattle.amqp_base.specs.Codes.{Kind}
 use Rattle.amqp_base.specs.Item.{Item, scalar, list, map, array, described, string, symbol}
-use Rattle.amqp_base.specs.ReadBack.{of_own_kind}
+use Rattle.amqp_base.specs.ReadBack.{of_own_kind, second}
 use Rattle.amqp_base.specs.Typing.{is_of}
 
 -- a string or a symbol of these bytes (1.6.20, 1.6.21)
@@ -24,8 +24,4 @@ one_text (described d v) a b p q = absurd p
 
 -- a symbol is taken
 pub symbol_taken : (b : List ℕ) → IsTrue (is_of Kind.string (scalar (symbol b)) || is_of Kind.symbol (scalar (symbol b)))
-symbol_taken b = either (is_of Kind.string (scalar (symbol b))) (is_of Kind.symbol (scalar (symbol b))) (of_own_kind (symbol b))
-  where
-    either : (p q : Bool) → IsTrue q → IsTrue (p || q)
-    either true q h = refl
-    either false q h = h
+symbol_taken b = second (is_of Kind.string (scalar (symbol b))) (is_of Kind.symbol (scalar (symbol b))) (of_own_kind (symbol b))

@@ -96,7 +96,7 @@ fn reads_what_it_writes_at_every_nesting(rt: HostRuntime) -> Result<(), Fail> {
 }
 
 #[test]
-fn refuses_by_the_first_rule_broken(rt: HostRuntime) {
+fn refuses_lists_by_the_rule_of_their_header(rt: HostRuntime) {
     let alloc = rt.alloc();
     assert!(rt;
         matches!(
@@ -114,36 +114,6 @@ fn refuses_by_the_first_rule_broken(rt: HostRuntime) {
         matches!(
             &from_slice::<Vec<i32>>(alloc, &[0xd0, 0, 0, 0, 4, 0, 1, 0, 1]),
             Err(Error::InvalidValue)
-        )
-    );
-    assert!(rt;
-        matches!(
-            &from_slice::<String>(alloc, &[0xa1, 1, 0xff]),
-            Err(Error::InvalidUtf8Encoding)
-        )
-    );
-    assert!(rt;
-        matches!(
-            &from_slice::<String>(alloc, &[0xa1, 5, 0x61]),
-            Err(Error::Io(ErrorKind::UnexpectedEof))
-        )
-    );
-    assert!(rt;
-        matches!(
-            &from_slice::<u32>(alloc, &[0x57]),
-            Err(Error::InvalidFormatCode)
-        )
-    );
-    assert!(rt;
-        matches!(
-            &from_slice::<u32>(alloc, &[0x54, 1]),
-            Err(Error::InvalidFormatCode)
-        )
-    );
-    assert!(rt;
-        matches!(
-            &from_slice::<u32>(alloc, &[]),
-            Err(Error::Io(ErrorKind::UnexpectedEof))
         )
     );
 }

@@ -66,7 +66,12 @@ fn refusals_of_tuples(rt: HostRuntime) {
             Err(Error::SequenceLengthMismatch)
         )
     );
-    // the rule of the header comes first
+}
+
+#[test]
+fn refusals_of_tuples_by_their_headers(rt: HostRuntime) {
+    let alloc = rt.alloc();
+    // the rule of the header comes before the number of parts
     assert!(rt;
         matches!(
             &from_slice::<(u32, bool)>(alloc, &[0xc0, 0]),

@@ -159,6 +159,12 @@ fn decimals(rt: HostRuntime) -> Result<(), Fail> {
             &Dec64::from([0xff; 8])
         )?
     );
+    Ok(())
+}
+
+#[test]
+fn decimals_of_sixteen_bytes(rt: HostRuntime) -> Result<(), Fail> {
+    let alloc = rt.alloc();
     assert!(rt;
         is_form(
             alloc,
