@@ -16,8 +16,6 @@ mod payloads;
 mod plain;
 mod scalars;
 mod seq;
-#[cfg(test)]
-mod tests;
 mod tuples;
 
 pub use deserialize::Deserialize;

@@ -12,8 +12,6 @@ mod seq;
 mod serialize;
 mod serializer;
 mod signed;
-#[cfg(test)]
-mod tests;
 mod tuple;
 
 pub use compound::Parts;

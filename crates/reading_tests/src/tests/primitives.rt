@@ -1,7 +1,7 @@
 //! Each call that reads a value without parts. The forms of each kind and their refusals are tests of `serde_amqp`.
 
 use super::{Answer, outcome};
-use crate::Deserializer;
+use amqp_de::Deserializer;
 use amqp_read::{Read, SliceReader};
 use amqp_types::{Dec32, Dec64, Dec128, Decimal};
 use std::test::Fail;

@@ -1,8 +1,8 @@
 //! The bytes of options, tuples and maps, and what follows a wrong number of parts.
 
 use super::{is_invalid_value, written};
-use crate::Serializer;
 use amqp_base::Error;
+use amqp_ser::Serializer;
 use std::test::Fail;
 
 fn is_mismatch(r: &Result<(), Error>) -> bool {

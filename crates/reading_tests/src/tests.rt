@@ -8,8 +8,8 @@ mod refusals;
 mod scalars;
 mod tuples;
 
-use crate::{Deserialize, Deserializer};
 use amqp_base::Error;
+use amqp_de::{Deserialize, Deserializer};
 use amqp_read::{Read, SliceReader};
 use std::alloc::Global;
 use std::io::ErrorKind;

@@ -3,8 +3,8 @@
 mod compounds;
 mod values;
 
-use crate::{Serialize, Serializer};
 use amqp_base::{Counted, Error};
+use amqp_ser::{Serialize, Serializer};
 use std::alloc::Global;
 use std::io;
 use std::io::{ErrorKind, Write};

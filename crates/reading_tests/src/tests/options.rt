@@ -1,7 +1,7 @@
 //! Values that may be missing.
 
 use super::{Answer, outcome};
-use crate::Deserializer;
+use amqp_de::Deserializer;
 use amqp_read::SliceReader;
 use std::test::Fail;
 

@@ -1,7 +1,7 @@
 //! Lists, and what their headers are refused for.
 
 use super::{Answer, front, outcome};
-use crate::Deserializer;
+use amqp_de::Deserializer;
 use amqp_read::{Read, SliceReader};
 use std::alloc::Global;
 use std::test::Fail;

@@ -1,7 +1,7 @@
 //! Numbers and strings.
 
 use super::{Answer, front, outcome};
-use crate::Deserializer;
+use amqp_de::Deserializer;
 use amqp_read::{Read, SliceReader};
 use std::test::Fail;
 

@@ -1,7 +1,7 @@
 //! After a refusal, and after an access that was dropped, nothing is answered.
 
 use super::{Answer, outcome};
-use crate::Deserializer;
+use amqp_de::Deserializer;
 use amqp_read::{Read, SliceReader};
 use std::alloc::Global;
 use std::process::Abort;

@@ -1,7 +1,7 @@
 //! The bytes of values without parts.
 
 use super::{is_invalid_value, written};
-use crate::Serializer;
+use amqp_ser::Serializer;
 use amqp_types::{
     Binary, BinaryRef, Dec32, Dec64, Dec128, Double, Float, Symbol, SymbolRef, Timestamp, Uuid,
 };
