@@ -1,6 +1,6 @@
 //! Values that may be missing.
 
-ghost use Rattle.std.specs.Prelude.{◌≡◌, ℕ, Bool, ◌||◌, List, Some, IfOk, IfErr};
+ghost use Rattle.std.specs.Prelude.{◌||◌, IfOk, IfErr};
 ghost use Rattle.amqp_base.specs.Options.{takes_option, means_option};
 ghost use Rattle.amqp_de.specs.Law.{Found, Missed};
 ghost use Rattle.amqp_de.specs.Steps.{Stops};
