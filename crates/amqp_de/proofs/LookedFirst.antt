@@ -8,7 +8,7 @@ use Rattle.amqp_base.specs.Codes.{Kind, row}
 use Rattle.amqp_base.specs.Item.{Item}
 use Rattle.amqp_base.specs.Typing.{is_of}
 use Rattle.amqp_base.specs.Refusals.{IsCustom, IsDevice}
-use Rattle.amqp_base.specs.Wire.{Constructor, Wire, lenient}
+use Rattle.amqp_base.specs.Wire.{Wire, lenient}
 use Rattle.amqp_read.specs.Reading.{Reading, Takes, Stays}
 use Rattle.amqp_read.specs.Steps.{Looked}
 use Rattle.amqp_de.specs.Decoding.{Decoding, stands_under}
