@@ -1,3 +1,4 @@
+pub mod Received
 pub mod Readings
 pub mod Begun
 pub mod Data

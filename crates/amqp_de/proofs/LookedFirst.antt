@@ -8,20 +8,16 @@ use Rattle.amqp_base.specs.Codes.{Kind, row}
 use Rattle.amqp_base.specs.Item.{Item}
 use Rattle.amqp_base.specs.Typing.{is_of}
 use Rattle.amqp_base.specs.Refusals.{IsCustom, IsDevice}
-use Rattle.amqp_base.specs.Wire.{Constructor, bare, under, under_pair, Wire, lenient, of_code, of_described}
+use Rattle.amqp_base.specs.Wire.{Wire, lenient}
 use Rattle.amqp_read.specs.Reading.{Reading, Takes, Stays}
 use Rattle.amqp_read.specs.Steps.{Looked}
 use Rattle.amqp_de.specs.Decoding.{Decoding, stands_under}
 use Rattle.amqp_de.specs.Law.{Found, Missed, Excused, Overfull, Spent, refused_free, no_memory, faulted, uncounted}
 use Rattle.amqp_de.specs.Look.{item_kind, looked_at, Looks, LooksNot}
-use Rattle.amqp_de.proofs.Readings.{steady_then, behind, excused_more}
+use Rattle.amqp_de.proofs.Received.{agree_front, left_behind, keeps_known, may_known, may_taken}
+use Rattle.amqp_de.proofs.Readings.{steady_then, excused_more}
 use Rattle.amqp_de.proofs.Answered.{of_kind_is, not_refused, spent_refused}
-use Rattle.amqp_de.proofs.Looking.{code_stands}
-
-keeps_known : (k l : Option (List ℕ)) (s : List ℕ) → Keeps k l → k ≡ Some s → l ≡ Some s
-keeps_known None l s h e = absurd cc
-keeps_known (Some t) None s h e = absurd h
-keeps_known (Some t) (Some u) s h e = ap Some h ∙ e
+use Rattle.amqp_de.proofs.Looking.{own_byte, code_stands}
 
 keeps_overfull : (n : ℕ) (k l : Option (List ℕ)) → Keeps k l → Overfull n l → Overfull n k
 keeps_overfull n None l h o = tt
@@ -40,21 +36,15 @@ excused_kept old mid new e s (faulted p q) = faulted (let f = s.steady.faults in
 excused_kept old mid new e s (uncounted p q o) = uncounted p q (keeps_overfull old.taken old.to_come mid.to_come s.to_come (rw s.taken at o))
 
 -- the next item stands under the same
-same_place : (old mid : Decoding) (x : EncodingCodes) → Looks old mid x → stands_under mid ≡ stands_under old
+pub same_place : (old mid : Decoding) (x : EncodingCodes) → Looks old mid x → stands_under mid ≡ stands_under old
 same_place old mid x l = rw (l.inherited, l.described) refl
-
--- a byte that was looked at is the item's own
-own_byte : (c : Constructor) (t : List ℕ) (i : Item) → Wire lenient c t i → looked_at c ≤ length t
-own_byte bare t i (of_code p h) = omega arith
-own_byte bare t i (of_described a b g h) = omega arith
-own_byte (under e) t i w = omega arith
-own_byte (under_pair d e) t i w = omega arith
 
 takes_behind : (n : ℕ) (old mid new : Reading) (x : List ℕ) → Looked n old mid → n ≤ length x → Takes mid new x → Takes old new x
 takes_behind n old mid new x l h t = record {
   to_come = keeps_consumes old.to_come mid.to_come new.to_come x l.stays.to_come t.to_come;
   taken = omega (arith, t.taken, l.stays.taken);
-  ahead = omega (arith, l.ahead, l.stays.ahead, t.ahead, h);
+  received = t.received ∙ left_behind n (length x) old.received mid.received l.stays.received l.received h;
+  agrees = agree_front old.received mid.received x l.stays.received t.agrees;
   steady = steady_then old mid new l.stays.steady t.steady;
 }
 
@@ -89,7 +79,8 @@ missed_of_kind takes some more grows buffers old mid new x e g h l m = record {
   why = λ a i t rest w q at f.
       let same = same_place old mid x l in
       let v : Wire lenient (stands_under mid) t i = rw same w in
-      excused_kept old.reading mid.reading new.reading e l.looked.stays (excused_more mid.reading new.reading e g (m.why l.answers i t rest v (h i (l.kind i t rest w at) q) (keeps_known old.reading.to_come mid.reading.to_come (t ++ rest) l.looked.stays.to_come at) (l.looked.stays.steady.honest ∙ f)));
+      let known = keeps_known old.reading.to_come mid.reading.to_come (t ++ rest) l.looked.stays.to_come at in
+      excused_kept old.reading mid.reading new.reading e l.looked.stays (excused_more mid.reading new.reading e g (m.why l.answers i t rest v (h i (l.kind i t w (may_known mid.reading t rest known)) q) known (l.looked.stays.steady.honest ∙ f)));
   spent = λ a. let same = same_place old mid x l in let s = m.spent l.answers in spent_behind old mid new x _ l (rw same at s);
   steady = steady_then old.reading mid.reading new.reading l.looked.stays.steady m.steady;
   device = λ d. let f = l.looked.stays.steady.faults in let n = m.device d in omega (arith, f, n);
@@ -148,7 +139,7 @@ custom_device text _ c d = d
 -- a code of another kind stands there
 pub missed_custom : (k : Kind) (buffers : Bool) (old new : Decoding) (x : EncodingCodes) (text : List ℕ) (e : Error) → Looks old new x → ((row x).kind ≡ k → ⊥) → IsCustom text e → Missed (is_of k) true buffers old new e
 missed_custom k buffers old new x text e l n c = record {
-  why = λ a i t rest w q at h. absurd (n (l.kind i t rest w at ∙ kind_is k i q));
+  why = λ a i t rest w q at h. absurd (n (l.kind i t w (may_known new.reading t rest (keeps_known old.reading.to_come new.reading.to_come (t ++ rest) l.looked.stays.to_come at)) ∙ kind_is k i q));
   spent = λ a. none_spent old new l.begun l.looked.stays;
   steady = l.looked.stays.steady;
   device = λ d. absurd (custom_device text e c d);
@@ -161,10 +152,9 @@ missed_other k buffers takes means old mid new x l f n = record {
   why = λ a i t rest w q at h.
       let o = f.front l.answers in
       let known = keeps_known old.reading.to_come mid.reading.to_come (t ++ rest) l.looked.stays.to_come at in
-      let b = behind mid.reading new.reading (t ++ rest) o.text o.step known in
       let same = same_place old mid x l in
       let v : Wire lenient (stands_under old) o.text o.item = rw same at (o.spelled) in
-      absurd (n o.item o.value (sym (l.kind o.item o.text b.0 v (at ∙ ap Some b.2)) ∙ l.kind i t rest w at ∙ kind_is k i q));
+      absurd (n o.item o.value (sym (l.kind o.item o.text v (may_taken mid.reading new.reading o.text o.step)) ∙ l.kind i t w (may_known mid.reading t rest known) ∙ kind_is k i q));
   spent = λ a. let same = same_place old mid x l in let s = f.spent l.answers in spent_refused old new (spent_behind old mid new x _ l (rw same at s));
   steady = steady_then old.reading mid.reading new.reading l.looked.stays.steady f.steady;
   device = λ d. absurd d;

@@ -1,7 +1,7 @@
 -- A look at the next item.
-use Rattle.std.proofs.Common.{◌≡◌, ℕ, zero, suc, Bool, List, [], ◌∷◌, ◌++◌, take, Option, Some, None, Result, Ok, Err, refl, sym, ap, ◌∙◌, arith, inl, inr, ◌⊎◌, IsTrue}
+use Rattle.std.proofs.Common.{◌≡◌, ℕ, zero, suc, ◌≤◌, Bool, List, [], ◌∷◌, ◌++◌, length, Option, Some, None, Result, Ok, Err, refl, sym, ap, ◌∙◌, arith, inl, inr, ◌⊎◌, IsTrue}
 use Rattle.std.specs.Prelude.{IfOk, IfErr}
-use Rattle.std.proofs.lemmas.Option.{same_Some}
+use Rattle.std.proofs.lemmas.List.{take_all}
 use Rattle.amqp_base.specs.declared.error.Error.{Error}
 use Rattle.amqp_base.specs.declared.error.Error.TheVariants.{InvalidFormatCode}
 use Rattle.amqp_base.specs.declared.format_code.EncodingCodes.{EncodingCodes}
@@ -13,10 +13,12 @@ use Rattle.amqp_base.specs.Wire.{Constructor, bare, under, under_pair, Wire, len
 use Rattle.amqp_base.proofs.CodeAgain.{code_again}
 use Rattle.amqp_read.specs.Reading.{Reading}
 use Rattle.std.specs.Io.KnownBytes.{Keeps}
-use Rattle.amqp_read.specs.Steps.{Looked, StartsWith}
+use Rattle.amqp_read.specs.Steps.{Looked, Shows, MayCome}
 use Rattle.amqp_de.specs.Decoding.{Decoding, stands_under}
 use Rattle.amqp_de.specs.Parse.{Parsed, any_code, code_or_refusal, behind_byte, code_at}
-use Rattle.amqp_de.specs.Look.{item_kind, Peeks, PeeksNot, Looks}
+use Rattle.amqp_de.specs.Look.{item_kind, looked_at, Peeks, PeeksNot, Looks}
+use Rattle.amqp_de.proofs.Received.{keeps_known, shown_known, shown_first}
+use Rattle.amqp_de.proofs.Readings.{steady_same}
 use Rattle.amqp_de.proofs.Data.{any_code_is, data_kind}
 use Rattle.amqp_de.proofs.KindCodes.{code_byte}
 use Rattle.amqp_de.proofs.FixedWidth.{not_device}
@@ -41,37 +43,22 @@ any_none (suc b) n = tell (code_of (suc b)) refl
     tell (Some e) h = absurd (n e (code_byte (suc b) e h))
     tell None h = rw h refl
 
--- the first byte of known bytes
-first : (s : List ℕ) (b : ℕ) → take 1 s ≡ b ∷ [] → (rest : List ℕ) × (s ≡ b ∷ rest)
-first [] b h = absurd cc
-first (x ∷ s) b h = (s, let q : x ≡ b = head_is x b h in ap (λ (z : ℕ). z ∷ s) q)
-  where
-    head_is : (x b : ℕ) → (x ∷ []) ≡ (b ∷ []) → x ≡ b
-    head_is x b h = cc
-
-seen : (k : Option (List ℕ)) (s : List ℕ) (b : ℕ) → StartsWith k (b ∷ []) → k ≡ Some s → (rest : List ℕ) × (s ≡ b ∷ rest)
-seen None s b h e = absurd cc
-seen (Some t) s b h e = let q : t ≡ s = same_Some t s e in first s b (rw q at h)
-
 code_here : (b : ℕ) (e : EncodingCodes) (s rest : List ℕ) → s ≡ b ∷ rest → any_code b ≡ Ok e → code_at bare s ≡ Ok (e, rest)
 code_here b e s rest h p = rw (h, p) refl
 
 no_code_here : (b : ℕ) (s rest : List ℕ) → s ≡ b ∷ rest → any_code b ≡ Err InvalidFormatCode → code_at bare s ≡ Err InvalidFormatCode
 no_code_here b s rest h p = rw (h, p) refl
 
-pub peeks : (b : ℕ) (r : Result EncodingCodes Error) (old new : Reading) → CodeOf b r → StartsWith old.to_come (b ∷ []) → Looked 1 old new → IfOk r (λ e. Peeks e old new)
-peeks b (Ok e) old new c s l = record {
-  looked = l;
-  exact = λ t at. let f = seen old.to_come t b s at in (f.0, code_here b e t f.0 f.1 (ap any_code (sym c) ∙ any_again e));
-}
+pub peeks : (b : ℕ) (r : Result EncodingCodes Error) (old new : Reading) → CodeOf b r → Shows new (b ∷ []) → Looked 1 old new → IfOk r (λ e. Peeks e old new)
+peeks b (Ok e) old new c s l = record { looked = l; shown = rw c s }
 peeks b (Err e) old new c s l = tt
 
-pub peeks_not : (buffers : Bool) (b : ℕ) (r : Result EncodingCodes Error) (old new : Reading) → CodeOf b r → StartsWith old.to_come (b ∷ []) → Looked 1 old new → IfErr r (λ e. PeeksNot buffers old new e)
+pub peeks_not : (buffers : Bool) (b : ℕ) (r : Result EncodingCodes Error) (old new : Reading) → CodeOf b r → Shows new (b ∷ []) → Looked 1 old new → IfErr r (λ e. PeeksNot buffers old new e)
 peeks_not buffers b (Ok e) old new c s l = tt
 peeks_not buffers b (Err e) old new c s l = record {
   looked = l;
   rejects = record {
-    why = λ t at h. let f = seen old.to_come t b s at in inl (no_code_here b t f.0 f.1 (any_none b c.1) ∙ ap Err (sym c.0));
+    why = λ t at h. let f = shown_known new t b s (keeps_known old.to_come new.to_come t l.stays.to_come at) in inl (no_code_here b t f.0 f.1 (any_none b c.1) ∙ ap Err (sym c.0));
     steady = l.stays.steady;
     device = λ d. absurd (not_device (rw c.0 at d));
   };
@@ -119,7 +106,7 @@ looks_kind (under f) e t rest r i w h = rw (← at_byte (row f).byte f e (t ++ r
 looks_kind (under_pair d f) e t rest r _ (of_pair w) h = rw (← at_byte 0 DescribedType e (t ++ rest) r zero_any h) described_row
 
 stays_same : (r : Reading) → Looked 0 r r
-stays_same r = record { stays = record { to_come = keeps r.to_come; taken = refl; ahead = omega arith; steady = record { honest = refl; origin = refl; faults = omega arith; taken = omega arith } }; ahead = omega arith }
+stays_same r = record { stays = record { to_come = keeps r.to_come; taken = refl; received = take_all (length r.received) r.received (omega arith); steady = steady_same r }; received = omega arith }
   where
     keeps : (k : Option (List ℕ)) → Keeps k k
     keeps None = tt
@@ -129,6 +116,23 @@ stays_same r = record { stays = record { to_come = keeps r.to_come; taken = refl
 abbrev pub looked_with : Decoding → Reading → Decoding
 looked_with old r = record { reading = r; answers = old.answers; inherited = old.inherited; described = old.described; begun = old.begun }
 
+-- a byte that was looked at is the item's own
+pub own_byte : (c : Constructor) (t : List ℕ) (i : Item) → Wire lenient c t i → looked_at c ≤ length t
+own_byte bare t i (of_code p h) = omega arith
+own_byte bare t i (of_described a b g h) = omega arith
+own_byte (under e) t i w = omega arith
+own_byte (under_pair d e) t i w = omega arith
+
+shown_kind : (e : EncodingCodes) (r : Reading) (t : List ℕ) (i : Item) → Shows r ((row e).byte ∷ []) → Wire lenient bare t i → MayCome r t → (row e).kind ≡ item_kind i
+shown_kind e r t i h w m =
+    let f = shown_first r t (row e).byte h m (own_byte bare t i w) in
+    looks_kind bare e t [] (f.0 ++ []) i w (code_here (row e).byte e (t ++ []) (f.0 ++ []) (ap (λ (z : List ℕ). z ++ []) f.1) (any_again e))
+
+shown_exact : (e : EncodingCodes) (old new : Reading) → Peeks e old new → (s : List ℕ) → old.to_come ≡ Some s → (rest : List ℕ) × (code_at bare s ≡ Ok (e, rest))
+shown_exact e old new p s at =
+    let f = shown_known new s (row e).byte p.shown (keeps_known old.to_come new.to_come s p.looked.stays.to_come at) in
+    (f.0, code_here (row e).byte e s f.0 f.1 (any_again e))
+
 pub looks_ahead : (old : Decoding) (r : Reading) (e : EncodingCodes) → IsTrue old.answers → stands_under old ≡ bare → Peeks e old.reading r → Looks old (looked_with old r) e
 looks_ahead old r e a c p = record {
   looked = rw c p.looked;
@@ -136,8 +140,9 @@ looks_ahead old r e a c p = record {
   inherited = refl;
   described = refl;
   begun = refl;
-  exact = λ s at. rw c (p.exact s at);
-  kind = λ i t rest w at. let x = p.exact (t ++ rest) at in looks_kind bare e t rest x.0 i (rw c at w) x.1;
+  exact = λ s at. rw c (shown_exact e old.reading r p s at);
+  shown = rw c p.shown;
+  kind = λ i t w m. shown_kind e r t i p.shown (rw c at w) m;
 }
 
 -- a code that is inherited
@@ -152,7 +157,8 @@ looks_under old f a c = record {
   described = refl;
   begun = refl;
   exact = λ s at. (s, rw c (inherited_code f s));
-  kind = λ i t rest w at. under_kind f t i (rw c at w);
+  shown = rw c tt;
+  kind = λ i t w m. under_kind f t i (rw c at w);
 }
 
 pair_code : (d : Descriptor) (f : EncodingCodes) (s : List ℕ) → code_at (under_pair d f) s ≡ Ok (DescribedType, s)
@@ -166,7 +172,8 @@ looks_pair old d f a c = record {
   described = refl;
   begun = refl;
   exact = λ s at. (s, rw c (pair_code d f s));
-  kind = λ i t rest w at. looks_kind (under_pair d f) DescribedType t rest (t ++ rest) i (rw c at w) (pair_code d f (t ++ rest));
+  shown = rw c tt;
+  kind = λ i t w m. looks_kind (under_pair d f) DescribedType t [] (t ++ []) i (rw c at w) (pair_code d f (t ++ []));
 }
 
 -- where an item stands, its code stands

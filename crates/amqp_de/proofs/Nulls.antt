@@ -1,5 +1,5 @@
 -- An item that may be null.
-use Rattle.std.proofs.Common.{◌≡◌, ℕ, Bool, true, false, ◌||◌, IsTrue, List, Option, Some, None, refl, sym, ap, ◌∙◌}
+use Rattle.std.proofs.Common.{◌≡◌, Bool, false, ◌||◌, IsTrue, Some, None, refl, sym, ap, ◌∙◌}
 use Rattle.amqp_base.specs.declared.error.Error.{Error}
 use Rattle.amqp_base.specs.declared.format_code.EncodingCodes.{EncodingCodes}
 use Rattle.amqp_base.specs.declared.format_code.EncodingCodes.TheVariants.{Null}
@@ -8,12 +8,12 @@ use Rattle.amqp_base.specs.Item.{Item, scalar, null, list, map, array, described
 use Rattle.amqp_base.specs.Options.{takes_option, means_option}
 use Rattle.amqp_base.specs.Typing.{is_of, is_null}
 use Rattle.amqp_base.specs.SameKind.{same_kind, place}
-use Rattle.amqp_de.specs.Decoding.{Decoding}
+use Rattle.amqp_base.specs.Wire.{Wire, lenient}
+use Rattle.amqp_de.specs.Decoding.{Decoding, stands_under}
 use Rattle.amqp_de.specs.Law.{Found, Missed}
 use Rattle.amqp_de.specs.Look.{item_kind, Looks, LooksNot}
-use Rattle.amqp_de.specs.Optional.{read_option}
-use Rattle.amqp_de.proofs.Readings.{behind}
-use Rattle.amqp_de.proofs.LookedFirst.{found_behind, found_as, missed_of_kind, missed_unseen}
+use Rattle.amqp_de.proofs.Received.{may_taken}
+use Rattle.amqp_de.proofs.LookedFirst.{same_place, found_behind, found_as, missed_of_kind, missed_unseen}
 use Rattle.amqp_de.proofs.ReadParts.{or_right}
 
 pub null_code : (e : EncodingCodes) → (row e).kind ≡ Kind.null → e ≡ Null
@@ -42,27 +42,35 @@ other_kind : (x : EncodingCodes) (i : Item) → (x ≡ Null → ⊥) → (row x)
 other_kind x i n k = not_null i (λ h. n (null_code x (k ∙ h)))
 
 pub none_found : {T : Type 0} (takes : Item → Bool) (means : Item → T → Type 0) (old mid new : Decoding) (x : EncodingCodes) → Looks old mid x → Found (is_of Kind.null) (λ i. i ≡ scalar (null)) mid new
-    → Found (takes_option takes) (λ i. read_option old.reading.to_come means i None) old new
-none_found takes means old mid new x l f = found_as (is_of Kind.null) (takes_option takes) (λ i. i ≡ scalar (null)) (λ i. read_option old.reading.to_come means i None) old new (λ i t m. (rw m refl, rw m refl)) (found_behind (is_of Kind.null) (λ i. i ≡ scalar (null)) old mid new x l f)
+    → Found (takes_option takes) (λ i. means_option means i None) old new
+none_found takes means old mid new x l f = found_as (is_of Kind.null) (takes_option takes) (λ i. i ≡ scalar (null)) (λ i. means_option means i None) old new (λ i t m. (rw m refl, rw m refl)) (found_behind (is_of Kind.null) (λ i. i ≡ scalar (null)) old mid new x l f)
 
-pub some_found : {T : Type 0} (takes : Item → Bool) (means : Item → T → Type 0) (v : T) (old mid new : Decoding) (x : EncodingCodes) → (x ≡ Null → ⊥) → Looks old mid x → Found takes (λ i. means i v) mid new
-    → Found (takes_option takes) (λ i. read_option old.reading.to_come means i (Some v)) old new
-some_found takes means v old mid new x n l g = let f = found_behind takes (λ i. means i v) old mid new x l g in record {
-  front = λ a. let o = f.front a in record {
-    item = o.item;
-    text = o.text;
-    spelled = o.spelled;
-    taken = or_right (is_null o.item) (takes o.item) o.taken;
-    value = ((λ s at. let b = behind old.reading new.reading s o.text o.step at in other_kind x o.item n (l.kind o.item o.text b.0 o.spelled (at ∙ ap Some b.2))), o.value);
-    step = o.step;
-    answers = o.answers;
-    inherited = o.inherited;
-    described = o.described;
-    begun = o.begun;
-  };
+-- a value behind another code than null's isn't null
+some_here : {T : Type 0} (takes : Item → Bool) (means : Item → T → Type 0) (v : T) (old mid new : Decoding) (x : EncodingCodes) → (x ≡ Null → ⊥) → Looks old mid x → Found takes (λ i. means i v) mid new
+    → Found (takes_option takes) (λ i. means_option means i (Some v)) mid new
+some_here takes means v old mid new x n l f = record {
+  front = λ a.
+      let o = f.front a in
+      let w : Wire lenient (stands_under old) o.text o.item = rw (same_place old mid x l) at (o.spelled) in
+      record {
+        item = o.item;
+        text = o.text;
+        spelled = o.spelled;
+        taken = or_right (is_null o.item) (takes o.item) o.taken;
+        value = (other_kind x o.item n (l.kind o.item o.text w (may_taken mid.reading new.reading o.text o.step)), o.value);
+        step = o.step;
+        answers = o.answers;
+        inherited = o.inherited;
+        described = o.described;
+        begun = o.begun;
+      };
   spent = f.spent;
   steady = f.steady;
 }
+
+pub some_found : {T : Type 0} (takes : Item → Bool) (means : Item → T → Type 0) (v : T) (old mid new : Decoding) (x : EncodingCodes) → (x ≡ Null → ⊥) → Looks old mid x → Found takes (λ i. means i v) mid new
+    → Found (takes_option takes) (λ i. means_option means i (Some v)) old new
+some_found takes means v old mid new x n l f = found_behind (takes_option takes) (λ i. means_option means i (Some v)) old mid new x l (some_here takes means v old mid new x n l f)
 
 pub none_missed : (takes : Item → Bool) (grows buffers : Bool) (old mid new : Decoding) (x : EncodingCodes) (e : Error) → x ≡ Null → Looks old mid x → Missed (is_of Kind.null) buffers buffers mid new e → Missed (takes_option takes) (grows || buffers) buffers old new e
 none_missed takes grows buffers old mid new x e n l m = missed_of_kind (is_of Kind.null) (takes_option takes) buffers (grows || buffers) buffers old mid new x e (or_right grows buffers) (λ i k q. is_null_kind i (sym k ∙ (ap (λ (c : EncodingCodes). (row c).kind) n ∙ null_kind))) l m
@@ -72,12 +80,3 @@ some_missed takes grows buffers old mid new x e n l m = missed_of_kind takes (ta
 
 pub unseen_missed : (takes : Item → Bool) (grows buffers : Bool) (old new : Decoding) (e : Error) → LooksNot buffers old new e → Missed (takes_option takes) (grows || buffers) buffers old new e
 unseen_missed takes grows buffers old new e n = missed_unseen (takes_option takes) (grows || buffers) buffers old new e (or_right grows buffers) n
-
--- over known bytes
-as_means : {T : Type 0} (known : Option (List ℕ)) (s : List ℕ) (means : Item → T → Type 0) (o : Option T) (i : Item) → known ≡ Some s → read_option known means i o → means_option means i o
-as_means known s means None i k r = r
-as_means known s means (Some v) i k r = (r.0 s k, r.1)
-
-pub option_known : {T : Type 0} (takes : Item → Bool) (means : Item → T → Type 0) (o : Option T) (old new : Decoding) (s : List ℕ) → old.reading.to_come ≡ Some s → Found (takes_option takes) (λ i. read_option old.reading.to_come means i o) old new
-    → Found (takes_option takes) (λ i. means_option means i o) old new
-option_known takes means o old new s k f = found_as (takes_option takes) (takes_option takes) (λ i. read_option old.reading.to_come means i o) (λ i. means_option means i o) old new (λ i t m. (t, as_means old.reading.to_come s means o i k m)) f

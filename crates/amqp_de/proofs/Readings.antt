@@ -1,16 +1,17 @@
 -- Steps of a reader, one after the other.
-use Rattle.std.proofs.Common.{◌≡◌, ℕ, ◌+◌, ◌^◌, ◌≤◌, ◌<◌, Bool, List, [], ◌++◌, length, Option, Some, None, refl, sym, ap, ◌∙◌, arith, append_assoc, IsTrue, ◌⊎◌, inl, inr, Err}
+use Rattle.std.proofs.Common.{◌≡◌, ℕ, ◌+◌, ◌^◌, ◌≤◌, ◌<◌, Bool, List, [], ◌∷◌, ◌++◌, length, Option, Some, None, refl, sym, ap, ◌∙◌, arith, append_assoc, IsTrue, ◌⊎◌, inl, inr, Err}
 use Rattle.std.proofs.lemmas.List.{length-append}
 use Rattle.std.specs.Io.KnownBytes.{Consumes}
 use Rattle.std.specs.declared.io.ErrorKind.TheVariants.{UnexpectedEof, Other}
 use Rattle.amqp_base.specs.declared.error.Error.{Error}
 use Rattle.amqp_base.specs.declared.error.Error.TheVariants.{Io, OutOfMemory}
 use Rattle.amqp_base.specs.Refusals.{IsDevice}
-use Rattle.amqp_read.specs.Reading.{Reading, Steady, Takes}
+use Rattle.amqp_read.specs.Reading.{Reading, Agree, Steady, Takes}
 use Rattle.amqp_read.specs.Steps.{IsShort, HasBytes, NotTaken}
 use Rattle.amqp_de.specs.Law.{Overfull, Excused, no_memory, faulted, uncounted}
 use Rattle.amqp_de.specs.Parse.{Parsed}
 use Rattle.amqp_de.specs.Steps.{Rejects, Unread}
+use Rattle.amqp_de.proofs.Received.{agree_then, left_then}
 
 pub steady_same : (r : Reading) → Steady r r
 steady_same r = record { honest = refl; origin = refl; faults = omega arith; taken = omega arith }
@@ -22,8 +23,12 @@ consumes_nothing : (k : Option (List ℕ)) → Consumes k k []
 consumes_nothing None = tt
 consumes_nothing (Some s) = refl
 
+agree_none : (s : List ℕ) → Agree s []
+agree_none [] = tt
+agree_none (x ∷ s) = tt
+
 pub takes_nothing : (r : Reading) → Takes r r []
-takes_nothing r = record { to_come = consumes_nothing r.to_come; taken = omega arith; ahead = omega arith; steady = steady_same r }
+takes_nothing r = record { to_come = consumes_nothing r.to_come; taken = omega arith; received = refl; agrees = agree_none r.received; steady = steady_same r }
 
 consumes_then : (a b c : Option (List ℕ)) (x y : List ℕ) → Consumes a b x → Consumes b c y → Consumes a c (x ++ y)
 consumes_then None b c x y p q = tt
@@ -35,7 +40,8 @@ pub takes_then : (a b c : Reading) (x y : List ℕ) → Takes a b x → Takes b 
 takes_then a b c x y p q = record {
   to_come = consumes_then a.to_come b.to_come c.to_come x y p.to_come q.to_come;
   taken = omega (arith, p.taken, q.taken, length-append x y);
-  ahead = omega (arith, p.ahead, q.ahead, length-append x y);
+  received = left_then a.received b.received c.received x y p.received q.received;
+  agrees = agree_then a.received x y p.agrees (rw p.received at q.agrees);
   steady = steady_then a b c p.steady q.steady;
 }
 

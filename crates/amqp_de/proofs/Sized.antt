@@ -14,17 +14,21 @@ use Rattle.amqp_base.specs.Value.{number, payload}
 use Rattle.amqp_base.specs.Wire.{lenient, of_data, Data, of_variable, variable}
 use Rattle.amqp_base.specs.Refusals.{IsDevice}
 use Rattle.amqp_base.proofs.KindPlaces.{kind_same}
-use Rattle.amqp_read.specs.Reading.{Reading, Stays}
+use Rattle.amqp_read.specs.Reading.{Reading, Stays, Takes}
 use Rattle.amqp_read.specs.Steps.{NotTaken}
 use Rattle.amqp_de.specs.Parse.{Parsed, ◌>>=◌, bytes_at, sized_at, utf8, text_at, valued, value_or_refusal, bad_payload, data_at, behind_byte}
 use Rattle.amqp_de.specs.Steps.{IsData, Rejects, Number, Payload, Text}
 use Rattle.amqp_de.specs.Law.{Excused}
-use Rattle.amqp_de.proofs.Readings.{unread_rejects, rejects_then, rejects_after}
+use Rattle.amqp_de.proofs.Readings.{takes_then, unread_rejects, rejects_then, rejects_after}
 use Rattle.amqp_de.proofs.Data.{bytes_there, bytes_short, behind_code}
 
 -- the length is there
 pub length_there : (w : ℕ) (l s : List ℕ) → length l ≡ w → sized_at w (l ++ s) ≡ bytes_at (number l) s
 length_there w l s h = rw (bytes_there w l s h) refl
+
+pub payload_ok : {V : Type 0} (items : V → List ℕ) (w n : ℕ) (old mid new : Reading) (r : Result V Error) → Number w n old mid → IfOk r (λ v. (length (items v) ≡ n) × Takes mid new (items v)) → IfOk r (λ v. Payload w (items v) old new)
+payload_ok items w n old mid new (Ok v) d t = record { digits = d.digits; len = d.len; value = d.value ∙ sym t.0; step = takes_then old mid new d.digits (items v) d.step t.1 }
+payload_ok items w n old mid new (Err e) d t = tt
 
 payload_refused : (buffers : Bool) (w n : ℕ) (old mid new : Reading) (e : Error) → Number w n old mid → Stays mid new → NotTaken true buffers n mid new e → Rejects true buffers (sized_at w) old new e
 payload_refused buffers w n old mid new e d s u =

@@ -9,4 +9,3 @@ pub mod ReadParts
 pub mod Look
 pub mod OneCode
 pub mod Decimals
-pub mod Optional

@@ -2,7 +2,7 @@
 
 ghost use Rattle.std.specs.Prelude.{◌≡◌, Bool, true, false, ◌||◌, ◌∷◌, [], IsTrue, IfOk, IfErr, Some};
 ghost use Rattle.amqp_read.specs.Reading.{Reading};
-ghost use Rattle.amqp_read.specs.Steps.{Looked, StartsWith};
+ghost use Rattle.amqp_read.specs.Steps.{Looked, Shows};
 ghost use Rattle.amqp_de.specs.Law.{Found, Missed};
 ghost use Rattle.amqp_de.specs.Look.{Looks, LooksNot, Peeks, PeeksNot};
 ghost use Rattle.amqp_de.specs.Steps.{Stops};

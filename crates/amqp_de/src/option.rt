@@ -1,9 +1,8 @@
 //! Values that may be missing.
 
-ghost use Rattle.std.specs.Prelude.{◌≡◌, ℕ, Bool, ◌||◌, List, Some, IfOk, IfErr};
+ghost use Rattle.std.specs.Prelude.{◌||◌, IfOk, IfErr};
 ghost use Rattle.amqp_base.specs.Options.{takes_option, means_option};
 ghost use Rattle.amqp_de.specs.Law.{Found, Missed};
-ghost use Rattle.amqp_de.specs.Optional.{read_option};
 ghost use Rattle.amqp_de.specs.Steps.{Stops};
 
 use crate::{Deserialize, Deserializer};
@@ -21,8 +20,7 @@ impl<R: Read> Deserializer<R> {
         &mut self,
         alloc: Global,
     ) -> Result<Option<T>, Error>
-        ensures ok { IfOk result (λ v. Found (takes_option T.takes) (λ i. read_option self.old.reading.to_come T.means i v) self.old self.new) }
-        ensures known { IfOk result (λ v. (s : List ℕ) → self.old.reading.to_come ≡ Some s → Found (takes_option T.takes) (λ i. means_option T.means i v) self.old self.new) }
+        ensures ok { IfOk result (λ v. Found (takes_option T.takes) (λ i. means_option T.means i v) self.old self.new) }
         ensures err { IfErr result (λ e. Missed (takes_option T.takes) (T.grows || R.buffers) R.buffers self.old self.new e) }
         ensures stops { Stops self.old result self.new }
     {
@@ -39,5 +37,13 @@ impl<R: Read> Deserializer<R> {
             },
             Err(e) => Err(e),
         }
+    }
+}
+
+impl<R: Read, T: Deserialize<R>> Deserialize<R> for Option<T> {
+    /// Null is `None`, any other item a value of the type. The refusals are those of `deserialize_option`.
+    #[inline(always)]
+    fn deserialize(alloc: Global, de: &mut Deserializer<R>) -> Result<Option<T>, Error> {
+        de.deserialize_option(alloc)
     }
 }

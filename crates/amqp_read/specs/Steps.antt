@@ -4,12 +4,25 @@ use Rattle.std.specs.Io.KnownBytes.{IsAtEnd}
 use Rattle.std.specs.declared.io.ErrorKind.TheVariants.{UnexpectedEof, Other}
 use Rattle.amqp_base.specs.declared.error.Error.{Error}
 use Rattle.amqp_base.specs.declared.error.Error.TheVariants.{Io, OutOfMemory}
-use Rattle.amqp_read.specs.Reading.{Reading, Stays}
+use Rattle.amqp_read.specs.Reading.{Reading, Agree, Stays}
 
--- known bytes begin with these
-abbrev pub StartsWith : Option (List ℕ) → List ℕ → Type 0
-StartsWith None b = ⊤
-StartsWith (Some s) b = take (length b) s ≡ b
+-- the known bytes begin with these; where none are known, the received ones do
+abbrev pub StartsWith : Option (List ℕ) → List ℕ → List ℕ → Type 0
+StartsWith None received b = take (length b) received ≡ b
+StartsWith (Some s) received b = take (length b) s ≡ b
+
+-- the next bytes are these, and they were received, save where all bytes are known
+abbrev pub Shows : Reading → List ℕ → Type 0
+Shows r b = StartsWith r.to_come r.received b
+
+-- the known bytes begin with these; where none are known, the received ones are the same as far as both go
+abbrev pub Admits : Option (List ℕ) → List ℕ → List ℕ → Type 0
+Admits None received b = Agree received b
+Admits (Some s) received b = take (length b) s ≡ b
+
+-- by what is known and received these may be the next bytes
+abbrev pub MayCome : Reading → List ℕ → Type 0
+MayCome r b = Admits r.to_come r.received b
 
 -- fewer than n known bytes are to come
 abbrev pub ShortOf : ℕ → Option (List ℕ) → Type 0
@@ -49,4 +62,4 @@ NotTaken grows buffers n old new e = ((e ≡ Io UnexpectedEof) × IsShort n old)
 -- a look: nothing was consumed, and no byte behind the n that were looked at was received
 pub record Looked (n : ℕ) (old new : Reading) : Type 0 where
   pub stays : Stays old new
-  pub ahead : new.ahead ≤ max old.ahead n
+  pub received : length new.received ≤ max (length old.received) n

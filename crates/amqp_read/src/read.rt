@@ -2,7 +2,7 @@
 
 ghost use Rattle.std.specs.Prelude.{◌≡◌, ◌≢◌, ◌⊎◌, ◌+◌, ◌<◌, ◌≤◌, ℕ, Bool, true, IsTrue, List, [], ◌∷◌, length, OnOk, OnErr, IfOk, IfErr, MatchOption};
 ghost use Rattle.amqp_read.specs.Reading.{Reading, Stays, Takes};
-ghost use Rattle.amqp_read.specs.Steps.{StartsWith, Ended, IsShort, Fails, NotTaken, PassesCount, Holds, Looked};
+ghost use Rattle.amqp_read.specs.Steps.{Shows, MayCome, Ended, IsShort, Fails, NotTaken, PassesCount, Holds, Looked};
 ghost use Rattle.amqp_base.specs.declared.error.Error.TheVariants.{OutOfMemory};
 
 use amqp_base::Error;
@@ -27,7 +27,7 @@ pub trait Read: sealed::Sealed + Drop {
 
     /// The next byte, which stays; `None` at the end.
     fn peek(&mut self) -> Result<Option<u8>, Error>
-        ensures ok { IfOk result (λ o. MatchOption o (Ended (reading self.old)) (λ b. StartsWith (reading self.old).to_come (b ∷ []))) }
+        ensures ok { IfOk result (λ o. MatchOption o (Ended (reading self.old)) (λ b. Shows (reading self.new) (b ∷ []))) }
         ensures looked { Looked 1 (reading self.old) (reading self.new) }
         ensures why { IfErr result (λ e. Fails buffers buffers (reading self.old) (reading self.new) e) };
 
@@ -52,7 +52,7 @@ pub trait Read: sealed::Sealed + Drop {
     /// The next `n` bytes, which stay; `None` where fewer are to come.
     // No clause on how the reader ends reaches a caller's proof, since the error may own memory: see `SliceReader`'s.
     fn peek_bytes(&mut self, n: usize) -> Result<Option<&[u8]>, Error>
-        ensures ok { IfOk result (λ o. MatchOption o (IsShort n (reading self.old)) (λ b. (length b.now ≡ n) × StartsWith (reading self.old).to_come b.now)) }
+        ensures ok { IfOk result (λ o. MatchOption o (IsShort n (reading self.old)) (λ b. (length b.now ≡ n) × MayCome (reading self.old) b.now)) }
         ensures why { OnErr result (IsTrue buffers) };
 
     /// Consumes the next `n` bytes; `Io(UnexpectedEof)` where fewer are to come, `OutOfMemory` where the vector finds no

@@ -8,7 +8,7 @@ ghost use Rattle.std.specs.Io.BufRead.{Rests};
 ghost use mir.Syntax.{named};
 ghost use Rattle.amqp_read.specs.contracts.slice_reader.SliceReader.{the_row};
 ghost use Rattle.amqp_read.specs.Reading.{Reading, Takes};
-ghost use Rattle.amqp_read.specs.Steps.{ShortOf, StartsWith, IsShort, Looked};
+ghost use Rattle.amqp_read.specs.Steps.{ShortOf, MayCome, IsShort, Looked};
 
 use crate::Read;
 use crate::read::sealed::Sealed;
@@ -30,7 +30,7 @@ impl<'s> Model for SliceReader<'s> {
 
     ghost Value = { Reading };
 
-    ghost view = { λ r. record { to_come = Some r.rest.now; taken = r.taken; ahead = 0; faults = 0; honest = true; origin = [] } };
+    ghost view = { λ r. record { to_come = Some r.rest.now; taken = r.taken; received = []; faults = 0; honest = true; origin = [] } };
 
     ghost invariant = { λ r. r.taken + length r.rest.now < 2 ^ 64 };
 }
@@ -38,7 +38,7 @@ impl<'s> Model for SliceReader<'s> {
 impl<'s> SliceReader<'s> {
     /// Reads from the first byte of `slice` on.
     pub fn new(slice: &'s [u8]) -> SliceReader<'s>
-        ensures { result ≡ record { to_come = Some slice.now; taken = 0; ahead = 0; faults = 0; honest = true; origin = [] } }
+        ensures { result ≡ record { to_come = Some slice.now; taken = 0; received = []; faults = 0; honest = true; origin = [] } }
     {
         SliceReader {
             rest: slice,
@@ -65,7 +65,7 @@ impl<'s> SliceReader<'s> {
     /// The next `n` bytes, where there are so many. They stay.
     #[inline(always)]
     fn shown(&mut self, n: usize) -> Option<&[u8]>
-        ensures bytes { MatchOption result (ShortOf n self.old.to_come) (λ b. (length b.now ≡ n) × StartsWith self.old.to_come b.now) }
+        ensures bytes { MatchOption result (ShortOf n self.old.to_come) (λ b. (length b.now ≡ n) × MayCome self.old b.now) }
         ensures* lent { sem 𝓛 (Rests (the_row (record { mir = named 1; lft = [] })) self.entry (λ last. Looked n self.old last)) }
     {
         front(self, n)
@@ -116,7 +116,7 @@ impl<'s> Read for SliceReader<'s> {
     // The proof is by hand, over `shown`'s: none is made of a loan whose result may own memory.
     #[inline(always)]
     fn peek_bytes(&mut self, n: usize) -> Result<Option<&[u8]>, Error>
-        ensures ok { IfOk result (λ o. MatchOption o (IsShort n self.old) (λ b. (length b.now ≡ n) × StartsWith self.old.to_come b.now)) }
+        ensures ok { IfOk result (λ o. MatchOption o (IsShort n self.old) (λ b. (length b.now ≡ n) × MayCome self.old b.now)) }
         ensures why { OnErr result (IsTrue false) }
         ensures* lent { sem 𝓛 (Rests (the_row (record { mir = named 1; lft = [] })) self.entry (λ last. Looked n self.old last)) }
     {
@@ -143,7 +143,7 @@ impl<'s> Read for SliceReader<'s> {
 /// The next `n` bytes, where there are so many.
 #[inline(always)]
 fn front<'a>(reader: &'a SliceReader<'_>, n: usize) -> Option<&'a [u8]>
-    ensures { MatchOption result (ShortOf n reader.now.to_come) (λ b. (length b.now ≡ n) × StartsWith reader.now.to_come b.now) }
+    ensures { MatchOption result (ShortOf n reader.now.to_come) (λ b. (length b.now ≡ n) × MayCome reader.now b.now) }
 {
     reader.rest.get(..n)
 }

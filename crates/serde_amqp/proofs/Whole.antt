@@ -60,7 +60,7 @@ reads_refused takes means grows s e old new b a h at m = record {
 
 -- a deserializer over these bytes
 abbrev pub fresh : List ℕ → Decoding
-fresh s = record { reading = record { to_come = Some s; taken = 0; ahead = 0; faults = 0; honest = true; origin = [] }; answers = true; inherited = bare; described = false; begun = 0 }
+fresh s = record { reading = record { to_come = Some s; taken = 0; received = []; faults = 0; honest = true; origin = [] }; answers = true; inherited = bare; described = false; begun = 0 }
 
 pub found_from : {T : Type 0} (takes : Item → Bool) (means : Item → T → Type 0) (s : List ℕ) (old new : Decoding) (r : Result T Error) → old ≡ fresh s → IfOk r (λ v. Found takes (λ i. means i v) old new) → IfOk r (λ v. ReadFrom takes (λ i. means i v) s)
 found_from takes means s old new (Ok v) e f =

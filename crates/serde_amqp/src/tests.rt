@@ -2,6 +2,7 @@
 
 mod compounds;
 mod forms;
+mod options;
 mod refusals;
 mod texts;
 

@@ -1,5 +1,6 @@
-use Rattle.std.proofs.Common.{arith}
+use Rattle.std.proofs.Common.{arith, rules}
 use Rattle.amqp_de.proofs.Headers.{no_size, no_count, bad_header, too_many, above_size, small_array, small_list}
+use Rattle.amqp_de.proofs.Readings.{takes_then}
 use Rattle.amqp_de.proofs.header.header.Goals as goal
 
 pub returns-in-Err-clause-err : goal.returns-in-Err-clause-err
@@ -19,3 +20,13 @@ returns-then-size-width-clause-err g c = rw c.if-is_array.true (bad_header c.arg
 
 pub returns-then-size-width-2-clause-err : goal.returns-then-size-width-2-clause-err
 returns-then-size-width-2-clause-err g c = rw c.if-is_array.false (bad_header c.args.width _ c.in-Ok.size c.in-Ok-number.count g.R.Read.buffers _ _ _ _ c.in-Ok.ensures.ok c.in-Ok-number.ensures.ok (λ d. d) (λ s. small_list c.args.width c.in-Ok.size c.in-Ok-number.count s (omega arith) (omega arith)))
+
+pub returns-then-is_array-clause-ok : goal.returns-then-is_array-clause-ok
+returns-then-is_array-clause-ok g c =
+    let step = takes_then _ _ _ _ _ c.in-Ok.ensures.ok.step c.in-Ok-number.ensures.ok.step in
+    search rules
+
+pub returns-clause-ok : goal.returns-clause-ok
+returns-clause-ok g c =
+    let step = takes_then _ _ _ _ _ c.in-Ok.ensures.ok.step c.in-Ok-number.ensures.ok.step in
+    search rules

@@ -1,5 +1,8 @@
-use Rattle.amqp_de.proofs.Sized.{payload_err}
+use Rattle.amqp_de.proofs.Sized.{payload_ok, payload_err}
 use Rattle.amqp_de.proofs.payloads.payload.Goals as goal
 
 pub returns-in-Ok-clause-err : goal.returns-in-Ok-clause-err
 returns-in-Ok-clause-err g c = payload_err g.R.Read.buffers c.args.width c.in-Ok.len _ _ _ c.read_bytes.result c.in-Ok.ensures.ok c.read_bytes.ensures.err c.read_bytes.ensures.why
+
+pub returns-in-Ok-clause-ok : goal.returns-in-Ok-clause-ok
+returns-in-Ok-clause-ok g c = payload_ok (λ v. v.items) c.args.width c.in-Ok.len _ _ _ c.read_bytes.result c.in-Ok.ensures.ok c.read_bytes.ensures.ok

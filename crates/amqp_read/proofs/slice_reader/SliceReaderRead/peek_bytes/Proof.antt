@@ -44,7 +44,7 @@ use Rattle.std.specs.contracts.result.Result as RS
 use Rattle.std.proofs.option.Option.TheLaws.{the_loose}
 use Rattle.amqp_base.specs.contracts.error.Error as E
 use Rattle.amqp_read.specs.Reading.{Reading}
-use Rattle.amqp_read.specs.Steps.{IsShort, StartsWith}
+use Rattle.amqp_read.specs.Steps.{IsShort, MayCome}
 use Rattle.amqp_read.specs.contracts.slice_reader.SliceReader.{the_row}
 use Rattle.amqp_read.specs.contracts.slice_reader.SliceReaderRead.peek_bytes as f
 use Rattle.amqp_read.proofs.slice_reader.SliceReaderRead.peek_bytes.Statement.{statement}
@@ -104,7 +104,7 @@ peek_bytes_spec 𝓤 𝓛 𝓜 𝓡 wired =
     move ! (2 ∷ []) $ pick ! (λ ws. split ! $ drop ! $ split ! $ heard ! _ (λ bytes.
     lands_as ! refl refl good $
     sets ! (agg ! (and_then ! (lit ! tt) (and_then ! (get ! refl) (no_more !)))) refl (and_tt _ good.0, (record { fits = lit< tt }, (good.1, tt))) $
-    let Shows : Type 0 → Type 0 = λ short. MatchOption r short (λ b. (length b.now ≡ a.1.0) × StartsWith a.0.now.to_come b.now) in
+    let Shows : Type 0 → Type 0 = λ short. MatchOption r short (λ b. (length b.now ≡ a.1.0) × MayCome a.0.now b.now) in
     returns ! (look_at ! 0 refl) $ free_all ! refl $ move ! (1 ∷ []) $
     use1 𝓛 (‵ ((RS.the_row (Seen κs.0) E.the_row).own_val (Ok r) (live 0 (of_list (v ∷ [])) ∷ []))) (ok_of 𝓛 (Seen κs.0) E.the_row r v) $ move ! (1 ∷ []) $
     use0 𝓛 (raw (f.ensures-why 𝓛 κs 𝓜.mem 𝓡.returns a.0 a.1.0 self n (Ok r))) (fact_i 𝓤 (Unit {0}) (emp 𝓤) tt) $ join ! $
