@@ -17,6 +17,7 @@ pub mod OneValue
 pub mod ReadBack
 pub mod Options
 pub mod Fields
+pub mod Maps
 pub mod Faults
 pub mod Refusals
 pub mod PlainArrays

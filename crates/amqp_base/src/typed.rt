@@ -2,6 +2,7 @@
 
 ghost use Rattle.std.specs.Prelude.{◌≡◌, Bool, false, IsTrue};
 
+mod maps;
 mod numbers;
 mod options;
 mod others;

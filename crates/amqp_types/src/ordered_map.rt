@@ -1,11 +1,16 @@
 //! Maps that keep the order of their keys.
 
-ghost use Rattle.std.specs.Prelude.{◌≡◌, ◌==◌, ◌&&◌, ℕ, List, [], length, option_copied, IfOk, OnOk, IfErr, OnErr};
+ghost use Rattle.std.specs.Prelude.{◌≡◌, ◌==◌, ◌&&◌, ℕ, List, [], length, option_copied, IfOk, OnOk, IfErr, OnErr, true, refl};
 ghost use Rattle.std.specs.Cmp.{on_per, and_per};
 ghost use Rattle.std.specs.Cmp.Lexicographic.{pointwise, lists_per};
 ghost use Rattle.std.specs.Map.{lookup};
 ghost use Rattle.indexmap.specs.IndexMap.{insert_entry};
+ghost use Rattle.amqp_base.specs.Maps.{pair_items, is_map_of, means_map, SameRows, one_map};
+ghost use Rattle.amqp_base.specs.Shapes.{whole};
+ghost use Rattle.amqp_base.specs.declared.shape.Setting.TheVariants.{Plain};
+ghost use Rattle.amqp_base.specs.declared.shape.Shape.{Shape};
 
+use amqp_base::Typed;
 use indexmap::IndexMap;
 use indexmap::map::Iter;
 use std::alloc::Global;
@@ -94,4 +99,22 @@ impl<K: Eq + Hash, V: PartialEq> PartialEq for OrderedMap<K, V> {
     fn eq(&self, other: &OrderedMap<K, V>) -> bool {
         self.pairs.as_slice() == other.pairs.as_slice()
     }
+}
+
+impl<K: Typed + Eq + Hash, V: Typed> Typed for OrderedMap<K, V> {
+    ghost item = { λ v _. whole Shape.Map (pair_items (λ k. K.item k Plain) (λ x. V.item x Plain) v) };
+
+    ghost takes = { is_map_of K.takes V.takes };
+
+    ghost means = { λ i v. means_map K.means V.means (insert_entry K.eq) i v };
+
+    ghost same = { λ v w. SameRows K.same V.same (insert_entry K.eq) v w };
+
+    ghost grows = { true };
+
+    ghost in_described_list = { λ _. refl };
+
+    ghost in_described_basic = { λ _. refl };
+
+    ghost one_value = { λ i v w. one_map K.means V.means (insert_entry K.eq) K.one_value V.one_value i v w };
 }

@@ -1,0 +1,29 @@
+//! What ordered maps mean.
+
+ghost use Rattle.std.specs.Prelude.{true, refl};
+ghost use Rattle.std.specs.BTreeMap.{insert_entry};
+ghost use Rattle.amqp_base.specs.Maps.{pair_items, is_map_of, means_map, SameRows, one_map};
+ghost use Rattle.amqp_base.specs.Shapes.{whole};
+ghost use Rattle.amqp_base.specs.declared.shape.Setting.TheVariants.{Plain};
+ghost use Rattle.amqp_base.specs.declared.shape.Shape.{Shape};
+
+use super::Typed;
+use std::collections::BTreeMap;
+
+impl<K: Typed + Ord, V: Typed> Typed for BTreeMap<K, V> {
+    ghost item = { λ v _. whole Shape.Map (pair_items (λ k. K.item k Plain) (λ x. V.item x Plain) v.entries) };
+
+    ghost takes = { is_map_of K.takes V.takes };
+
+    ghost means = { λ i v. means_map K.means V.means (insert_entry K.cmp) i v.entries };
+
+    ghost same = { λ v w. SameRows K.same V.same (insert_entry K.cmp) v.entries w.entries };
+
+    ghost grows = { true };
+
+    ghost in_described_list = { λ _. refl };
+
+    ghost in_described_basic = { λ _. refl };
+
+    ghost one_value = { λ i v w. one_map K.means V.means (insert_entry K.cmp) K.one_value V.one_value i v.entries w.entries };
+}
