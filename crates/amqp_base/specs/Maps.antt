@@ -44,8 +44,8 @@ means_map key value put i entries = ⊥
 abbrev pub same_pair : {K V : Type 0} → (K → K → Type 0) → (V → V → Type 0) → K × V → K × V → Type 0
 same_pair key value p q = key p.0 q.0 × value p.1 q.1
 
--- The entries of two maps came of rows that are the same. So they are the same pair by pair where the same keys are equal:
--- `same_entries` in proofs/MapsAlike.antt.
+-- The entries of two maps came of rows that are the same. Where the same keys are equal, the entries are then the same, pair
+-- by pair: `laws::same_entries`.
 pub record SameRows {K V : Type 0} (key : K → K → Type 0) (value : V → V → Type 0) (put : List (K × V) → K → V → List (K × V)) (es fs : List (K × V)) : Type 0 where
   pub rows : List (K × V)
   pub others : List (K × V)

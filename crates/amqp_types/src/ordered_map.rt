@@ -5,10 +5,12 @@ ghost use Rattle.std.specs.Cmp.{on_per, and_per};
 ghost use Rattle.std.specs.Cmp.Lexicographic.{pointwise, lists_per};
 ghost use Rattle.std.specs.Map.{lookup};
 ghost use Rattle.indexmap.specs.IndexMap.{insert_entry};
+ghost use Rattle.amqp_base.specs.Laws.{SameEntries};
 ghost use Rattle.amqp_base.specs.Maps.{pair_items, is_map_of, means_map, SameRows, one_map};
 ghost use Rattle.amqp_base.specs.Shapes.{whole};
 ghost use Rattle.amqp_base.specs.declared.shape.Setting.TheVariants.{Plain};
 ghost use Rattle.amqp_base.specs.declared.shape.Shape.{Shape};
+ghost use Rattle.amqp_types.specs.OrderedMaps.{SameAreEqual};
 
 use amqp_base::Typed;
 use indexmap::IndexMap;
@@ -88,6 +90,15 @@ impl<K: Eq + Hash, V> OrderedMap<K, V> {
     {
         self.pairs.iter()
     }
+
+    /// A law, for contracts: two maps that one item means have the same entries, pair by pair, where keys that are the same are
+    /// equal. It does nothing when it runs.
+    pub fn same_entries()
+    where
+        K: Typed,
+        V: Typed,
+        ensures { SameAreEqual K.same K.eq → SameEntries K.same V.same (insert_entry K.eq) }
+    {}
 }
 
 impl<K: Eq + Hash, V: PartialEq> PartialEq for OrderedMap<K, V> {
