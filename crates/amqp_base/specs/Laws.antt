@@ -103,9 +103,10 @@ ItemsBoundedPlain = (c : Constructor) (s : List ℕ) (i : Item) (n : ℕ) → Ar
 abbrev pub CanonFront : Type 0
 CanonFront = (i : Item) (b rest : List ℕ) → canon i ≡ Some b → Capped i → Front lenient bare (b ++ rest) i (length b)
 
--- so is a value of a type whose values are read back
-abbrev pub RoundTrips : {T : Type 0} → (T → Item) → (Item → Bool) → (Item → T → Type 0) → Type 0
-RoundTrips {T} item takes means = (v : T) (b rest : List ℕ) → canon (item v) ≡ Some b → Capped (item v) → Front lenient bare (b ++ rest) (item v) (length b) × IsTrue (takes (item v)) × means (item v) v
+-- so is a sound value of a type whose values are read back
+abbrev pub RoundTrips : {T : Type 0} → (T → Type 0) → (T → Item) → (Item → Bool) → (Item → T → Type 0) → Type 0
+RoundTrips {T} sound item takes means = (v : T) (b rest : List ℕ) → sound v → canon (item v) ≡ Some b → Capped (item v)
+    → Front lenient bare (b ++ rest) (item v) (length b) × IsTrue (takes (item v)) × means (item v) v
 
 -- values that are the same are equal in the order
 abbrev pub SameAreEqual : {K : Type 0} → (K → K → Type 0) → (K → K → Ordering) → Type 0

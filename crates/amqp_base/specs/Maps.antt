@@ -1,5 +1,6 @@
 -- What maps mean (1.6.23): pairs of a key and a value in order, where of equal keys the first stays and the last value stands.
-use Rattle.std.specs.Prelude.{◌≡◌, Bool, true, false, ◌&&◌, List, [], ◌∷◌, fold}
+use Rattle.std.specs.Prelude.{◌≡◌, Bool, true, false, ◌&&◌, List, [], ◌∷◌, fold, All}
+use Rattle.std.specs.Map.{keys_of}
 use Rattle.amqp_base.specs.Item.{Item, scalar, list, map, array, described, Pairs, no_pairs, pair}
 use Rattle.amqp_base.specs.Typing.{OneValue, all_same}
 
@@ -52,6 +53,11 @@ pub record SameRows {K V : Type 0} (key : K → K → Type 0) (value : V → V �
   pub same : all_same (same_pair key value) rows others
   pub placed : es ≡ put_in_turn put rows
   pub others_placed : fs ≡ put_in_turn put others
+
+-- what holds of the entries of every map that a program has: the keys differ, and keys and values are sound
+pub record SoundEntries {K V : Type 0} (distinct : List K → Type 0) (key : K → Type 0) (value : V → Type 0) (entries : List (K × V)) : Type 0 where
+  pub differ : distinct (keys_of entries)
+  pub sound : All (λ e. key e.0 × value e.1) entries
 
 -- Pairs that mean two rows mean the same.
 one_rows : {K V : Type 0} (key : Item → K → Type 0) (value : Item → V → Type 0) {same_key : K → K → Type 0} {same_value : V → V → Type 0} → OneValue key same_key → OneValue value same_value
