@@ -11,7 +11,10 @@ ghost use Rattle.amqp_ser.specs.contracts.serializer.Serializer.{the_row};
 
 use crate::{Parts, Serialize, Serializer};
 use amqp_base::{Error, Setting, Shape, Sink};
+use amqp_types::OrderedMap;
 use std::alloc::Global;
+use std::collections::BTreeMap;
+use std::hash::Hash;
 
 /// A map that is being written, key by key and value by value. Nothing of it reaches the writer before `end`. Until `end`
 /// succeeded its serializer answers nothing but `InvalidValue`, also where it is dropped.
@@ -138,5 +141,37 @@ impl<'a, W: Sink> MapSerializer<'a, W> {
             return Err(Error::InvalidLength);
         }
         ser.close(parts)
+    }
+}
+
+impl<K: Serialize + Eq + Hash, V: Serialize> Serialize for OrderedMap<K, V> {
+    fn serialize<W: Sink>(&self, alloc: Global, ser: &mut Serializer<W>) -> Result<(), Error> {
+        let mut map = match ser.serialize_map(alloc, Some(self.len())) {
+            Ok(map) => map,
+            Err(e) => return Err(e),
+        };
+        for (key, value) in self.iter() {
+            match map.serialize_entry(alloc, key, value) {
+                Ok(()) => {}
+                Err(e) => return Err(e),
+            }
+        }
+        map.end()
+    }
+}
+
+impl<K: Serialize + Ord, V: Serialize> Serialize for BTreeMap<K, V> {
+    fn serialize<W: Sink>(&self, alloc: Global, ser: &mut Serializer<W>) -> Result<(), Error> {
+        let mut map = match ser.serialize_map(alloc, Some(self.len())) {
+            Ok(map) => map,
+            Err(e) => return Err(e),
+        };
+        for (key, value) in self.iter() {
+            match map.serialize_entry(alloc, key, value) {
+                Ok(()) => {}
+                Err(e) => return Err(e),
+            }
+        }
+        map.end()
     }
 }

@@ -2,6 +2,7 @@
 
 mod compounds;
 mod forms;
+mod maps_written;
 mod refusals;
 mod texts;
 
