@@ -10,3 +10,4 @@ pub mod Lengths
 pub mod Compounds
 pub mod Finish
 pub mod Counting
+pub mod MapPairs

@@ -9,11 +9,14 @@ ghost use Rattle.amqp_base.specs.Raw.{raw};
 ghost use Rattle.amqp_base.specs.Laws.{AreBytes, Usual, IsTwiceDescribed};
 ghost use Rattle.amqp_base.specs.PlainArrays.{PlainArrays};
 ghost use Rattle.amqp_base.specs.declared.shape.Setting.TheVariants.{Plain};
+ghost use Rattle.amqp_base.specs.Typing.{all_same};
+ghost use Rattle.std.specs.BTreeMap.{BTreeMap as Entries};
 ghost use Rattle.std.specs.declared.vec.Vec.{Vec};
 ghost use Rattle.std.specs.declared.string.String.{String};
 ghost use Rattle.std.specs.declared.alloc.Global.{Global};
 
 use amqp_base::{Typed, laws};
+use std::collections::BTreeMap;
 
 /// Where a uint stands at the front of bytes, every item that stands there is that uint.
 pub fn one_uint(_bytes: &[u8])
@@ -92,4 +95,19 @@ pub fn strings_are_read_back()
     ensures { (v : Vec (String Global) Global) (b rest : List ℕ) → canon (⟦<Vec<String> as Typed>⟧.item v Plain) ≡ Some b → Capped (⟦<Vec<String> as Typed>⟧.item v Plain) → ⟦<Vec<String> as Typed>⟧.means (⟦<Vec<String> as Typed>⟧.item v Plain) v }
 {
     laws::round_trip::<Vec<String>>();
+}
+
+/// What is written for a map is read as that map: its keys differ, as `len` says.
+pub fn map_is_read_back(_map: &BTreeMap<u32, u32>)
+    ensures { (b rest : List ℕ) → canon (⟦<BTreeMap<u32, u32> as Typed>⟧.item _map.now Plain) ≡ Some b → Capped (⟦<BTreeMap<u32, u32> as Typed>⟧.item _map.now Plain) → ⟦<BTreeMap<u32, u32> as Typed>⟧.means (⟦<BTreeMap<u32, u32> as Typed>⟧.item _map.now Plain) _map.now }
+{
+    let _len = _map.len();
+    laws::round_trip::<BTreeMap<u32, u32>>();
+}
+
+/// Two maps of numbers that one item means have the same entries.
+pub fn one_map()
+    ensures { (v w : Entries ℕ ℕ) → ⟦<BTreeMap<u32, u32> as Typed>⟧.same v w → all_same (λ (p q : ℕ × ℕ). (p.0 ≡ q.0) × (p.1 ≡ q.1)) v.entries w.entries }
+{
+    laws::same_entries::<u32, u32>();
 }
