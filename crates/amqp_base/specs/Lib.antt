@@ -12,6 +12,7 @@ pub mod Canon
 pub mod Raw
 pub mod Sizes
 pub mod Shapes
+pub mod Structs
 pub mod Typing
 pub mod OneValue
 pub mod ReadBack

@@ -6,7 +6,7 @@ use Rattle.std.specs.Io.KnownBytes.{Appends}
 use Rattle.amqp_base.specs.Item.{Item, items_of, count}
 use Rattle.amqp_base.specs.Wire.{Constructor, under}
 use Rattle.amqp_base.specs.Canon.{◌>>=◌, when, canon, canons, body, array_body, kind_code, list_text}
-use Rattle.amqp_base.specs.Shapes.{whole}
+use Rattle.amqp_base.specs.Shapes.{whole, setting_inside}
 use Rattle.amqp_base.specs.Codes.{row}
 use Rattle.amqp_base.specs.Sizes.{Size, sizes}
 use Rattle.amqp_base.specs.declared.error.Error.{Error}
@@ -20,7 +20,7 @@ use Rattle.amqp_ser.specs.Compound.{Open, Empty, Run, Holds, Complete, is_map, a
 use Rattle.amqp_ser.proofs.Bytes.{extends_same, appends_more, appends_none}
 use Rattle.amqp_ser.proofs.Steps.{Free, fits_free, wrote_pays, refused_pays, named_pays}
 use Rattle.amqp_ser.proofs.TextOf.{pays_text}
-use Rattle.amqp_ser.proofs.PartTexts.{parts_more, parts_none, bind_some, pairs_text, pairs_count, odd_count}
+use Rattle.amqp_ser.proofs.PartTexts.{parts_more, parts_none, bind_some, pairs_text, pairs_count, odd_count, true_false}
 use Rattle.amqp_ser.proofs.Lengths.{parts_fit}
 
 kept_stopped : (s : State) → Kept s (record s { stopped = true })
@@ -72,6 +72,7 @@ unfolding next_mark parts_text array_body
 turn_more Shape.List xs x a b m found old t h f k = rw h refl
 turn_more (Shape.Tuple n) xs x a b m found old t h f k = rw h refl
 turn_more Shape.Map xs x a b m found old t h f k = rw h refl
+turn_more Shape.Fields xs x a b m found old t h f k = rw h refl
 turn_more Shape.Array [] x a b m found old t h f k = first_turn m found old (kind_code x) h f
 turn_more Shape.Array (y ∷ ys) x a b m found old t h f k = let c = some_of (kind_code y) _ a t in other_turn m found (kind_code y) c.0 c.1 h
 
@@ -81,15 +82,16 @@ no_parts Shape.List = refl
 no_parts Shape.Array = refl
 no_parts (Shape.Tuple n) = refl
 no_parts Shape.Map = refl
+no_parts Shape.Fields = refl
 
-pub run_none : (shape : Shape) (u : State) → Empty u → u.mark ≡ next_mark shape [] → u.setting ≡ Plain → u.stopped ≡ false → Run shape u [] u
-run_none shape u e mark plain answers = record { bytes = []; text = no_parts shape; goes = free_goes u u [] _ (free_of u e) (appends_none u.contents) e.plan e.measure refl; mark = mark; plain = plain; answers = answers }
+pub run_none : (shape : Shape) (u : State) → Empty u → u.mark ≡ next_mark shape [] → u.setting ≡ setting_inside shape → u.stopped ≡ false → Run shape u [] u
+run_none shape u e mark inside answers = record { bytes = []; text = no_parts shape; goes = free_goes u u [] _ (free_of u e) (appends_none u.contents) e.plan e.measure refl; mark = mark; inside = inside; answers = answers }
 
 -- one part more
-pub run_more : (shape : Shape) (xs : List Item) (f : Setting → Item) (u v w : State) → Empty u → Run shape u xs v → Wrote v (f v.setting) w → Run shape u (xs ++ f Plain ∷ []) (record w { mark = turned w.mark w.found })
+pub run_more : (shape : Shape) (xs : List Item) (f : Setting → Item) (u v w : State) → Empty u → Run shape u xs v → Wrote v (f v.setting) w → Run shape u (xs ++ f (setting_inside shape) ∷ []) (record w { mark = turned w.mark w.found })
 run_more shape xs f u v w e r wrote =
-    let x = f Plain in
-    let got : Wrote v x w = subst (λ setting. Wrote v (f setting) w) r.plain wrote in
+    let x = f (setting_inside shape) in
+    let got : Wrote v x w = subst (λ setting. Wrote v (f setting) w) r.inside wrote in
     let t = got.took r.answers in
     let text : marked (next_mark shape xs) x ≡ Some t.bytes = rw (sym r.mark) t.text in
     let free = free_of u e in
@@ -99,7 +101,7 @@ run_more shape xs f u v w e r wrote =
       text = parts_more shape xs x r.bytes t.bytes r.text text;
       goes = free_goes u _ _ _ free (appends_more _ _ _ _ _ r.goes.appended t.goes.appended) still.plan still.measure (t.goes.setting ∙ r.goes.setting);
       mark = turn_more shape xs x r.bytes t.bytes w.mark w.found v.found r.text (t.mark ∙ r.mark) (rw t.mark t.found) (rw t.mark t.text);
-      plain = t.goes.setting ∙ r.plain;
+      inside = t.goes.setting ∙ r.inside;
       answers = got.answers r.answers;
     }
 
@@ -110,18 +112,18 @@ run_fits shape xs u v ys e r contents = r.text ∙ ap Some (from_none _ _ _ _ e.
     from_none : (a b : Option (List ℕ)) (more ys : List ℕ) → a ≡ Some [] → b ≡ Some ys → Appends a b more → more ≡ ys
     from_none a b more ys h k l = sym (rw (h, k) at l)
 
-pub element_more : (s : State) (shape : Shape) (xs : List Item) (f : Setting → Item) (q p : Open) (w : State) (ys : List ℕ) → Wrote q.inner (f q.inner.setting) w → w.contents ≡ Some ys → length ys < 2 ^ 64 → p.inner ≡ record w { mark = turned w.mark w.found } → p.outer ≡ q.outer → p.pairs ≡ q.pairs → p.shape ≡ q.shape → p.count ≡ min (q.count + 1) 18446744073709551615 → Holds s shape xs q → Holds s shape (xs ++ f Plain ∷ []) p
+pub element_more : (s : State) (shape : Shape) (xs : List Item) (f : Setting → Item) (q p : Open) (w : State) (ys : List ℕ) → Wrote q.inner (f q.inner.setting) w → w.contents ≡ Some ys → length ys < 2 ^ 64 → p.inner ≡ record w { mark = turned w.mark w.found } → p.outer ≡ q.outer → p.pairs ≡ q.pairs → p.shape ≡ q.shape → p.count ≡ min (q.count + 1) 18446744073709551615 → Holds s shape xs q → Holds s shape (xs ++ f (setting_inside shape) ∷ []) p
 element_more s shape xs f q p w ys wrote contents small inner outer pairs same count h =
     let r = run_more shape xs f h.start q.inner w h.empty h.run wrote in
-    let text = run_fits shape (xs ++ f Plain ∷ []) h.start _ ys h.empty r contents in
-    let fewer = parts_fit shape (xs ++ f Plain ∷ []) ys text in
-    let len = length-append xs (f Plain ∷ []) in
+    let text = run_fits shape (xs ++ f (setting_inside shape) ∷ []) h.start _ ys h.empty r contents in
+    let fewer = parts_fit shape (xs ++ f (setting_inside shape) ∷ []) ys text in
+    let len = length-append xs (f (setting_inside shape) ∷ []) in
     record {
       pairs = pairs ∙ h.pairs;
       shape_is = same ∙ h.shape_is;
       start = h.start;
       empty = h.empty;
-      run = subst (λ v. Run shape h.start (xs ++ f Plain ∷ []) v) (sym inner) r;
+      run = subst (λ v. Run shape h.start (xs ++ f (setting_inside shape) ∷ []) v) (sym inner) r;
       count = omega (arith, h.count, count, fewer, len, small);
       outer = outer ∙ h.outer;
       answered = h.answered;
@@ -130,14 +132,18 @@ element_more s shape xs f q p w ys wrote contents small inner outer pairs same c
     }
 
 -- what comes after a front and an element
-begins_rest : (xs all : List Item) (x : Item) → BeginsWith all (xs ++ x ∷ []) → (rest : List Item) × (all ≡ xs ++ x ∷ rest)
+pub begins_rest : {X : Type 0} (xs all : List X) (x : X) → BeginsWith all (xs ++ x ∷ []) → (rest : List X) × (all ≡ xs ++ x ∷ rest)
 begins_rest [] [] x h = absurd h
 begins_rest [] (y ∷ ys) x h = (ys, ap (λ z. z ∷ ys) h.0)
 begins_rest (z ∷ zs) [] x h = absurd h
 begins_rest (z ∷ zs) (y ∷ ys) x h = let r = begins_rest zs ys x h.1 in (r.0, ap (λ w. w ∷ ys) h.0 ∙ ap (λ ws. z ∷ ws) r.1)
 
--- a list begins with a front of it
-pub begins_split : (xs : List Item) (x : Item) (rest : List Item) → BeginsWith (xs ++ x ∷ rest) (xs ++ x ∷ [])
+-- a list begins with each front of it
+pub begins_front : {X : Type 0} (xs zs : List X) → BeginsWith (xs ++ zs) xs
+begins_front [] zs = tt
+begins_front (x ∷ xs) zs = (refl, begins_front xs zs)
+
+pub begins_split : {X : Type 0} (xs : List X) (x : X) (rest : List X) → BeginsWith (xs ++ x ∷ rest) (xs ++ x ∷ [])
 begins_split [] x rest = (refl, tt)
 begins_split (z ∷ zs) x rest = (refl, begins_split zs x rest)
 
@@ -159,6 +165,9 @@ whole_of_none (Shape.Tuple n) (other d) xs c h = rw h (if_none _)
 whole_of_none Shape.Map unmarked xs c h = rw (pairs_text xs c, h) refl
 whole_of_none Shape.Map first xs c h = rw (pairs_text xs c, h) refl
 whole_of_none Shape.Map (other d) xs c h = rw (pairs_text xs c, h) (if_none _)
+whole_of_none Shape.Fields unmarked xs c h = rw (pairs_text xs c, h) refl
+whole_of_none Shape.Fields first xs c h = rw (pairs_text xs c, h) refl
+whole_of_none Shape.Fields (other d) xs c h = rw (pairs_text xs c, h) (if_none _)
 
 -- the text of a whole, by what was written of its parts
 pub whole_of_some : (shape : Shape) (m : Mark) (xs : List Item) (b : List ℕ) → Complete (is_map shape) xs → parts_text shape (items_of xs) ≡ Some b → marked m (whole shape xs) ≡ whole_text shape m (length xs) b
@@ -175,6 +184,9 @@ whole_of_some (Shape.Tuple n) (other d) xs b c h = rw (h, count_items xs) refl
 whole_of_some Shape.Map unmarked xs b c h = rw (pairs_text xs c, h, pairs_count xs c) refl
 whole_of_some Shape.Map first xs b c h = rw (pairs_text xs c, h, pairs_count xs c) refl
 whole_of_some Shape.Map (other d) xs b c h = rw (pairs_text xs c, h, pairs_count xs c) refl
+whole_of_some Shape.Fields unmarked xs b c h = rw (pairs_text xs c, h, pairs_count xs c) refl
+whole_of_some Shape.Fields first xs b c h = rw (pairs_text xs c, h, pairs_count xs c) refl
+whole_of_some Shape.Fields (other d) xs b c h = rw (pairs_text xs c, h, pairs_count xs c) refl
 
 pub whole_code : (shape : Shape) (xs : List Item) → kind_code (whole shape xs) ≡ Some (under (shape_code shape))
 unfolding whole kind_code
@@ -182,12 +194,13 @@ whole_code Shape.List xs = refl
 whole_code Shape.Array xs = refl
 whole_code (Shape.Tuple n) xs = refl
 whole_code Shape.Map xs = refl
+whole_code Shape.Fields xs = refl
 
 -- a refused part refuses the whole
-element_refused_at : (s : State) (shape : Shape) (xs rest : List Item) (f : Setting → Item) (e : Error) (q : Open) (b : State) → b.faults ≡ q.inner.faults → Refused q.inner (f q.inner.setting) e b → Holds s shape xs q → Complete q.pairs (xs ++ f Plain ∷ rest) → Refused s (whole shape (xs ++ f Plain ∷ rest)) e q.outer
+element_refused_at : (s : State) (shape : Shape) (xs rest : List Item) (f : Setting → Item) (e : Error) (q : Open) (b : State) → b.faults ≡ q.inner.faults → Refused q.inner (f q.inner.setting) e b → Holds s shape xs q → Complete q.pairs (xs ++ f (setting_inside shape) ∷ rest) → Refused s (whole shape (xs ++ f (setting_inside shape) ∷ rest)) e q.outer
 element_refused_at s shape xs rest g e q b same v h complete =
-    let x = g Plain in
-    let r : Refused q.inner x e b = subst (λ setting. Refused q.inner (g setting) e b) h.run.plain v in
+    let x = g (setting_inside shape) in
+    let r : Refused q.inner x e b = subst (λ setting. Refused q.inner (g setting) e b) h.run.inside v in
     let free : Free s = record { plan = h.plan; measure = h.measure } in
     let inner = goes_free h.start q.inner _ _ (free_of h.start h.empty) h.run.goes in
     record {
@@ -203,9 +216,9 @@ element_refused_at s shape xs rest g e q b same v h complete =
       ];
     }
 
-pub element_refused : (s : State) (shape : Shape) (xs all : List Item) (f : Setting → Item) (e : Error) (q : Open) (b : State) → b.faults ≡ q.inner.faults → Refused q.inner (f q.inner.setting) e b → Holds s shape xs q → BeginsWith all (xs ++ f Plain ∷ []) → Complete q.pairs all → Refused s (whole shape all) e q.outer
+pub element_refused : (s : State) (shape : Shape) (xs all : List Item) (f : Setting → Item) (e : Error) (q : Open) (b : State) → b.faults ≡ q.inner.faults → Refused q.inner (f q.inner.setting) e b → Holds s shape xs q → BeginsWith all (xs ++ f (setting_inside shape) ∷ []) → Complete q.pairs all → Refused s (whole shape all) e q.outer
 element_refused s shape xs all g e q b same v h split complete =
-    let r = begins_rest xs all (g Plain) split in
+    let r = begins_rest xs all (g (setting_inside shape)) split in
     subst (λ ys. Refused s (whole shape ys) e q.outer) (sym r.1) (element_refused_at s shape xs r.0 g e q b same v h (subst (λ ys. Complete q.pairs ys) r.1 complete))
 
 answering_stopped : (s t : State) → t ≡ record s { stopped = true } → s.stopped ≡ false → answering t ≡ s
@@ -286,8 +299,25 @@ full_all s n xs q full h test f = sym h.count ∙ eqb-true q.count n (sym (test 
 pub turn_is : (s : State) (xs : List Item) (q : Open) (turn : Bool) → Holds s Shape.Map xs q → turn ≡ (q.count % 2 == 1) → turn ≡ awaits_value xs
 turn_is s xs q turn h test = test ∙ (ap (λ n. n % 2 == 1) h.count ∙ odd_count xs)
 
+-- where the parts aren't keys and values, they are under the plain setting
+plain_inside : (shape : Shape) → false ≡ is_map shape → setting_inside shape ≡ Plain
+plain_inside Shape.List e = refl
+plain_inside Shape.Array e = refl
+plain_inside (Shape.Tuple n) e = refl
+plain_inside Shape.Map e = absurd (true_false (sym e))
+plain_inside Shape.Fields e = absurd (true_false (sym e))
+
+plain_item : (shape : Shape) (f : Setting → Item) → false ≡ is_map shape → f (setting_inside shape) ≡ f Plain
+plain_item shape f e = ap f (plain_inside shape e)
+
+pub plain_more : (s : State) (shape : Shape) (xs : List Item) (f : Setting → Item) (q p : Open) → q.pairs ≡ false → Holds s shape xs q → Holds s shape (xs ++ f (setting_inside shape) ∷ []) p → Holds s shape (xs ++ f Plain ∷ []) p
+plain_more s shape xs f q p single h k = subst (λ x. Holds s shape (xs ++ x ∷ []) p) (plain_item shape f (sym single ∙ h.pairs)) k
+
+pub plain_begins : (s : State) (shape : Shape) (xs all : List Item) (f : Setting → Item) (q : Open) → q.pairs ≡ false → Holds s shape xs q → BeginsWith all (xs ++ f Plain ∷ []) → BeginsWith all (xs ++ f (setting_inside shape) ∷ [])
+plain_begins s shape xs all f q single h b = subst (λ x. BeginsWith all (xs ++ x ∷ [])) (sym (plain_item shape f (sym single ∙ h.pairs))) b
+
 -- what begins with a front and two more begins with the front and one more
-pub begins_less : (xs all : List Item) (x y : Item) → BeginsWith all (xs ++ x ∷ y ∷ []) → BeginsWith all (xs ++ x ∷ [])
+pub begins_less : {X : Type 0} (xs all : List X) (x y : X) → BeginsWith all (xs ++ x ∷ y ∷ []) → BeginsWith all (xs ++ x ∷ [])
 begins_less [] [] x y h = absurd h
 begins_less [] (z ∷ all) x y h = (h.0, tt)
 begins_less (w ∷ xs) [] x y h = absurd h

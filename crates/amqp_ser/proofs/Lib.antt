@@ -8,6 +8,7 @@ pub mod PayloadTexts
 pub mod PartTexts
 pub mod Lengths
 pub mod Compounds
+pub mod Fields
 pub mod Finish
 pub mod Counting
 pub mod MapPairs

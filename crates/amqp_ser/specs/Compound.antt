@@ -8,11 +8,11 @@ use Rattle.amqp_base.specs.declared.error.Error.{Error}
 use Rattle.amqp_base.specs.declared.format_code.EncodingCodes.{EncodingCodes}
 use Rattle.amqp_base.specs.declared.format_code.EncodingCodes.TheVariants.{List32, Map32, Array32}
 use Rattle.amqp_base.specs.declared.error.Error.TheVariants.{InvalidValue}
-use Rattle.amqp_base.specs.declared.shape.Setting.TheVariants.{Plain}
 use Rattle.amqp_base.specs.Item.{Item, Items, items_of}
 use Rattle.amqp_base.specs.Wire.{Constructor, under}
 use Rattle.amqp_base.specs.Canon.{canons, array_body, kind_code, compound_text, wide_body}
-use Rattle.amqp_base.specs.Shapes.{whole}
+use Rattle.amqp_base.specs.Shapes.{whole, setting_inside}
+use Rattle.amqp_base.specs.Structs.{FieldItem, struct_shape, fields_parts, is_described_name}
 use Rattle.amqp_base.specs.Codes.{row}
 use Rattle.amqp_base.specs.Sizes.{sizes_in}
 use Rattle.amqp_ser.specs.State.{State, Mark, unmarked, first, other, state, mark_of, found_of}
@@ -21,6 +21,8 @@ use Rattle.amqp_ser.specs.declared.compound.Parts.{Parts}
 use Rattle.amqp_ser.specs.declared.seq.SeqSerializer.{SeqSerializer}
 use Rattle.amqp_ser.specs.declared.tuple.TupleSerializer.{TupleSerializer}
 use Rattle.amqp_ser.specs.declared.map.MapSerializer.{MapSerializer}
+use Rattle.amqp_ser.specs.declared.tuple_structs.TupleStructSerializer.{TupleStructSerializer}
+use Rattle.amqp_ser.specs.declared.structs.StructSerializer.{StructSerializer}
 use Rattle.amqp_ser.specs.declared.serializer.Serializer.{Serializer}
 use Rattle.amqp_base.specs.declared.shape.Shape.{Shape}
 
@@ -39,6 +41,7 @@ parts_text Shape.List is = canons is
 parts_text Shape.Array is = array_body is
 parts_text (Shape.Tuple n) is = canons is
 parts_text Shape.Map is = canons is
+parts_text Shape.Fields is = canons is
 
 abbrev pub other_of : Option Constructor → Mark
 other_of None = first
@@ -49,12 +52,14 @@ shape_code Shape.List = List32
 shape_code Shape.Array = Array32
 shape_code (Shape.Tuple n) = List32
 shape_code Shape.Map = Map32
+shape_code Shape.Fields = Map32
 
 abbrev pub narrow_of : Shape → ℕ
 narrow_of Shape.List = 0xc0
 narrow_of Shape.Array = 0xe0
 narrow_of (Shape.Tuple n) = 0xc0
 narrow_of Shape.Map = 0xc1
+narrow_of Shape.Fields = 0xc1
 
 -- it is written as one byte
 abbrev pub empty_list : Shape → ℕ → Bool
@@ -62,6 +67,7 @@ empty_list Shape.List n = n == 0
 empty_list Shape.Array n = false
 empty_list (Shape.Tuple k) n = n == 0
 empty_list Shape.Map n = false
+empty_list Shape.Fields n = false
 
 -- the text of a compound outside arrays, by what is written of its parts
 abbrev pub shape_text : Shape → ℕ → List ℕ → Option (List ℕ)
@@ -79,6 +85,7 @@ next_mark Shape.Array [] = first
 next_mark Shape.Array (x ∷ xs) = other_of (kind_code x)
 next_mark (Shape.Tuple n) xs = unmarked
 next_mark Shape.Map xs = unmarked
+next_mark Shape.Fields xs = unmarked
 
 -- the mark behind a first element
 abbrev pub turned : Mark → Option Constructor → Mark
@@ -92,7 +99,7 @@ pub record Run (shape : Shape) (u : State) (xs : List Item) (v : State) : Type 0
   pub text : parts_text shape (items_of xs) ≡ Some bytes
   pub goes : Goes u bytes (sizes_in (items_of xs)) v
   pub mark : v.mark ≡ next_mark shape xs
-  pub plain : v.setting ≡ Plain
+  pub inside : v.setting ≡ setting_inside shape
   pub answers : v.stopped ≡ false
 
 abbrev pub the_buffer : Serializer (Vec ℕ Global) → State
@@ -111,11 +118,19 @@ tuple_state w f q = open_parts false (state w f q.ser.now) q.parts
 unfoldable pub map_state : {W : Type 0} → Write.Ghosts W → FaultCount.Ghosts W → MapSerializer W Parts → Open
 map_state w f q = open_parts true (state w f q.ser.now) q.parts
 
+unfoldable pub tuple_struct_state : {W : Type 0} → Write.Ghosts W → FaultCount.Ghosts W → TupleStructSerializer W Parts → Open
+tuple_struct_state w f q = open_parts false (state w f q.ser.now) q.parts
+
+-- whether the parts of a struct are keys and values only its serializer's setting says
+unfoldable pub struct_state : {W : Type 0} → Write.Ghosts W → FaultCount.Ghosts W → StructSerializer W Parts → Open
+struct_state w f q = open_parts false (state w f q.ser.now) q.parts
+
 abbrev pub is_map : Shape → Bool
 is_map Shape.List = false
 is_map Shape.Array = false
 is_map (Shape.Tuple n) = false
 is_map Shape.Map = true
+is_map Shape.Fields = true
 
 -- a key stands last, without its value
 abbrev pub awaits_value : List Item → Bool
@@ -146,9 +161,18 @@ pub record Holds (s : State) (shape : Shape) (xs : List Item) (q : Open) : Type 
   pub plan : s.plan ≡ None
   pub measure : s.measure ≡ None
 
+-- a struct was opened on a serializer in the state s, and has the fields fs
+unfoldable pub HoldsFields : State → List FieldItem → Open → Type 0
+HoldsFields s fs q = Holds s (struct_shape s.setting) (fields_parts (struct_shape s.setting) fs) (record q { pairs = is_map (struct_shape s.setting) })
+
 -- no compound was opened: so any whole is refused
 pub record RefusesOpen {A : Type 0} (shape : Shape) (s : State) (r : Result A Error) (t : State) : Type 0 where
   pub law : IfErr r (λ e. (xs : List Item) → Refused s (whole shape xs) e t)
+  pub stops : Stops s r t
+
+-- no struct was opened: so, under a plain name, any struct of these fields is refused
+pub record RefusesNamed {A X : Type 0} (name : List ℕ) (item : X → Item) (s : State) (r : Result A Error) (t : State) : Type 0 where
+  pub law : is_described_name name ≡ false → IfErr r (λ e. (x : X) → Refused s (item x) e t)
   pub stops : Stops s r t
 
 -- what every call of a compound keeps
@@ -157,7 +181,7 @@ pub record Keeps (q p : Open) : Type 0 where
   pub stopped : q.outer.stopped ≡ true → p.outer.stopped ≡ true
 
 -- ys begins with xs
-abbrev pub BeginsWith : List Item → List Item → Type 0
+abbrev pub BeginsWith : {X : Type 0} → List X → List X → Type 0
 BeginsWith ys [] = Unit {0}
 BeginsWith [] (x ∷ xs) = ⊥
 BeginsWith (y ∷ ys) (x ∷ xs) = (y ≡ x) × BeginsWith ys xs

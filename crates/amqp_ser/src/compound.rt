@@ -2,7 +2,7 @@
 
 ghost use Rattle.std.specs.Prelude.{◌≡◌, ◌==◌, ◌%◌, ◌<◌, ◌≤◌, ◌++◌, ◌∷◌, ℕ, Bool, List, length, [], true, false, IfOk, IfErr, OnOk, OnErr, Err, Some};
 ghost use Rattle.amqp_base.specs.Item.{Item, items_of};
-ghost use Rattle.amqp_base.specs.Shapes.{whole};
+ghost use Rattle.amqp_base.specs.Shapes.{whole, setting_inside};
 ghost use Rattle.amqp_base.specs.Wire.{under};
 ghost use Rattle.amqp_ser.specs.State.{State, state, mark_of, unmarked, answering};
 ghost use Rattle.amqp_ser.specs.Law.{Wrote, Refused, Kept, Named, IsDevice, unwritten, found_after};
@@ -19,7 +19,7 @@ use std::io::ErrorKind;
 const FIRST_CAPACITY: usize = 64;
 
 /// The parts so far of a compound that is being written: their bytes in a buffer, and how many they are. Each part of
-/// the compound is written to the buffer, under the plain setting.
+/// the compound is written to the buffer, under the setting that its shape has inside.
 #[derive(Drop)]
 pub struct Parts {
     pub(crate) shape: Shape,
@@ -42,7 +42,7 @@ impl Parts {
         };
         let buffer = Serializer {
             writer,
-            setting: Setting::Plain,
+            setting: setting_inside(shape),
             mark: first_mark(shape),
             found: None,
             stopped: false,
@@ -77,9 +77,9 @@ impl Parts {
     #[inline(always)]
     pub(crate) fn write<T: Serialize>(&mut self, alloc: Global, value: &T) -> Result<(), Error>
         ensures ok { (pairs : Bool) (outer : State) → OnOk result ((s : State) (shape : Shape) (xs : List Item) → Holds s shape xs (open_parts pairs outer self.old) →
-            Holds s shape (xs ++ T.item value.now Setting.Plain ∷ []) (open_parts pairs outer self.new)) }
+            Holds s shape (xs ++ T.item value.now (setting_inside shape) ∷ []) (open_parts pairs outer self.new)) }
         ensures err { (pairs : Bool) (outer : State) → IfErr result (λ e. (s : State) (shape : Shape) (xs all : List Item) → Holds s shape xs (open_parts pairs outer self.old) →
-            BeginsWith all (xs ++ T.item value.now Setting.Plain ∷ []) → Complete pairs all → Refused s (whole shape all) e outer) }
+            BeginsWith all (xs ++ T.item value.now (setting_inside shape) ∷ []) → Complete pairs all → Refused s (whole shape all) e outer) }
         ensures stops { (pairs : Bool) (outer : State) → BreaksOff (open_parts pairs outer self.old) result (open_parts pairs outer self.new) }
     {
         if self.buffer.stopped {
@@ -135,6 +135,20 @@ fn first_mark(shape: Shape) -> Mark
         Shape::Array => Mark::First,
         Shape::Tuple(_) => Mark::Unmarked,
         Shape::Map => Mark::Unmarked,
+        Shape::Fields => Mark::Unmarked,
+    }
+}
+
+/// The setting that the parts are under.
+fn setting_inside(shape: Shape) -> Setting
+    ensures { result ≡ setting_inside shape }
+{
+    match shape {
+        Shape::List => Setting::Plain,
+        Shape::Array => Setting::Plain,
+        Shape::Tuple(_) => Setting::Plain,
+        Shape::Map => Setting::Plain,
+        Shape::Fields => Setting::DescribedMap,
     }
 }
 
@@ -147,6 +161,7 @@ fn wide_code(shape: Shape) -> EncodingCodes
         Shape::Array => EncodingCodes::Array32,
         Shape::Tuple(_) => EncodingCodes::List32,
         Shape::Map => EncodingCodes::Map32,
+        Shape::Fields => EncodingCodes::Map32,
     }
 }
 
@@ -159,6 +174,7 @@ fn narrow_byte(shape: Shape) -> u8
         Shape::Array => 0xe0,
         Shape::Tuple(_) => 0xc0,
         Shape::Map => 0xc1,
+        Shape::Fields => 0xc1,
     }
 }
 
@@ -171,6 +187,7 @@ fn is_empty_list(shape: Shape, len: usize) -> bool
         Shape::Array => false,
         Shape::Tuple(_) => len == 0,
         Shape::Map => false,
+        Shape::Fields => false,
     }
 }
 

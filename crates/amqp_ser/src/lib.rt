@@ -1,5 +1,5 @@
 //! Writing values in the AMQP 1.0 encoding (OASIS AMQP 1.0 part 1, sections 1.2 to 1.6).
-#![tactic(auto, unfolding(crate::specs::State::state, crate::specs::Compound::open_state, crate::specs::Compound::tuple_state, crate::specs::Compound::map_state))]
+#![tactic(auto, unfolding(crate::specs::State::state, crate::specs::Compound::open_state, crate::specs::Compound::tuple_state, crate::specs::Compound::map_state, crate::specs::Compound::tuple_struct_state, crate::specs::Compound::struct_state))]
 
 mod compound;
 mod fixed;
@@ -12,11 +12,15 @@ mod seq;
 mod serialize;
 mod serializer;
 mod signed;
+mod structs;
 mod tuple;
+mod tuple_structs;
 
 pub use compound::Parts;
 pub use map::MapSerializer;
 pub use seq::SeqSerializer;
 pub use serialize::Serialize;
 pub use serializer::Serializer;
+pub use structs::StructSerializer;
 pub use tuple::TupleSerializer;
+pub use tuple_structs::TupleStructSerializer;
