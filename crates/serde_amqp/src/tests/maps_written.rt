@@ -9,7 +9,10 @@ fn writes_ordered_maps_in_their_order(rt: HostRuntime) -> Result<(), Fail> {
     let alloc = rt.alloc();
     let mut times = OrderedMap::new(alloc);
     assert_eq!(rt; to_vec(alloc, &times)?.as_slice(), [0xc1, 1, 0].as_slice());
-    let first = times.insert(Timestamp::from_milliseconds(0), String::from_str(alloc, "x")?);
+    let first = times.insert(
+        Timestamp::from_milliseconds(0),
+        String::from_str(alloc, "x")?,
+    );
     assert!(rt; matches!(&first, Ok(None)));
     assert_eq!(rt;
         to_vec(alloc, &times)?.as_slice(),
