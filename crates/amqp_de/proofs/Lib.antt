@@ -9,6 +9,7 @@ pub mod ByteNumbers
 pub mod OnlyCode
 pub mod Headers
 pub mod Opening
+pub mod PartsRead
 pub mod Sequence
 pub mod ReadParts
 pub mod JustSoMany

@@ -2,7 +2,7 @@
 
 ghost use Rattle.std.specs.Prelude.{◌≡◌, ◌⊎◌, ℕ, ◌∷◌, Bool, true, false, None, IfOk, IfErr};
 ghost use Rattle.amqp_base.specs.Wire.{bare};
-ghost use Rattle.amqp_de.specs.Access.{Header, OpensData};
+ghost use Rattle.amqp_de.specs.Access.{Header, HasParts, OpensData};
 ghost use Rattle.amqp_de.specs.Parse.{header_at, behind_byte, list_data, count_at};
 ghost use Rattle.amqp_de.specs.Steps.{Rejects, ParsesAs};
 
@@ -55,7 +55,7 @@ pub(crate) fn header<R: Read>(
 /// The data of a list up to its elements: how many there are.
 #[inline(always)]
 pub(crate) fn list_count<R: Read>(reader: &mut R, code: u8) -> Result<u32, Error>
-    ensures ok { IfOk result (λ n. OpensData code (R.reading reader.old) (R.reading reader.new) bare n None) }
+    ensures ok { IfOk result (λ n. OpensData HasParts code (R.reading reader.old) (R.reading reader.new) bare n None) }
     ensures exact { IfOk result (λ n. ParsesAs (behind_byte list_data code) (R.reading reader.old) (R.reading reader.new) n) }
     ensures err { IfErr result (λ e. Rejects R.buffers R.buffers (behind_byte list_data code) (R.reading reader.old) (R.reading reader.new) e) }
 {

@@ -2,7 +2,7 @@ use Rattle.std.proofs.Common.{rules, ◌||◌, refl, sym, subst, ◌∙◌}
 use Rattle.std.proofs.lemmas.Result.{err_from_is_err_and}
 use Rattle.amqp_de.specs.Access.{Listing}
 use Rattle.amqp_de.specs.Seq.{listing}
-use Rattle.amqp_de.proofs.Sequence.{Sofar, sofar_step, none_opened, part_missed, seq_found}
+use Rattle.amqp_de.proofs.Sequence.{Sofar, sofar_start, sofar_step, none_opened, part_missed, seq_found}
 use Rattle.amqp_de.proofs.deserialize.VecDeserialize.deserialize.Goals as goal
 
 pub returns-in_err-access-clause-err : goal.returns-in_err-access-clause-err
@@ -14,6 +14,13 @@ returns-in_err-access-clause-err g c =
 pub returns-in-Err-clause-err : goal.returns-in-Err-clause-err
 returns-in-Err-clause-err g c =
     part_missed g.T.Typed.takes g.T.Typed.means g.R.Read.buffers c.args.de.now (listing c.in_ok-access.access) (listing c.items.access) c.items.items.items c.in_ok-access.ensures.opened c.items.invariant.sofar (g.T.Typed.grows || g.R.Read.buffers) (listing c.next_element.new.self) _ _ c.in-Err.ensures.next (search rules)
+
+pub items-init : goal.items-init
+items-init g c = record {
+  same = refl;
+  closed = c.in_ok-access.ensures.opened.closed;
+  sofar = sofar_start g.T.Typed.takes g.T.Typed.means (listing c.in_ok-access.access) _ _ c.in_ok-access.ensures.opened c.new-items.ensures.items;
+}
 
 pub items-preserved : goal.items-preserved
 items-preserved g c =
