@@ -24,3 +24,4 @@ pub mod RowsForms
 pub mod RawAgrees
 pub mod KindPlaces
 pub mod CodeAgain
+pub mod MapsAlike

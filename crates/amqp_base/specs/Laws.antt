@@ -5,6 +5,10 @@ use Rattle.amqp_base.specs.Wire.{Rules, lenient, strict, Constructor, bare, unde
 use Rattle.amqp_base.specs.Canon.{canon}
 use Rattle.amqp_base.specs.Raw.{raw}
 use Rattle.amqp_base.specs.PlainArrays.{PlainArrays}
+use Rattle.amqp_base.specs.Maps.{SameRows, same_pair}
+use Rattle.amqp_base.specs.Typing.{all_same}
+use Rattle.std.specs.declared.cmp.Ordering.{Ordering}
+use Rattle.std.specs.declared.cmp.Ordering.TheVariants.{Equal}
 
 -- bytes have at most one front: no other item, and no other length
 abbrev pub OneFront : Rules → Type 0
@@ -99,6 +103,15 @@ ItemsBoundedPlain = (c : Constructor) (s : List ℕ) (i : Item) (n : ℕ) → Ar
 abbrev pub CanonFront : Type 0
 CanonFront = (i : Item) (b rest : List ℕ) → canon i ≡ Some b → Capped i → Front lenient bare (b ++ rest) i (length b)
 
--- so is a value of a type whose values are read back
-abbrev pub RoundTrips : {T : Type 0} → (T → Item) → (Item → Bool) → (Item → T → Type 0) → Type 0
-RoundTrips {T} item takes means = (v : T) (b rest : List ℕ) → canon (item v) ≡ Some b → Capped (item v) → Front lenient bare (b ++ rest) (item v) (length b) × IsTrue (takes (item v)) × means (item v) v
+-- so is a sound value of a type whose values are read back
+abbrev pub RoundTrips : {T : Type 0} → (T → Type 0) → (T → Item) → (Item → Bool) → (Item → T → Type 0) → Type 0
+RoundTrips {T} sound item takes means = (v : T) (b rest : List ℕ) → sound v → canon (item v) ≡ Some b → Capped (item v)
+    → Front lenient bare (b ++ rest) (item v) (length b) × IsTrue (takes (item v)) × means (item v) v
+
+-- values that are the same are equal in the order
+abbrev pub SameAreEqual : {K : Type 0} → (K → K → Type 0) → (K → K → Ordering) → Type 0
+SameAreEqual {K} same cmp = (k l : K) → same k l → cmp k l ≡ Equal
+
+-- two maps that came of the same rows have the same entries, pair by pair
+abbrev pub SameEntries : {K V : Type 0} → (K → K → Type 0) → (V → V → Type 0) → (List (K × V) → K → V → List (K × V)) → Type 0
+SameEntries {K} {V} key value put = (es fs : List (K × V)) → SameRows key value put es fs → all_same (same_pair key value) es fs

@@ -17,6 +17,8 @@ pub mod OneValue
 pub mod ReadBack
 pub mod Options
 pub mod Fields
+pub mod Maps
+pub mod MapsReadBack
 pub mod Faults
 pub mod Refusals
 pub mod PlainArrays

@@ -37,11 +37,18 @@ one_option means same one i None (Some w) p q = absurd cc (p, q.0)
 one_option means same one i (Some v) None p q = absurd cc (p.0, q)
 one_option means same one i (Some v) (Some w) p q = one i v w p.1 q.1
 
--- an option of a type that is read back and never null is read back
-pub option_taken_back : {T : Type 0} (takes : Item → Bool) (item : T → Setting → Item) (s : Setting) → ((v : T) → IsTrue (takes (item v s))) → (o : Option T) → IsTrue (takes_option takes (option_item item o s))
-option_taken_back takes item s h None = refl
-option_taken_back takes item s h (Some v) = second (is_null (item v s)) (takes (item v s)) (h v)
+-- what the value is, where it is there
+abbrev pub sound_option : {T : Type 0} → (T → Type 0) → Option T → Type 0
+sound_option sound None = Unit {0}
+sound_option sound (Some v) = sound v
 
-pub option_read_back : {T : Type 0} (means : Item → T → Type 0) (item : T → Setting → Item) (s : Setting) → ((v : T) → is_null (item v s) ≡ false) → ((v : T) → means (item v s) v) → (o : Option T) → means_option means (option_item item o s) o
-option_read_back means item s n h None = refl
-option_read_back means item s n h (Some v) = (n v, h v)
+-- an option of a type that is read back and never null is read back
+pub option_taken_back : {T : Type 0} (takes : Item → Bool) (item : T → Setting → Item) (s : Setting) (sound : T → Type 0) → ((v : T) → sound v → IsTrue (takes (item v s)))
+    → (o : Option T) → sound_option sound o → IsTrue (takes_option takes (option_item item o s))
+option_taken_back takes item s sound h None p = refl
+option_taken_back takes item s sound h (Some v) p = second (is_null (item v s)) (takes (item v s)) (h v p)
+
+pub option_read_back : {T : Type 0} (means : Item → T → Type 0) (item : T → Setting → Item) (s : Setting) (sound : T → Type 0) → ((v : T) → is_null (item v s) ≡ false)
+    → ((v : T) → sound v → means (item v s) v) → (o : Option T) → sound_option sound o → means_option means (option_item item o s) o
+option_read_back means item s sound n h None p = refl
+option_read_back means item s sound n h (Some v) p = (n v, h v p)

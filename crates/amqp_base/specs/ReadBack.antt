@@ -1,7 +1,8 @@
 -- A value's own item is read as that value.
-use Rattle.std.specs.Prelude.{◌≡◌, Bool, true, false, ◌&&◌, ◌||◌, IsTrue, List, [], ◌∷◌, map}
+use Rattle.std.specs.Prelude.{◌≡◌, Bool, true, false, ◌&&◌, ◌||◌, IsTrue, List, [], ◌∷◌, map, All}
 use Rattle.std.proofs.Common.{refl}
 use Rattle.std.proofs.lemmas.Bool.{eq-eqb}
+use Rattle.std.proofs.lemmas.List.Elements.{All-head, All-tail}
 use Rattle.amqp_base.specs.SameKind.{place, same_kind}
 use Rattle.amqp_base.specs.Canon.{kind_of}
 use Rattle.amqp_base.specs.Item.{Item, Scalar, scalar, items_of}
@@ -23,24 +24,26 @@ pub second : (a b : Bool) → IsTrue b → IsTrue (a || b)
 second true b h = refl
 second false b h = h
 
--- parts that are taken and mean the values
-all_taken_back : {T : Type 0} (takes : Item → Bool) (item : T → Item) → ((v : T) → IsTrue (takes (item v))) → (vs : List T) → IsTrue (all_taken takes (items_of (map item vs)))
-all_taken_back takes item h [] = refl
-all_taken_back takes item h (v ∷ vs) = both (takes (item v)) (all_taken takes (items_of (map item vs))) (h v) (all_taken_back takes item h vs)
+-- parts that are taken and mean the values, where each value is sound
+all_taken_back : {T : Type 0} (takes : Item → Bool) (item : T → Item) (sound : T → Type 0) → ((v : T) → sound v → IsTrue (takes (item v))) → (vs : List T) → All sound vs → IsTrue (all_taken takes (items_of (map item vs)))
+all_taken_back takes item sound h [] s = refl
+all_taken_back takes item sound h (v ∷ vs) s = both (takes (item v)) (all_taken takes (items_of (map item vs))) (h v (All-head sound v vs s)) (all_taken_back takes item sound h vs (All-tail sound v vs s))
 
-all_read_back : {T : Type 0} (means : Item → T → Type 0) (item : T → Item) → ((v : T) → means (item v) v) → (vs : List T) → all_mean means (items_of (map item vs)) vs
-all_read_back means item h [] = tt
-all_read_back means item h (v ∷ vs) = (h v, all_read_back means item h vs)
+all_read_back : {T : Type 0} (means : Item → T → Type 0) (item : T → Item) (sound : T → Type 0) → ((v : T) → sound v → means (item v) v) → (vs : List T) → All sound vs → all_mean means (items_of (map item vs)) vs
+all_read_back means item sound h [] s = tt
+all_read_back means item sound h (v ∷ vs) s = (h v (All-head sound v vs s), all_read_back means item sound h vs (All-tail sound v vs s))
 
 -- a list of items that are taken is taken
-pub list_taken_back : {T : Type 0} (takes : Item → Bool) (item : T → Item) → ((v : T) → IsTrue (takes (item v))) → (vs : List T) → IsTrue (is_list_of takes (whole Shape.List (map item vs)))
+pub list_taken_back : {T : Type 0} (takes : Item → Bool) (item : T → Item) (sound : T → Type 0) → ((v : T) → sound v → IsTrue (takes (item v))) → (vs : List T) → All sound vs
+    → IsTrue (is_list_of takes (whole Shape.List (map item vs)))
 unfolding whole
-list_taken_back takes item h vs = all_taken_back takes item h vs
+list_taken_back takes item sound h vs s = all_taken_back takes item sound h vs s
 
 -- and means the values
-pub list_read_back : {T : Type 0} (means : Item → T → Type 0) (item : T → Item) → ((v : T) → means (item v) v) → (vs : List T) → means_list means (whole Shape.List (map item vs)) vs
+pub list_read_back : {T : Type 0} (means : Item → T → Type 0) (item : T → Item) (sound : T → Type 0) → ((v : T) → sound v → means (item v) v) → (vs : List T) → All sound vs
+    → means_list means (whole Shape.List (map item vs)) vs
 unfolding whole
-list_read_back means item h vs = all_read_back means item h vs
+list_read_back means item sound h vs s = all_read_back means item sound h vs s
 
 -- a list isn't null
 pub list_not_null : (is : List Item) → is_null (whole Shape.List is) ≡ false

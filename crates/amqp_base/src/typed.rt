@@ -2,6 +2,7 @@
 
 ghost use Rattle.std.specs.Prelude.{◌≡◌, Bool, false, IsTrue};
 
+mod maps;
 mod numbers;
 mod options;
 mod others;
@@ -40,16 +41,20 @@ pub trait Typed: Drop {
     ghost one_value: { OneValue means same };
 }
 
-/// A type whose values are read back from what is written for them: the item that a value is written as by itself is
+/// A type whose values are read back from what is written for them: the item that a sound value is written as by itself is
 /// one that the type takes, and it is read as that value. `laws::round_trip` says what follows for bytes.
 pub trait RoundTrip: Typed {
     ghost use Rattle.amqp_base.specs.declared.shape.Setting.TheVariants.{Plain};
 
+    /// What holds of every value that a program has, though contracts see others too: the keys of a map differ. It is no
+    /// condition where the type holds no map.
+    ghost sound: { Self → Type 0 } = { λ _. Unit {0} };
+
     /// The item of a value is taken.
-    ghost taken_back: { (v : Self) → IsTrue (Self.takes (Self.item v Plain)) };
+    ghost taken_back: { (v : Self) → sound v → IsTrue (Self.takes (Self.item v Plain)) };
 
     /// It is read as that value.
-    ghost read_back: { (v : Self) → Self.means (Self.item v Plain) v };
+    ghost read_back: { (v : Self) → sound v → Self.means (Self.item v Plain) v };
 }
 
 /// A type whose values are never written as null (part 1, section 1.6.1). So an option of them is read back, too.

@@ -1,6 +1,6 @@
 -- A text that is read from a string or a symbol.
-use Rattle.std.specs.Prelude.{◌≡◌, ℕ, Bool, true, false, ◌||◌, IsTrue, List}
-use Rattle.std.proofs.Common.{refl, sym, ◌∙◌}
+use Rattle.std.specs.Prelude.{◌≡◌, ℕ, ◌||◌, IsTrue, List}
+use Rattle.std.proofs.Common.{sym, ◌∙◌}
 use Rattle.amqp_base.specs.Codes.{Kind}
 use Rattle.amqp_base.specs.Item.{Item, scalar, list, map, array, described, string, symbol}
 use Rattle.amqp_base.specs.ReadBack.{of_own_kind, second}

@@ -82,9 +82,9 @@ impl Typed for Binary {
 }
 
 impl RoundTrip for Binary {
-    ghost taken_back = { λ v. of_own_kind (binary v.0.items) };
+    ghost taken_back = { λ v _. of_own_kind (binary v.0.items) };
 
-    ghost read_back = { λ _. refl };
+    ghost read_back = { λ _ _. refl };
 }
 
 impl NeverNull for Binary {
@@ -122,9 +122,9 @@ impl Typed for BinaryRef<'_> {
 }
 
 impl RoundTrip for BinaryRef<'_> {
-    ghost taken_back = { λ v. of_own_kind (binary v.0.now) };
+    ghost taken_back = { λ v _. of_own_kind (binary v.0.now) };
 
-    ghost read_back = { λ _. refl };
+    ghost read_back = { λ _ _. refl };
 }
 
 impl NeverNull for BinaryRef<'_> {

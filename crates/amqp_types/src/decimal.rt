@@ -112,9 +112,9 @@ impl Typed for Dec32 {
 }
 
 impl RoundTrip for Dec32 {
-    ghost taken_back = { λ v. of_own_kind (decimal32 v) };
+    ghost taken_back = { λ v _. of_own_kind (decimal32 v) };
 
-    ghost read_back = { λ _. refl };
+    ghost read_back = { λ _ _. refl };
 }
 
 impl NeverNull for Dec32 {
@@ -208,9 +208,9 @@ impl Typed for Dec64 {
 }
 
 impl RoundTrip for Dec64 {
-    ghost taken_back = { λ v. of_own_kind (decimal64 v) };
+    ghost taken_back = { λ v _. of_own_kind (decimal64 v) };
 
-    ghost read_back = { λ _. refl };
+    ghost read_back = { λ _ _. refl };
 }
 
 impl NeverNull for Dec64 {
@@ -304,9 +304,9 @@ impl Typed for Dec128 {
 }
 
 impl RoundTrip for Dec128 {
-    ghost taken_back = { λ v. of_own_kind (decimal128 v) };
+    ghost taken_back = { λ v _. of_own_kind (decimal128 v) };
 
-    ghost read_back = { λ _. refl };
+    ghost read_back = { λ _ _. refl };
 }
 
 impl NeverNull for Dec128 {

@@ -75,9 +75,9 @@ impl Typed for Float {
 }
 
 impl RoundTrip for Float {
-    ghost taken_back = { λ v. of_own_kind (float v) };
+    ghost taken_back = { λ v _. of_own_kind (float v) };
 
-    ghost read_back = { λ _. refl };
+    ghost read_back = { λ _ _. refl };
 }
 
 impl NeverNull for Float {
@@ -147,9 +147,9 @@ impl Typed for Double {
 }
 
 impl RoundTrip for Double {
-    ghost taken_back = { λ v. of_own_kind (double v) };
+    ghost taken_back = { λ v _. of_own_kind (double v) };
 
-    ghost read_back = { λ _. refl };
+    ghost read_back = { λ _ _. refl };
 }
 
 impl NeverNull for Double {

@@ -1,11 +1,20 @@
 //! Maps that keep the order of their keys.
 
-ghost use Rattle.std.specs.Prelude.{◌≡◌, ◌==◌, ◌&&◌, ℕ, List, [], length, option_copied, IfOk, OnOk, IfErr, OnErr};
+ghost use Rattle.std.specs.Prelude.{◌≡◌, ◌==◌, ◌&&◌, ℕ, List, [], length, option_copied, IfOk, OnOk, IfErr, OnErr, true, refl};
 ghost use Rattle.std.specs.Cmp.{on_per, and_per};
 ghost use Rattle.std.specs.Cmp.Lexicographic.{pointwise, lists_per};
-ghost use Rattle.std.specs.Map.{lookup};
+ghost use Rattle.std.specs.List.{IsDistinct};
+ghost use Rattle.std.specs.Map.{lookup, keys_of};
 ghost use Rattle.indexmap.specs.IndexMap.{insert_entry};
+ghost use Rattle.amqp_base.specs.Laws.{SameEntries};
+ghost use Rattle.amqp_base.specs.Maps.{pair_items, is_map_of, means_map, SameRows, SoundEntries, one_map};
+ghost use Rattle.amqp_base.specs.MapsReadBack.{map_taken_back, map_read_back, map_not_null};
+ghost use Rattle.amqp_base.specs.Shapes.{whole};
+ghost use Rattle.amqp_base.specs.declared.shape.Setting.TheVariants.{Plain};
+ghost use Rattle.amqp_base.specs.declared.shape.Shape.{Shape};
+ghost use Rattle.amqp_types.specs.OrderedMaps.{SameAreEqual, distinct_again};
 
+use amqp_base::{NeverNull, RoundTrip, Typed};
 use indexmap::IndexMap;
 use indexmap::map::Iter;
 use std::alloc::Global;
@@ -32,7 +41,8 @@ impl<K: Eq + Hash, V> Model for OrderedMap<K, V> {
 impl<K: Eq + Hash, V> OrderedMap<K, V> {
     /// A map without pairs. It takes no memory.
     pub fn new(alloc: Global) -> OrderedMap<K, V>
-        ensures { result ≡ [] }
+        ensures empty { result ≡ [] }
+        ensures keys_differ { IsDistinct K.eq (keys_of result) }
     {
         OrderedMap {
             pairs: IndexMap::new(alloc),
@@ -41,7 +51,8 @@ impl<K: Eq + Hash, V> OrderedMap<K, V> {
 
     /// How many pairs it has.
     pub fn len(&self) -> usize
-        ensures { result ≡ length self.now }
+        ensures len { result ≡ length self.now }
+        ensures keys_differ { IsDistinct K.eq (keys_of self.now) }
     {
         self.pairs.len()
     }
@@ -63,6 +74,7 @@ impl<K: Eq + Hash, V> OrderedMap<K, V> {
         ensures had { IfOk result (λ had. had ≡ lookup (K.eq key) self.old) }
         ensures handed_back { IfErr result (λ pair. pair ≡ (key, value)) }
         ensures unchanged { OnErr result (self.new ≡ self.old) }
+        ensures keys_differ { IsDistinct K.eq (keys_of self.new) }
     {
         match self.pairs.insert(key, value) {
             Ok(had) => Ok(had),
@@ -79,10 +91,20 @@ impl<K: Eq + Hash, V> OrderedMap<K, V> {
 
     /// The pairs, in order.
     pub fn iter(&self) -> Iter<'_, K, V>
-        ensures { result ≡ self.now }
+        ensures pairs { result ≡ self.now }
+        ensures keys_differ { IsDistinct K.eq (keys_of self.now) }
     {
         self.pairs.iter()
     }
+
+    /// A law, for contracts: two maps that one item means have the same entries, pair by pair, where keys that are the same are
+    /// equal. It does nothing when it runs.
+    pub fn same_entries()
+    where
+        K: Typed,
+        V: Typed,
+        ensures { SameAreEqual K.same K.eq → SameEntries K.same V.same (insert_entry K.eq) }
+    {}
 }
 
 impl<K: Eq + Hash, V: PartialEq> PartialEq for OrderedMap<K, V> {
@@ -94,4 +116,34 @@ impl<K: Eq + Hash, V: PartialEq> PartialEq for OrderedMap<K, V> {
     fn eq(&self, other: &OrderedMap<K, V>) -> bool {
         self.pairs.as_slice() == other.pairs.as_slice()
     }
+}
+
+impl<K: Typed + Eq + Hash, V: Typed> Typed for OrderedMap<K, V> {
+    ghost item = { λ v _. whole Shape.Map (pair_items (λ k. K.item k Plain) (λ x. V.item x Plain) v) };
+
+    ghost takes = { is_map_of K.takes V.takes };
+
+    ghost means = { λ i v. means_map K.means V.means (insert_entry K.eq) i v };
+
+    ghost same = { λ v w. SameRows K.same V.same (insert_entry K.eq) v w };
+
+    ghost grows = { true };
+
+    ghost in_described_list = { λ _. refl };
+
+    ghost in_described_basic = { λ _. refl };
+
+    ghost one_value = { λ i v w. one_map K.means V.means (insert_entry K.eq) K.one_value V.one_value i v w };
+}
+
+impl<K: RoundTrip + Eq + Hash, V: RoundTrip> RoundTrip for OrderedMap<K, V> {
+    ghost sound = { λ v. SoundEntries (IsDistinct K.eq) K.sound V.sound v };
+
+    ghost taken_back = { λ v. map_taken_back (λ k. K.item k Plain) (λ x. V.item x Plain) K.takes V.takes K.taken_back V.taken_back (IsDistinct K.eq) v };
+
+    ghost read_back = { λ v. map_read_back (λ k. K.item k Plain) (λ x. V.item x Plain) K.means V.means K.read_back V.read_back (insert_entry K.eq) (IsDistinct K.eq) (distinct_again K.eq K.PartialEq.laws.symm) v };
+}
+
+impl<K: Typed + Eq + Hash, V: Typed> NeverNull for OrderedMap<K, V> {
+    ghost never_null = { λ v. map_not_null (pair_items (λ k. K.item k Plain) (λ x. V.item x Plain) v) };
 }

@@ -120,9 +120,9 @@ impl Typed for Symbol {
 }
 
 impl RoundTrip for Symbol {
-    ghost taken_back = { λ v. of_own_kind (symbol (string_bytes v.0)) };
+    ghost taken_back = { λ v _. of_own_kind (symbol (string_bytes v.0)) };
 
-    ghost read_back = { λ _. refl };
+    ghost read_back = { λ _ _. refl };
 }
 
 impl NeverNull for Symbol {
@@ -182,9 +182,9 @@ impl Typed for SymbolRef<'_> {
 }
 
 impl RoundTrip for SymbolRef<'_> {
-    ghost taken_back = { λ v. symbol_taken v.0.now };
+    ghost taken_back = { λ v _. symbol_taken v.0.now };
 
-    ghost read_back = { λ _. refl };
+    ghost read_back = { λ _ _. refl };
 }
 
 impl NeverNull for SymbolRef<'_> {

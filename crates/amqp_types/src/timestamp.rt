@@ -78,9 +78,9 @@ impl Typed for Timestamp {
 }
 
 impl RoundTrip for Timestamp {
-    ghost taken_back = { λ v. of_own_kind (timestamp v) };
+    ghost taken_back = { λ v _. of_own_kind (timestamp v) };
 
-    ghost read_back = { λ _. refl };
+    ghost read_back = { λ _ _. refl };
 }
 
 impl NeverNull for Timestamp {

@@ -111,9 +111,9 @@ impl Typed for Uuid {
 }
 
 impl RoundTrip for Uuid {
-    ghost taken_back = { λ v. of_own_kind (uuid v) };
+    ghost taken_back = { λ v _. of_own_kind (uuid v) };
 
-    ghost read_back = { λ _. refl };
+    ghost read_back = { λ _ _. refl };
 }
 
 impl NeverNull for Uuid {

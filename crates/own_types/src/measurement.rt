@@ -45,9 +45,9 @@ impl RoundTrip for Measurement {
     ghost use Rattle.amqp_base.specs.Fields.{taken_more, taken_none, read_more, read_none, list_of_taken, list_of_read};
     ghost use Rattle.amqp_base.specs.ReadBack.{of_own_kind};
 
-    ghost taken_back = { λ v. list_of_taken (taken_more (of_own_kind (uint v.amount)) (taken_more (of_own_kind (string (string_bytes v.unit))) taken_none)) };
+    ghost taken_back = { λ v _. list_of_taken (taken_more (of_own_kind (uint v.amount)) (taken_more (of_own_kind (string (string_bytes v.unit))) taken_none)) };
 
-    ghost read_back = { λ v. list_of_read (read_more refl (read_more refl read_none)) };
+    ghost read_back = { λ v _. list_of_read (read_more refl (read_more refl read_none)) };
 }
 
 impl Serialize for Measurement {

@@ -67,9 +67,9 @@ impl RoundTrip for Celsius {
     ghost use Rattle.amqp_base.specs.Item.{int};
     ghost use Rattle.amqp_base.specs.ReadBack.{of_own_kind};
 
-    ghost taken_back = { λ v. of_own_kind (int v.0) };
+    ghost taken_back = { λ v _. of_own_kind (int v.0) };
 
-    ghost read_back = { λ _. refl };
+    ghost read_back = { λ _ _. refl };
 }
 
 impl NeverNull for Celsius {

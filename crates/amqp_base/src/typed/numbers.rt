@@ -28,9 +28,9 @@ impl Typed for bool {
 }
 
 impl RoundTrip for bool {
-    ghost taken_back = { λ v. of_own_kind (boolean v) };
+    ghost taken_back = { λ v _. of_own_kind (boolean v) };
 
-    ghost read_back = { λ _. refl };
+    ghost read_back = { λ _ _. refl };
 }
 
 impl NeverNull for bool {
@@ -56,9 +56,9 @@ impl Typed for u8 {
 }
 
 impl RoundTrip for u8 {
-    ghost taken_back = { λ v. of_own_kind (ubyte v) };
+    ghost taken_back = { λ v _. of_own_kind (ubyte v) };
 
-    ghost read_back = { λ _. refl };
+    ghost read_back = { λ _ _. refl };
 }
 
 impl NeverNull for u8 {
@@ -84,9 +84,9 @@ impl Typed for u16 {
 }
 
 impl RoundTrip for u16 {
-    ghost taken_back = { λ v. of_own_kind (ushort v) };
+    ghost taken_back = { λ v _. of_own_kind (ushort v) };
 
-    ghost read_back = { λ _. refl };
+    ghost read_back = { λ _ _. refl };
 }
 
 impl NeverNull for u16 {
@@ -112,9 +112,9 @@ impl Typed for u32 {
 }
 
 impl RoundTrip for u32 {
-    ghost taken_back = { λ v. of_own_kind (uint v) };
+    ghost taken_back = { λ v _. of_own_kind (uint v) };
 
-    ghost read_back = { λ _. refl };
+    ghost read_back = { λ _ _. refl };
 }
 
 impl NeverNull for u32 {
@@ -140,9 +140,9 @@ impl Typed for u64 {
 }
 
 impl RoundTrip for u64 {
-    ghost taken_back = { λ v. of_own_kind (ulong v) };
+    ghost taken_back = { λ v _. of_own_kind (ulong v) };
 
-    ghost read_back = { λ _. refl };
+    ghost read_back = { λ _ _. refl };
 }
 
 impl NeverNull for u64 {
@@ -168,9 +168,9 @@ impl Typed for i8 {
 }
 
 impl RoundTrip for i8 {
-    ghost taken_back = { λ v. of_own_kind (byte v) };
+    ghost taken_back = { λ v _. of_own_kind (byte v) };
 
-    ghost read_back = { λ _. refl };
+    ghost read_back = { λ _ _. refl };
 }
 
 impl NeverNull for i8 {
@@ -196,9 +196,9 @@ impl Typed for i16 {
 }
 
 impl RoundTrip for i16 {
-    ghost taken_back = { λ v. of_own_kind (short v) };
+    ghost taken_back = { λ v _. of_own_kind (short v) };
 
-    ghost read_back = { λ _. refl };
+    ghost read_back = { λ _ _. refl };
 }
 
 impl NeverNull for i16 {
@@ -224,9 +224,9 @@ impl Typed for i32 {
 }
 
 impl RoundTrip for i32 {
-    ghost taken_back = { λ v. of_own_kind (int v) };
+    ghost taken_back = { λ v _. of_own_kind (int v) };
 
-    ghost read_back = { λ _. refl };
+    ghost read_back = { λ _ _. refl };
 }
 
 impl NeverNull for i32 {
@@ -252,9 +252,9 @@ impl Typed for i64 {
 }
 
 impl RoundTrip for i64 {
-    ghost taken_back = { λ v. of_own_kind (long v) };
+    ghost taken_back = { λ v _. of_own_kind (long v) };
 
-    ghost read_back = { λ _. refl };
+    ghost read_back = { λ _ _. refl };
 }
 
 impl NeverNull for i64 {
@@ -280,9 +280,9 @@ impl Typed for char {
 }
 
 impl RoundTrip for char {
-    ghost taken_back = { λ v. of_own_kind (character v) };
+    ghost taken_back = { λ v _. of_own_kind (character v) };
 
-    ghost read_back = { λ _. refl };
+    ghost read_back = { λ _ _. refl };
 }
 
 impl NeverNull for char {

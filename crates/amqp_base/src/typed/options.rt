@@ -1,6 +1,6 @@
 //! What an option means.
 
-ghost use Rattle.amqp_base.specs.Options.{option_item, takes_option, means_option, same_option, option_as_plain, one_option, option_taken_back, option_read_back};
+ghost use Rattle.amqp_base.specs.Options.{option_item, takes_option, means_option, same_option, option_as_plain, one_option, sound_option, option_taken_back, option_read_back};
 ghost use Rattle.amqp_base.specs.declared.shape.Setting.TheVariants.{Plain, DescribedList, DescribedBasic};
 
 use super::{NeverNull, RoundTrip, Typed};
@@ -24,7 +24,9 @@ impl<T: Typed> Typed for Option<T> {
 }
 
 impl<T: RoundTrip + NeverNull> RoundTrip for Option<T> {
-    ghost taken_back = { option_taken_back T.takes T.item Plain T.taken_back };
+    ghost sound = { sound_option T.sound };
 
-    ghost read_back = { option_read_back T.means T.item Plain T.never_null T.read_back };
+    ghost taken_back = { option_taken_back T.takes T.item Plain T.sound T.taken_back };
+
+    ghost read_back = { option_read_back T.means T.item Plain T.sound T.never_null T.read_back };
 }

@@ -1,6 +1,6 @@
 //! What null, texts and lists mean.
 
-ghost use Rattle.std.specs.Prelude.{◌≡◌, true, false, map, refl, string_bytes};
+ghost use Rattle.std.specs.Prelude.{◌≡◌, true, false, map, All, refl, string_bytes};
 ghost use Rattle.amqp_base.specs.Codes.{Kind};
 ghost use Rattle.amqp_base.specs.Item.{scalar, null, string};
 ghost use Rattle.amqp_base.specs.OneValue.{one_of, one_list, bytes_in};
@@ -31,9 +31,9 @@ impl Typed for () {
 }
 
 impl RoundTrip for () {
-    ghost taken_back = { λ _. of_own_kind null };
+    ghost taken_back = { λ _ _. of_own_kind null };
 
-    ghost read_back = { λ _. refl };
+    ghost read_back = { λ _ _. refl };
 }
 
 impl Typed for String {
@@ -55,9 +55,9 @@ impl Typed for String {
 }
 
 impl RoundTrip for String {
-    ghost taken_back = { λ v. of_own_kind (string (string_bytes v)) };
+    ghost taken_back = { λ v _. of_own_kind (string (string_bytes v)) };
 
-    ghost read_back = { λ _. refl };
+    ghost read_back = { λ _ _. refl };
 }
 
 impl NeverNull for String {
@@ -83,9 +83,11 @@ impl<T: Typed> Typed for Vec<T> {
 }
 
 impl<T: RoundTrip> RoundTrip for Vec<T> {
-    ghost taken_back = { λ v. list_taken_back T.takes (λ x. T.item x Plain) T.taken_back v.items };
+    ghost sound = { λ v. All T.sound v.items };
 
-    ghost read_back = { λ v. list_read_back T.means (λ x. T.item x Plain) T.read_back v.items };
+    ghost taken_back = { λ v. list_taken_back T.takes (λ x. T.item x Plain) T.sound T.taken_back v.items };
+
+    ghost read_back = { λ v. list_read_back T.means (λ x. T.item x Plain) T.sound T.read_back v.items };
 }
 
 impl<T: Typed> NeverNull for Vec<T> {

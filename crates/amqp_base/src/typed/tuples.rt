@@ -81,9 +81,11 @@ impl<A: Typed, B: Typed, C: Typed, D: Typed> Typed for (A, B, C, D) {
 }
 
 impl<A: RoundTrip> RoundTrip for (A,) {
-    ghost taken_back = { λ v. tuple_of_taken 1 (taken_more (A.taken_back v.0) taken_none) };
+    ghost sound = { λ v. A.sound v.0 };
 
-    ghost read_back = { λ v. tuple_of_read 1 (read_more (A.read_back v.0) read_none) };
+    ghost taken_back = { λ v s. tuple_of_taken 1 (taken_more (A.taken_back v.0 s) taken_none) };
+
+    ghost read_back = { λ v s. tuple_of_read 1 (read_more (A.read_back v.0 s) read_none) };
 }
 
 impl<A: Typed> NeverNull for (A,) {
@@ -91,9 +93,11 @@ impl<A: Typed> NeverNull for (A,) {
 }
 
 impl<A: RoundTrip, B: RoundTrip> RoundTrip for (A, B) {
-    ghost taken_back = { λ v. tuple_of_taken 2 (taken_more (A.taken_back v.0) (taken_more (B.taken_back v.1) taken_none)) };
+    ghost sound = { λ v. A.sound v.0 × B.sound v.1 };
 
-    ghost read_back = { λ v. tuple_of_read 2 (read_more (A.read_back v.0) (read_more (B.read_back v.1) read_none)) };
+    ghost taken_back = { λ v s. tuple_of_taken 2 (taken_more (A.taken_back v.0 s.0) (taken_more (B.taken_back v.1 s.1) taken_none)) };
+
+    ghost read_back = { λ v s. tuple_of_read 2 (read_more (A.read_back v.0 s.0) (read_more (B.read_back v.1 s.1) read_none)) };
 }
 
 impl<A: Typed, B: Typed> NeverNull for (A, B) {
@@ -101,9 +105,11 @@ impl<A: Typed, B: Typed> NeverNull for (A, B) {
 }
 
 impl<A: RoundTrip, B: RoundTrip, C: RoundTrip> RoundTrip for (A, B, C) {
-    ghost taken_back = { λ v. tuple_of_taken 3 (taken_more (A.taken_back v.0) (taken_more (B.taken_back v.1) (taken_more (C.taken_back v.2) taken_none))) };
+    ghost sound = { λ v. A.sound v.0 × (B.sound v.1 × C.sound v.2) };
 
-    ghost read_back = { λ v. tuple_of_read 3 (read_more (A.read_back v.0) (read_more (B.read_back v.1) (read_more (C.read_back v.2) read_none))) };
+    ghost taken_back = { λ v s. tuple_of_taken 3 (taken_more (A.taken_back v.0 s.0) (taken_more (B.taken_back v.1 s.1.0) (taken_more (C.taken_back v.2 s.1.1) taken_none))) };
+
+    ghost read_back = { λ v s. tuple_of_read 3 (read_more (A.read_back v.0 s.0) (read_more (B.read_back v.1 s.1.0) (read_more (C.read_back v.2 s.1.1) read_none))) };
 }
 
 impl<A: Typed, B: Typed, C: Typed> NeverNull for (A, B, C) {
@@ -111,9 +117,11 @@ impl<A: Typed, B: Typed, C: Typed> NeverNull for (A, B, C) {
 }
 
 impl<A: RoundTrip, B: RoundTrip, C: RoundTrip, D: RoundTrip> RoundTrip for (A, B, C, D) {
-    ghost taken_back = { λ v. tuple_of_taken 4 (taken_more (A.taken_back v.0) (taken_more (B.taken_back v.1) (taken_more (C.taken_back v.2) (taken_more (D.taken_back v.3) taken_none)))) };
+    ghost sound = { λ v. A.sound v.0 × (B.sound v.1 × (C.sound v.2 × D.sound v.3)) };
 
-    ghost read_back = { λ v. tuple_of_read 4 (read_more (A.read_back v.0) (read_more (B.read_back v.1) (read_more (C.read_back v.2) (read_more (D.read_back v.3) read_none)))) };
+    ghost taken_back = { λ v s. tuple_of_taken 4 (taken_more (A.taken_back v.0 s.0) (taken_more (B.taken_back v.1 s.1.0) (taken_more (C.taken_back v.2 s.1.1.0) (taken_more (D.taken_back v.3 s.1.1.1) taken_none)))) };
+
+    ghost read_back = { λ v s. tuple_of_read 4 (read_more (A.read_back v.0 s.0) (read_more (B.read_back v.1 s.1.0) (read_more (C.read_back v.2 s.1.1.0) (read_more (D.read_back v.3 s.1.1.1) read_none)))) };
 }
 
 impl<A: Typed, B: Typed, C: Typed, D: Typed> NeverNull for (A, B, C, D) {
