@@ -101,11 +101,11 @@ bare_items : (is : Items) → items_of_all bare is ≡ items_in is
 bare_items none = refl
 bare_items (more i is) = ap (λ (n : ℕ). items i + n) (bare_items is)
 
-as_data : (e : EncodingCodes) (k : Kind) (c : Category) (b : List ℕ) (i : Item) → (row e).kind ≡ k → (row e).category ≡ c → Data lenient e k c b i → Wire lenient (under e) b i
+pub as_data : (e : EncodingCodes) (k : Kind) (c : Category) (b : List ℕ) (i : Item) → (row e).kind ≡ k → (row e).category ≡ c → Data lenient e k c b i → Wire lenient (under e) b i
 as_data e k c b i p q d = of_data (rw (p, q) d)
 
 -- size, count and parts of the data of a list or a map
-record Body (w : ℕ) (t : List ℕ) (is : Items) : Type 0 where
+pub record Body (w : ℕ) (t : List ℕ) (is : Items) : Type 0 where
   pub zs : List ℕ
   pub ks : List ℕ
   pub body : List ℕ
@@ -128,7 +128,7 @@ list_body (of_map z k b lz lk nk h f) w is p q m = absurd m
 list_body (of_array z k m b lz lk nk g h f) w is p q m' = absurd m'
 list_body (empty_array z k b lz lk nk f) w is p q m = absurd m
 
-map_body : {e : EncodingCodes} {k : Kind} {c : Category} {t : List ℕ} {i : Item} → Data lenient e k c t i → (w : ℕ) (is : Items) → c ≡ Compound w → HasPairs i is → Body w t is
+pub map_body : {e : EncodingCodes} {k : Kind} {c : Category} {t : List ℕ} {i : Item} → Data lenient e k c t i → (w : ℕ) (is : Items) → c ≡ Compound w → HasPairs i is → Body w t is
 map_body (of_fixed h) w is q m = absurd m
 map_body (of_variable h) w is q m = absurd m
 map_body list0 w is q m = absurd m
@@ -139,7 +139,7 @@ map_body (of_map {w = v} z k b {ps = ps} lz lk nk h f) w is q m =
 map_body (of_array z k m b lz lk nk g h f) w is q m' = absurd m'
 map_body (empty_array z k b lz lk nk f) w is q m = absurd m
 
-under_data : {e : EncodingCodes} {t : List ℕ} {i : Item} → Wire lenient (under e) t i → Data lenient e (row e).kind (row e).category t i
+pub under_data : {e : EncodingCodes} {t : List ℕ} {i : Item} → Wire lenient (under e) t i → Data lenient e (row e).kind (row e).category t i
 under_data (of_data h) = h
 
 wide_of : (w z k : ℕ) → (w ≤ z) ⊎ (IsTrue false × (k ≡ 0)) → w ≤ z
@@ -147,7 +147,7 @@ wide_of w z k (inl h) = h
 wide_of w z k (inr h) = absurd cc
 
 -- behind the header of a list or a map stand its parts
-header_opens : (Has : Item → Items → Type 0) (x : ℕ) (e : EncodingCodes) (w z k : ℕ) (old new : Reading) → code_of x ≡ Some e → 1 ≤ w → Header w false z k old new
+pub header_opens : (Has : Item → Items → Type 0) (x : ℕ) (e : EncodingCodes) (w z k : ℕ) (old new : Reading) → code_of x ≡ Some e → 1 ≤ w → Header w false z k old new
     → ((zs ks b : List ℕ) (is : Items) → length zs ≡ w → length ks ≡ w → number ks ≡ count is → count is ≡ k → Parts lenient bare b is → (w ≤ number zs) × (number ks ≤ 65536)
     → (i : Item) × Wire lenient (under e) (zs ++ (ks ++ b)) i × Has i is × (items i ≡ 1 + items_in is))
     → ((t : List ℕ) (i : Item) (is : Items) → Has i is → Wire lenient (under e) t i → Body w t is)
@@ -209,20 +209,25 @@ list0_opens r = record {
 
 -- ---- what is refused
 
--- a header that is refused
-pub header_refused : (parse : EncodingCodes → List ℕ → Parsed ℕ) (next : (ℕ × ℕ) × List ℕ → Parsed ℕ) (x : ℕ) (e : EncodingCodes) (w : ℕ) (buffers : Bool) (old new : Reading) (err : Error) → code_of x ≡ Some e → ((s : List ℕ) → parse e s ≡ (header_at w false s >>= next))
-    → Rejects buffers buffers (header_at w false) old new err → Rejects buffers buffers (behind_byte parse x) old new err
-header_refused parse next x e w buffers old new err c is n = record { why = λ s at h. tell s (n.why s at h); steady = n.steady; device = n.device }
+-- a header that is refused, whatever is looked at behind it
+pub header_rejected : (next : (ℕ × ℕ) × List ℕ → Parsed ℕ) (w : ℕ) (buffers : Bool) (old new : Reading) (err : Error) → Rejects buffers buffers (header_at w false) old new err → Rejects buffers buffers (λ s. header_at w false s >>= next) old new err
+header_rejected next w buffers old new err n = record { why = λ s at h. tell s (n.why s at h); steady = n.steady; device = n.device }
   where
-    head : (s : List ℕ) → header_at w false s ≡ Err err → parse e s ≡ Err err
-    head s h = is s ∙ rw h refl
+    tell : (s : List ℕ) → (header_at w false s ≡ Err err) ⊎ Excused buffers buffers old new err → ((header_at w false s >>= next) ≡ Err err) ⊎ Excused buffers buffers old new err
+    tell s (inl p) = inl (rw p refl)
+    tell s (inr y) = inr y
 
-    tell : (s : List ℕ) → (header_at w false s ≡ Err err) ⊎ Excused buffers buffers old new err → (behind_byte parse x s ≡ Err err) ⊎ Excused buffers buffers old new err
-    tell s (inl p) = inl (behind_code parse x e s c ∙ head s p)
+-- data behind their code that are refused
+pub data_refused : (parse : EncodingCodes → List ℕ → Parsed ℕ) (front : List ℕ → Parsed ℕ) (x : ℕ) (e : EncodingCodes) (buffers : Bool) (old new : Reading) (err : Error) → code_of x ≡ Some e → ((s : List ℕ) → parse e s ≡ front s)
+    → Rejects buffers buffers front old new err → Rejects buffers buffers (behind_byte parse x) old new err
+data_refused parse front x e buffers old new err c is n = record { why = λ s at h. tell s (n.why s at h); steady = n.steady; device = n.device }
+  where
+    tell : (s : List ℕ) → (front s ≡ Err err) ⊎ Excused buffers buffers old new err → (behind_byte parse x s ≡ Err err) ⊎ Excused buffers buffers old new err
+    tell s (inl p) = inl (behind_code parse x e s c ∙ (is s ∙ p))
     tell s (inr y) = inr y
 
 pub list_refused : (x : ℕ) (e : EncodingCodes) (w : ℕ) (buffers : Bool) (old new : Reading) (err : Error) → code_of x ≡ Some e → ((s : List ℕ) → list_data e s ≡ count_at w s) → Rejects buffers buffers (header_at w false) old new err → Rejects buffers buffers (behind_byte list_data x) old new err
-list_refused x e w buffers old new err c is n = header_refused list_data (λ h. Ok (h.0.1, h.1)) x e w buffers old new err c is n
+list_refused x e w buffers old new err c is n = data_refused list_data (count_at w) x e buffers old new err c is (header_rejected (λ h. Ok (h.0.1, h.1)) w buffers old new err n)
 
 other_list : (e : EncodingCodes) (s : List ℕ) → (e ≡ List0 → ⊥) → (e ≡ List8 → ⊥) → (e ≡ List32 → ⊥) → list_data e s ≡ Err InvalidFormatCode
 unfolding list_data
@@ -231,7 +236,7 @@ other_list List8 s p q r = absurd (q refl)
 other_list List32 s p q r = absurd (r refl)
 other_list _ s p q r = refl
 
-byte_of : (b n : ℕ) (e f : EncodingCodes) → (code_of b ≡ Some e) ⊎ (e ≡ DescribedType) → (b ≡ n → ⊥) → (row f).byte ≡ n → (f ≡ DescribedType → ⊥) → e ≡ f → ⊥
+pub byte_of : (b n : ℕ) (e f : EncodingCodes) → (code_of b ≡ Some e) ⊎ (e ≡ DescribedType) → (b ≡ n → ⊥) → (row f).byte ≡ n → (f ≡ DescribedType → ⊥) → e ≡ f → ⊥
 byte_of b n e f (inl h) d k x q = d (sym (code_byte b e h) ∙ ap (λ (z : EncodingCodes). (row z).byte) q ∙ k)
 byte_of b n e f (inr h) d k x q = x (sym q ∙ h)
 
@@ -259,7 +264,7 @@ list_kind (of_array z k m b lz lk nk g h f) is m' = absurd m'
 list_kind (empty_array z k b lz lk nk f) is m = absurd m
 
 -- the header of data that stand
-header_there : (w : ℕ) (t rest : List ℕ) (is : Items) → (l : Body w t is) → header_at w false (t ++ rest) ≡ Ok ((number l.zs, number l.ks), l.body ++ rest)
+pub header_there : (w : ℕ) (t rest : List ℕ) (is : Items) → (l : Body w t is) → header_at w false (t ++ rest) ≡ Ok ((number l.zs, number l.ks), l.body ++ rest)
 header_there w t rest' is l = whole ∙ good_list w (number l.zs) (number l.ks) (l.body ++ rest') l.few l.wide
   where
     whole : header_at w false (t ++ rest') ≡ header_rule w false (number l.zs) (number l.ks) (l.body ++ rest')
@@ -278,8 +283,12 @@ list_parses e t rest' i is m w = tell (list_codes e (list_kind (under_data w) is
     tell (inr (inl h)) = let v : Wire lenient (under List8) t i = rw h at w in let p = counted 1 t rest' is (list_body (under_data v) 1 is refl refl m) in (p.0, rw h p.1)
     tell (inr (inr h)) = let v : Wire lenient (under List32) t i = rw h at w in let p = counted 4 t rest' is (list_body (under_data v) 4 is refl refl m) in (p.0, rw h p.1)
 
+-- a header of a list or a map that was consumed is good
+pub header_good : (w z k : ℕ) (old new : Reading) → (h : Header w false z k old new) → (r : List ℕ) → header_at w false ((h.zs ++ h.ks) ++ r) ≡ Ok ((z, k), r)
+header_good w z k old new h r = behind_count w z k false h.zs h.ks r h.len_z h.size h.len_k h.count ∙ good_list w z k r h.few (wide_of w z k h.wide)
+
 -- the header that was consumed
-header_exact : (parse : EncodingCodes → List ℕ → Parsed ℕ) (next : (ℕ × ℕ) × List ℕ → Parsed ℕ) (x : ℕ) (e : EncodingCodes) (w z k : ℕ) (old new : Reading) → code_of x ≡ Some e → ((s : List ℕ) → parse e s ≡ (header_at w false s >>= next)) → Header w false z k old new
+pub header_exact : (parse : EncodingCodes → List ℕ → Parsed ℕ) (next : (ℕ × ℕ) × List ℕ → Parsed ℕ) (x : ℕ) (e : EncodingCodes) (w z k : ℕ) (old new : Reading) → code_of x ≡ Some e → ((s : List ℕ) → parse e s ≡ (header_at w false s >>= next)) → Header w false z k old new
     → ((r : List ℕ) → next ((z, k), r) ≡ Ok (k, r)) → ParsesAs (behind_byte parse x) old new k
 header_exact parse next x e w z k old new c is h good = record {
   exact = λ s at.
@@ -288,7 +297,7 @@ header_exact parse next x e w z k old new c is h good = record {
 }
   where
     here : (r : List ℕ) → (header_at w false ((h.zs ++ h.ks) ++ r) >>= next) ≡ Ok (k, r)
-    here r = rw (behind_count w z k false h.zs h.ks r h.len_z h.size h.len_k h.count ∙ good_list w z k r h.few (wide_of w z k h.wide)) (good r)
+    here r = rw (header_good w z k old new h r) (good r)
 
 -- what was consumed of a list parses so
 pub list_exact : (x : ℕ) (e : EncodingCodes) (w z k : ℕ) (old new : Reading) → code_of x ≡ Some e → ((s : List ℕ) → list_data e s ≡ count_at w s) → Header w false z k old new → ParsesAs (behind_byte list_data x) old new k
