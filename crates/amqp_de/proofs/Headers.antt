@@ -17,9 +17,9 @@ use Rattle.amqp_base.specs.Refusals.{IsDevice}
 use Rattle.amqp_base.proofs.Lists.{cut}
 use Rattle.amqp_read.specs.Reading.{Reading}
 use Rattle.amqp_de.specs.Law.{Excused}
-use Rattle.amqp_de.specs.Parse.{◌>>=◌, number_at, header_rule, header_at, count_at, list_data, behind_byte}
+use Rattle.amqp_de.specs.Parse.{Parsed, ◌>>=◌, number_at, header_rule, header_at, count_at, list_data, behind_byte}
 use Rattle.amqp_de.specs.Steps.{Number, Unread, Rejects, ParsesAs}
-use Rattle.amqp_de.specs.Access.{Within, HasParts, items_of_all, shared_by, OpensData, Header}
+use Rattle.amqp_de.specs.Access.{Within, HasParts, HasPairs, items_of_all, shared_by, OpensData, Header}
 use Rattle.amqp_de.proofs.Readings.{takes_nothing, takes_then, behind, unread_rejects, rejects_then, rejects_after, rejects_here}
 use Rattle.amqp_de.proofs.Data.{bytes_there, bytes_short, behind_code}
 use Rattle.amqp_de.proofs.FixedWidth.{other_byte, not_device}
@@ -101,11 +101,11 @@ bare_items : (is : Items) → items_of_all bare is ≡ items_in is
 bare_items none = refl
 bare_items (more i is) = ap (λ (n : ℕ). items i + n) (bare_items is)
 
-as_data : (e : EncodingCodes) (k : Kind) (c : Category) (b : List ℕ) (i : Item) → (row e).kind ≡ k → (row e).category ≡ c → Data lenient e k c b i → Wire lenient (under e) b i
+pub as_data : (e : EncodingCodes) (k : Kind) (c : Category) (b : List ℕ) (i : Item) → (row e).kind ≡ k → (row e).category ≡ c → Data lenient e k c b i → Wire lenient (under e) b i
 as_data e k c b i p q d = of_data (rw (p, q) d)
 
--- size, count and parts of the data of a list
-record ListBody (w : ℕ) (t : List ℕ) (is : Items) : Type 0 where
+-- size, count and parts of the data of a list or a map
+pub record Body (w : ℕ) (t : List ℕ) (is : Items) : Type 0 where
   pub zs : List ℕ
   pub ks : List ℕ
   pub body : List ℕ
@@ -117,7 +117,7 @@ record ListBody (w : ℕ) (t : List ℕ) (is : Items) : Type 0 where
   pub wide : w ≤ number zs
   pub few : number ks ≤ 65536
 
-list_body : {e : EncodingCodes} {k : Kind} {c : Category} {t : List ℕ} {i : Item} → Data lenient e k c t i → (w : ℕ) (is : Items) → k ≡ Kind.list → c ≡ Compound w → HasParts i is → ListBody w t is
+list_body : {e : EncodingCodes} {k : Kind} {c : Category} {t : List ℕ} {i : Item} → Data lenient e k c t i → (w : ℕ) (is : Items) → k ≡ Kind.list → c ≡ Compound w → HasParts i is → Body w t is
 list_body (of_fixed h) w is p q m = absurd m
 list_body (of_variable h) w is p q m = absurd m
 list_body list0 w is p q m = absurd cc
@@ -128,27 +128,40 @@ list_body (of_map z k b lz lk nk h f) w is p q m = absurd m
 list_body (of_array z k m b lz lk nk g h f) w is p q m' = absurd m'
 list_body (empty_array z k b lz lk nk f) w is p q m = absurd m
 
-under_data : {e : EncodingCodes} {t : List ℕ} {i : Item} → Wire lenient (under e) t i → Data lenient e (row e).kind (row e).category t i
+pub map_body : {e : EncodingCodes} {k : Kind} {c : Category} {t : List ℕ} {i : Item} → Data lenient e k c t i → (w : ℕ) (is : Items) → c ≡ Compound w → HasPairs i is → Body w t is
+map_body (of_fixed h) w is q m = absurd m
+map_body (of_variable h) w is q m = absurd m
+map_body list0 w is q m = absurd m
+map_body (of_list z k b lz lk nk h f) w is q m = absurd m
+map_body (of_map {w = v} z k b {ps = ps} lz lk nk h f) w is q m =
+    let vw : v ≡ w = cc in
+    record { zs = z; ks = k; body = b; is_all = refl; len_z = lz ∙ vw; len_k = lk ∙ vw; count_is = nk ∙ ap count m; parts = rw (← m) h; wide = rw (← vw) f.0; few = f.1 }
+map_body (of_array z k m b lz lk nk g h f) w is q m' = absurd m'
+map_body (empty_array z k b lz lk nk f) w is q m = absurd m
+
+pub under_data : {e : EncodingCodes} {t : List ℕ} {i : Item} → Wire lenient (under e) t i → Data lenient e (row e).kind (row e).category t i
 under_data (of_data h) = h
 
 wide_of : (w z k : ℕ) → (w ≤ z) ⊎ (IsTrue false × (k ≡ 0)) → w ≤ z
 wide_of w z k (inl h) = h
 wide_of w z k (inr h) = absurd cc
 
-pub list_opens : (x : ℕ) (e : EncodingCodes) (w z k : ℕ) (old new : Reading) → code_of x ≡ Some e → (row e).kind ≡ Kind.list → (row e).category ≡ Compound w → 1 ≤ w → Header w false z k old new → OpensData x old new bare k None
-list_opens x e w z k old new code_is p q some h = record {
+-- behind the header of a list or a map stand its parts
+pub header_opens : (Has : Item → Items → Type 0) (x : ℕ) (e : EncodingCodes) (w z k : ℕ) (old new : Reading) → code_of x ≡ Some e → 1 ≤ w → Header w false z k old new
+    → ((zs ks b : List ℕ) (is : Items) → length zs ≡ w → length ks ≡ w → number ks ≡ count is → count is ≡ k → Parts lenient bare b is → (w ≤ number zs) × (number ks ≤ 65536)
+    → (i : Item) × Wire lenient (under e) (zs ++ (ks ++ b)) i × Has i is × (items i ≡ 1 + items_in is))
+    → ((t : List ℕ) (i : Item) (is : Items) → Has i is → Wire lenient (under e) t i → Body w t is)
+    → OpensData Has x old new bare k None
+header_opens Has x e w z k old new code_is some h makes splits = record {
   code = e;
   code_is = code_is;
   text = h.zs ++ h.ks;
   step = h.step;
-  whole = λ b is ps n fits. (
-    list is,
-    rw (append_assoc h.zs h.ks b) (as_data e Kind.list (Compound w) _ (list is) p q (of_list h.zs h.ks b h.len_z h.len_k (h.count ∙ sym n) ps (rw h.size (wide_of w z k h.wide), rw h.count h.few))),
-    refl,
-    omega (arith, bare_items is),
-  );
+  whole = λ b is ps n fits.
+      let m = makes h.zs h.ks b is h.len_z h.len_k (h.count ∙ sym n) n ps (rw h.size (wide_of w z k h.wide), rw h.count h.few) in
+      (m.0, rw (append_assoc h.zs h.ks b) m.1, m.2, omega (arith, bare_items is, m.3));
   only = λ t rest' i is m y at.
-      let l = list_body (under_data y) w is p q m in
+      let l = splits t i is m y in
       let f = behind old new (t ++ rest') (h.zs ++ h.ks) h.step at in
       let eq = sym f.2 ∙ ap (λ (u : List ℕ). u ++ rest') l.is_all in
       let one = cut h.zs l.zs (h.ks ++ f.0) (l.ks ++ (l.body ++ rest')) (h.len_z ∙ sym l.len_z) (sym (append_assoc h.zs h.ks f.0) ∙ eq ∙ append_assoc l.zs (l.ks ++ l.body) rest' ∙ ap (λ (u : List ℕ). l.zs ++ u) (append_assoc l.ks l.body rest')) in
@@ -158,6 +171,11 @@ list_opens x e w z k old new code_is p q some h = record {
   starts = tt;
   shares = λ z. refl;
 }
+
+pub list_opens : (x : ℕ) (e : EncodingCodes) (w z k : ℕ) (old new : Reading) → code_of x ≡ Some e → (row e).kind ≡ Kind.list → (row e).category ≡ Compound w → 1 ≤ w → Header w false z k old new → OpensData HasParts x old new bare k None
+list_opens x e w z k old new code_is p q some h = header_opens HasParts x e w z k old new code_is some h
+    (λ zs ks b is lz lk n c ps f. (list is, as_data e Kind.list (Compound w) _ (list is) p q (of_list zs ks b lz lk n ps f), refl, refl))
+    (λ t i is m y. list_body (under_data y) w is p q m)
 
 -- a list0 has no parts
 list0_parts : {e : EncodingCodes} {k : Kind} {c : Category} {t : List ℕ} {i : Item} → Data lenient e k c t i → (is : Items) → c ≡ Fixed 0 → HasParts i is → (t ≡ []) × (is ≡ none)
@@ -169,7 +187,7 @@ list0_parts (of_map z k b lz lk nk h f) is q m = absurd m
 list0_parts (of_array z k m b lz lk nk g h f) is q m' = absurd m'
 list0_parts (empty_array z k b lz lk nk f) is q m = absurd m
 
-pub list0_opens : (r : Reading) → OpensData 0x45 r r bare 0 None
+pub list0_opens : (r : Reading) → OpensData HasParts 0x45 r r bare 0 None
 unfolding row code_of
 list0_opens r = record {
   code = List0;
@@ -191,15 +209,25 @@ list0_opens r = record {
 
 -- ---- what is refused
 
-list_head : (e : EncodingCodes) (w : ℕ) (s : List ℕ) (err : Error) → ((s : List ℕ) → list_data e s ≡ count_at w s) → header_at w false s ≡ Err err → list_data e s ≡ Err err
-list_head e w s err is h = is s ∙ rw h refl
+-- a header that is refused, whatever is looked at behind it
+pub header_rejected : (next : (ℕ × ℕ) × List ℕ → Parsed ℕ) (w : ℕ) (buffers : Bool) (old new : Reading) (err : Error) → Rejects buffers buffers (header_at w false) old new err → Rejects buffers buffers (λ s. header_at w false s >>= next) old new err
+header_rejected next w buffers old new err n = record { why = λ s at h. tell s (n.why s at h); steady = n.steady; device = n.device }
+  where
+    tell : (s : List ℕ) → (header_at w false s ≡ Err err) ⊎ Excused buffers buffers old new err → ((header_at w false s >>= next) ≡ Err err) ⊎ Excused buffers buffers old new err
+    tell s (inl p) = inl (rw p refl)
+    tell s (inr y) = inr y
+
+-- data behind their code that are refused
+pub data_refused : (parse : EncodingCodes → List ℕ → Parsed ℕ) (front : List ℕ → Parsed ℕ) (x : ℕ) (e : EncodingCodes) (buffers : Bool) (old new : Reading) (err : Error) → code_of x ≡ Some e → ((s : List ℕ) → parse e s ≡ front s)
+    → Rejects buffers buffers front old new err → Rejects buffers buffers (behind_byte parse x) old new err
+data_refused parse front x e buffers old new err c is n = record { why = λ s at h. tell s (n.why s at h); steady = n.steady; device = n.device }
+  where
+    tell : (s : List ℕ) → (front s ≡ Err err) ⊎ Excused buffers buffers old new err → (behind_byte parse x s ≡ Err err) ⊎ Excused buffers buffers old new err
+    tell s (inl p) = inl (behind_code parse x e s c ∙ (is s ∙ p))
+    tell s (inr y) = inr y
 
 pub list_refused : (x : ℕ) (e : EncodingCodes) (w : ℕ) (buffers : Bool) (old new : Reading) (err : Error) → code_of x ≡ Some e → ((s : List ℕ) → list_data e s ≡ count_at w s) → Rejects buffers buffers (header_at w false) old new err → Rejects buffers buffers (behind_byte list_data x) old new err
-list_refused x e w buffers old new err c is n = record { why = λ s at h. tell s (n.why s at h); steady = n.steady; device = n.device }
-  where
-    tell : (s : List ℕ) → (header_at w false s ≡ Err err) ⊎ Excused buffers buffers old new err → (behind_byte list_data x s ≡ Err err) ⊎ Excused buffers buffers old new err
-    tell s (inl p) = inl (behind_code list_data x e s c ∙ list_head e w s err is p)
-    tell s (inr y) = inr y
+list_refused x e w buffers old new err c is n = data_refused list_data (count_at w) x e buffers old new err c is (header_rejected (λ h. Ok (h.0.1, h.1)) w buffers old new err n)
 
 other_list : (e : EncodingCodes) (s : List ℕ) → (e ≡ List0 → ⊥) → (e ≡ List8 → ⊥) → (e ≡ List32 → ⊥) → list_data e s ≡ Err InvalidFormatCode
 unfolding list_data
@@ -208,7 +236,7 @@ other_list List8 s p q r = absurd (q refl)
 other_list List32 s p q r = absurd (r refl)
 other_list _ s p q r = refl
 
-byte_of : (b n : ℕ) (e f : EncodingCodes) → (code_of b ≡ Some e) ⊎ (e ≡ DescribedType) → (b ≡ n → ⊥) → (row f).byte ≡ n → (f ≡ DescribedType → ⊥) → e ≡ f → ⊥
+pub byte_of : (b n : ℕ) (e f : EncodingCodes) → (code_of b ≡ Some e) ⊎ (e ≡ DescribedType) → (b ≡ n → ⊥) → (row f).byte ≡ n → (f ≡ DescribedType → ⊥) → e ≡ f → ⊥
 byte_of b n e f (inl h) d k x q = d (sym (code_byte b e h) ∙ ap (λ (z : EncodingCodes). (row z).byte) q ∙ k)
 byte_of b n e f (inr h) d k x q = x (sym q ∙ h)
 
@@ -235,12 +263,16 @@ list_kind (of_map z k b lz lk nk h f) is m = absurd m
 list_kind (of_array z k m b lz lk nk g h f) is m' = absurd m'
 list_kind (empty_array z k b lz lk nk f) is m = absurd m
 
-counted : (w : ℕ) (t rest : List ℕ) (is : Items) → ListBody w t is → (x : ℕ × List ℕ) × (count_at w (t ++ rest) ≡ Ok x)
-counted w t rest' is l = ((number l.ks, l.body ++ rest'), rw (whole ∙ good_list w (number l.zs) (number l.ks) (l.body ++ rest') l.few l.wide) refl)
+-- the header of data that stand
+pub header_there : (w : ℕ) (t rest : List ℕ) (is : Items) → (l : Body w t is) → header_at w false (t ++ rest) ≡ Ok ((number l.zs, number l.ks), l.body ++ rest)
+header_there w t rest' is l = whole ∙ good_list w (number l.zs) (number l.ks) (l.body ++ rest') l.few l.wide
   where
     whole : header_at w false (t ++ rest') ≡ header_rule w false (number l.zs) (number l.ks) (l.body ++ rest')
     whole = ap (λ (u : List ℕ). header_at w false (u ++ rest')) l.is_all ∙ ap (header_at w false) (append_assoc l.zs (l.ks ++ l.body) rest' ∙ ap (λ (u : List ℕ). l.zs ++ u) (append_assoc l.ks l.body rest') ∙ sym (append_assoc l.zs l.ks (l.body ++ rest')))
         ∙ behind_count w (number l.zs) (number l.ks) false l.zs l.ks (l.body ++ rest') l.len_z refl l.len_k refl
+
+counted : (w : ℕ) (t rest : List ℕ) (is : Items) → Body w t is → (x : ℕ × List ℕ) × (count_at w (t ++ rest) ≡ Ok x)
+counted w t rest' is l = ((number l.ks, l.body ++ rest'), rw (header_there w t rest' is l) refl)
 
 pub list_parses : (e : EncodingCodes) (t rest : List ℕ) (i : Item) (is : Items) → HasParts i is → Wire lenient (under e) t i → (x : ℕ × List ℕ) × (list_data e (t ++ rest) ≡ Ok x)
 unfolding list_data row
@@ -251,16 +283,25 @@ list_parses e t rest' i is m w = tell (list_codes e (list_kind (under_data w) is
     tell (inr (inl h)) = let v : Wire lenient (under List8) t i = rw h at w in let p = counted 1 t rest' is (list_body (under_data v) 1 is refl refl m) in (p.0, rw h p.1)
     tell (inr (inr h)) = let v : Wire lenient (under List32) t i = rw h at w in let p = counted 4 t rest' is (list_body (under_data v) 4 is refl refl m) in (p.0, rw h p.1)
 
--- what was consumed of a list parses so
-pub list_exact : (x : ℕ) (e : EncodingCodes) (w z k : ℕ) (old new : Reading) → code_of x ≡ Some e → ((s : List ℕ) → list_data e s ≡ count_at w s) → Header w false z k old new → ParsesAs (behind_byte list_data x) old new k
-list_exact x e w z k old new c is h = record {
+-- a header of a list or a map that was consumed is good
+pub header_good : (w z k : ℕ) (old new : Reading) → (h : Header w false z k old new) → (r : List ℕ) → header_at w false ((h.zs ++ h.ks) ++ r) ≡ Ok ((z, k), r)
+header_good w z k old new h r = behind_count w z k false h.zs h.ks r h.len_z h.size h.len_k h.count ∙ good_list w z k r h.few (wide_of w z k h.wide)
+
+-- the header that was consumed
+pub header_exact : (parse : EncodingCodes → List ℕ → Parsed ℕ) (next : (ℕ × ℕ) × List ℕ → Parsed ℕ) (x : ℕ) (e : EncodingCodes) (w z k : ℕ) (old new : Reading) → code_of x ≡ Some e → ((s : List ℕ) → parse e s ≡ (header_at w false s >>= next)) → Header w false z k old new
+    → ((r : List ℕ) → next ((z, k), r) ≡ Ok (k, r)) → ParsesAs (behind_byte parse x) old new k
+header_exact parse next x e w z k old new c is h good = record {
   exact = λ s at.
       let f = behind old new s (h.zs ++ h.ks) h.step at in
-      (f.0, f.1, behind_code list_data x e s c ∙ is s ∙ ap (count_at w) f.2 ∙ here f.0);
+      (f.0, f.1, behind_code parse x e s c ∙ is s ∙ ap (λ (u : List ℕ). header_at w false u >>= next) f.2 ∙ here f.0);
 }
   where
-    here : (r : List ℕ) → count_at w ((h.zs ++ h.ks) ++ r) ≡ Ok (k, r)
-    here r = rw (behind_count w z k false h.zs h.ks r h.len_z h.size h.len_k h.count ∙ good_list w z k r h.few (wide_of w z k h.wide)) refl
+    here : (r : List ℕ) → (header_at w false ((h.zs ++ h.ks) ++ r) >>= next) ≡ Ok (k, r)
+    here r = rw (header_good w z k old new h r) (good r)
+
+-- what was consumed of a list parses so
+pub list_exact : (x : ℕ) (e : EncodingCodes) (w z k : ℕ) (old new : Reading) → code_of x ≡ Some e → ((s : List ℕ) → list_data e s ≡ count_at w s) → Header w false z k old new → ParsesAs (behind_byte list_data x) old new k
+list_exact x e w z k old new c is h = header_exact list_data (λ h. Ok (h.0.1, h.1)) x e w z k old new c is h (λ r. refl)
 
 pub list0_exact : (r : Reading) → ParsesAs (behind_byte list_data 0x45) r r 0
 unfolding row code_of list_data

@@ -10,10 +10,10 @@ use Rattle.amqp_base.specs.Fields.{all_fields}
 use Rattle.amqp_de.specs.Decoding.{Decoding, stands_under}
 use Rattle.amqp_de.specs.Law.{Excused}
 use Rattle.amqp_de.specs.Parse.{Parsed, ◌>>=◌, byte_under, any_code, with_rest, behind_byte, item_at, list_data, of_length, tuple_data}
-use Rattle.amqp_de.specs.Access.{Listing, Opens, OpensExactly, OpensNot}
+use Rattle.amqp_de.specs.Access.{Listing, HasParts, Opens, OpensExactly, OpensNot}
 use Rattle.amqp_de.specs.ReadParts.{NoTuple, RefusesTuple}
-use Rattle.amqp_de.proofs.Sequence.{right_of}
-use Rattle.amqp_de.proofs.ReadParts.{fields_unopened, progress_start, not_taken, missed_more}
+use Rattle.amqp_de.proofs.PartsRead.{right_of, missed_more}
+use Rattle.amqp_de.proofs.ReadParts.{fields_unopened, progress_start, not_taken}
 
 count_fields : (fields : List (Item → Bool)) (is : Items) → IsTrue (all_fields fields is) → count is ≡ length fields
 count_fields [] none t = refl
@@ -48,7 +48,7 @@ tuple_exactly len old l o h = record {
 }
 
 -- no list was opened
-pub tuple_unopened : (len : ℕ) (buffers : Bool) (old last : Decoding) (e : Error) → OpensNot list_data buffers buffers old last e → NoTuple len buffers old last e
+pub tuple_unopened : (len : ℕ) (buffers : Bool) (old last : Decoding) (e : Error) → OpensNot HasParts list_data buffers buffers old last e → NoTuple len buffers old last e
 tuple_unopened len buffers old last e o = record {
   unanswered = o.unanswered;
   rejects = λ a. let r = o.rejects a in record { why = λ s at h. tell s (r.why s at h); steady = r.steady; device = r.device };
@@ -61,7 +61,7 @@ tuple_unopened len buffers old last e o = record {
     tell s (inr y) = inr y
 
 -- it has another number of parts
-pub other_tuple : (len : ℕ) (buffers : Bool) (old : Decoding) (l : Listing) → Opens old l → OpensExactly list_data old l → (l.left ≡ len → ⊥) → NoTuple len buffers old l.state SequenceLengthMismatch
+pub other_tuple : (len : ℕ) (buffers : Bool) (old : Decoding) (l : Listing) → Opens HasParts old l → OpensExactly list_data old l → (l.left ≡ len → ⊥) → NoTuple len buffers old l.state SequenceLengthMismatch
 other_tuple len buffers old l o x h = record {
   unanswered = λ c. absurd cc (c, o.answered);
   rejects = λ _. record {

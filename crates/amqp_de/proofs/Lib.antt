@@ -9,9 +9,12 @@ pub mod Sized
 pub mod ByteNumbers
 pub mod OnlyCode
 pub mod Headers
+pub mod MapHeaders
 pub mod Opening
+pub mod PartsRead
 pub mod Sequence
 pub mod ReadParts
+pub mod Pairs
 pub mod JustSoMany
 pub mod Looking
 pub mod LookedFirst

@@ -1,4 +1,4 @@
--- Opening a list.
+-- Opening an item with parts.
 use Rattle.std.proofs.Common.{◌≡◌, ℕ, ◌+◌, ◌*◌, ◌<◌, ◌≤◌, min, Bool, true, List, ◌++◌, length, Option, Some, Ok, Err, refl, sym, subst, ◌∙◌, arith, inl, inr, ◌⊎◌, append_assoc, IsTrue}
 use Rattle.amqp_base.specs.declared.error.Error.{Error}
 use Rattle.amqp_base.specs.declared.format_code.EncodingCodes.{EncodingCodes}
@@ -8,20 +8,26 @@ use Rattle.amqp_base.specs.Refusals.{IsDevice}
 use Rattle.amqp_read.specs.Reading.{Reading}
 use Rattle.amqp_de.specs.Decoding.{Decoding, stands_under}
 use Rattle.amqp_de.specs.Law.{Excused, free}
-use Rattle.amqp_de.specs.Parse.{Parsed, byte_under, behind_byte, item_at, list_data}
+use Rattle.amqp_de.specs.Parse.{Parsed, byte_under, behind_byte, item_at}
 use Rattle.amqp_de.specs.Steps.{Begins, BeginsNot, IsDescribed, Rejects, ParsesAs}
-use Rattle.amqp_de.specs.Access.{Listing, HasParts, shared_by, cost, OpensData, Opens, OpensExactly, OpensNot}
+use Rattle.amqp_de.specs.Access.{Listing, HasParts, HasPairs, shared_by, cost, OpensData, Opens, OpensExactly, OpensNot}
 use Rattle.amqp_de.proofs.Readings.{steady_then, takes_then, excused_before}
 use Rattle.amqp_de.proofs.Answered.{byte_stands, not_refused}
 use Rattle.amqp_de.proofs.Data.{behind_code}
-use Rattle.amqp_de.proofs.Headers.{list_parses}
 
-has_bare : (i : Item) (is : Items) → HasParts i is → IsDescribed i → ⊥
-has_bare (list is) js p d = d
-has_bare (array is) js p d = p
-has_bare (scalar v) js p d = p
-has_bare (map ps) js p d = p
-has_bare (described d v) js p q = p
+pub list_plain : (i : Item) (is : Items) → HasParts i is → IsDescribed i → ⊥
+list_plain (list is) js p d = d
+list_plain (array is) js p d = p
+list_plain (scalar v) js p d = p
+list_plain (map ps) js p d = p
+list_plain (described d v) js p q = p
+
+pub map_plain : (i : Item) (is : Items) → HasPairs i is → IsDescribed i → ⊥
+map_plain (list is) js p d = p
+map_plain (array is) js p d = p
+map_plain (scalar v) js p d = p
+map_plain (map ps) js p d = d
+map_plain (described d v) js p q = p
 
 nothing_left : (c : Constructor) (n : ℕ) → n ≡ 0 → cost c n ≡ 0
 nothing_left bare n h = refl
@@ -38,15 +44,15 @@ listing_of mid r c begun left limit = record {
   limit = limit;
 }
 
-pub opens : (old mid : Decoding) (r : Reading) (x : ℕ) (c : Constructor) (begun left : ℕ) (limit : Option ℕ) → begun ≡ mid.begun + shared_by c → IsTrue old.answers → Begins old mid x → OpensData x mid.reading r c left limit → Opens old (listing_of mid r c begun left limit)
-opens old mid r x c begun left limit n-is a b d = record {
+pub opens : (Has : Item → Items → Type 0) → ((i : Item) (is : Items) → Has i is → IsDescribed i → ⊥) → (old mid : Decoding) (r : Reading) (x : ℕ) (c : Constructor) (begun left : ℕ) (limit : Option ℕ) → begun ≡ mid.begun + shared_by c → IsTrue old.answers → Begins old mid x → OpensData Has x mid.reading r c left limit → Opens Has old (listing_of mid r c begun left limit)
+opens Has plain old mid r x c begun left limit n-is a b d = record {
   text = b.text ++ d.text;
   step = takes_then old.reading mid.reading r b.text d.text b.step d.step;
   whole = λ t is p n fits.
       let w = d.whole t is p n fits in
       (w.0, rw (append_assoc b.text d.text t) (b.whole d.code (d.text ++ t) w.0 d.code_is w.1), w.2, rw (b.counts d.code w.0 d.code_is) (omega (arith, n-is, b.begun, w.3)));
   only = λ t rest i is p w at.
-      let o = b.only t rest i (has_bare i is p) w at in
+      let o = b.only t rest i (plain i is p) w at in
       let same : o.0 ≡ d.code = some_is (sym o.2 ∙ d.code_is) in
       d.only o.1 rest i is p (subst (λ (z : EncodingCodes). Wire lenient (under z) o.1 i) same o.3) o.4;
   answered = a;
@@ -66,33 +72,33 @@ opens old mid r x c begun left limit n-is a b d = record {
     spent (inl z) = omega (arith, n-is, b.begun, b.room, b.step.taken, d.step.taken, d.shares z, nothing_left c left z, z)
     spent (inr p) = omega (arith, n-is, b.begun, b.room, b.step.taken, d.step.taken, p)
 
-parsed_list : (c : Constructor) (s : List ℕ) (b : ℕ) (rest : List ℕ) (z : Parsed ℕ) → byte_under c s ≡ Ok (b, rest) → behind_byte list_data b rest ≡ z → item_at list_data c s ≡ z
-parsed_list c s b rest z p q = rw p q
+parsed : (parse : EncodingCodes → List ℕ → Parsed ℕ) (c : Constructor) (s : List ℕ) (b : ℕ) (rest : List ℕ) (z : Parsed ℕ) → byte_under c s ≡ Ok (b, rest) → behind_byte parse b rest ≡ z → item_at parse c s ≡ z
+parsed parse c s b rest z p q = rw p q
 
-no_list : (c : Constructor) (s : List ℕ) (e : Error) → byte_under c s ≡ Err e → item_at list_data c s ≡ Err e
-no_list c s e p = rw p refl
+no_byte : (parse : EncodingCodes → List ℕ → Parsed ℕ) (c : Constructor) (s : List ℕ) (e : Error) → byte_under c s ≡ Err e → item_at parse c s ≡ Err e
+no_byte parse c s e p = rw p refl
 
-pub opens_exactly : (old mid : Decoding) (r : Reading) (x : ℕ) (c : Constructor) (begun left : ℕ) (limit : Option ℕ) → Begins old mid x → ParsesAs (behind_byte list_data x) mid.reading r left → OpensExactly list_data old (listing_of mid r c begun left limit)
-opens_exactly old mid r x c begun left limit b d = record {
+pub opens_exactly : (parse : EncodingCodes → List ℕ → Parsed ℕ) (old mid : Decoding) (r : Reading) (x : ℕ) (c : Constructor) (begun left : ℕ) (limit : Option ℕ) → Begins old mid x → ParsesAs (behind_byte parse x) mid.reading r left → OpensExactly parse old (listing_of mid r c begun left limit)
+opens_exactly parse old mid r x c begun left limit b d = record {
   exact = λ s at.
       let o = b.exact s at in
       let p = d.exact o.0 o.1 in
-      (p.0, p.1, parsed_list (stands_under old) s x o.0 _ o.2 p.2);
+      (p.0, p.1, parsed parse (stands_under old) s x o.0 _ o.2 p.2);
 }
 
-refused_list : {buffers : Bool} (old new : Decoding) (e : Error) → BeginsNot buffers old new e → Rejects buffers buffers (item_at list_data (stands_under old)) old.reading new.reading e
-refused_list {buffers = buffers} old new e n = record { why = λ s at h. tell s (n.rejects.why s at h); steady = n.rejects.steady; device = n.rejects.device }
+refused_byte : {buffers : Bool} (parse : EncodingCodes → List ℕ → Parsed ℕ) (old new : Decoding) (e : Error) → BeginsNot buffers old new e → Rejects buffers buffers (item_at parse (stands_under old)) old.reading new.reading e
+refused_byte {buffers = buffers} parse old new e n = record { why = λ s at h. tell s (n.rejects.why s at h); steady = n.rejects.steady; device = n.rejects.device }
   where
-    tell : (s : List ℕ) → (byte_under (stands_under old) s ≡ Err e) ⊎ Excused buffers buffers old.reading new.reading e → (item_at list_data (stands_under old) s ≡ Err e) ⊎ Excused buffers buffers old.reading new.reading e
-    tell s (inl p) = inl (no_list (stands_under old) s e p)
+    tell : (s : List ℕ) → (byte_under (stands_under old) s ≡ Err e) ⊎ Excused buffers buffers old.reading new.reading e → (item_at parse (stands_under old) s ≡ Err e) ⊎ Excused buffers buffers old.reading new.reading e
+    tell s (inl p) = inl (no_byte parse (stands_under old) s e p)
     tell s (inr y) = inr y
 
-pub opens_no_item : (buffers : Bool) (old new : Decoding) (e : Error) → IsTrue old.answers → BeginsNot buffers old new e → OpensNot list_data buffers buffers old new e
-opens_no_item buffers old new e a n = record {
+pub opens_no_item : (Has : Item → Items → Type 0) → ((i : Item) (is : Items) → Has i is → IsDescribed i → ⊥) → (parse : EncodingCodes → List ℕ → Parsed ℕ) (buffers : Bool) (old new : Decoding) (e : Error) → IsTrue old.answers → BeginsNot buffers old new e → OpensNot Has parse buffers buffers old new e
+opens_no_item Has plain parse buffers old new e a n = record {
   unanswered = λ c. absurd cc (a, c);
-  rejects = λ _. refused_list old new e n;
+  rejects = λ _. refused_byte parse old new e n;
   why = λ t rest i is p w at h _.
-      let s = byte_stands (stands_under old) t rest i (has_bare i is p) w in
+      let s = byte_stands (stands_under old) t rest i (plain i is p) w in
       not_refused old.reading new.reading _ s.0 e s.1 (n.rejects.why (t ++ rest) at h);
   steady = n.rejects.steady;
   device = n.rejects.device;
@@ -104,8 +110,10 @@ opens_no_item buffers old new e a n = record {
 abbrev pub refused_data : Decoding → Reading → Decoding
 refused_data mid r = record { reading = r; answers = mid.answers; inherited = mid.inherited; described = mid.described; begun = mid.begun }
 
-pub opens_no_list : (buffers : Bool) (old mid : Decoding) (r : Reading) (x : ℕ) (e : Error) → IsTrue old.answers → Begins old mid x → Rejects buffers buffers (behind_byte list_data x) mid.reading r e → OpensNot list_data buffers buffers old (refused_data mid r) e
-opens_no_list buffers old mid r x e a b n = record {
+pub opens_no_data : (Has : Item → Items → Type 0) → ((i : Item) (is : Items) → Has i is → IsDescribed i → ⊥) → (parse : EncodingCodes → List ℕ → Parsed ℕ)
+    → ((e : EncodingCodes) (t rest : List ℕ) (i : Item) (is : Items) → Has i is → Wire lenient (under e) t i → (x : ℕ × List ℕ) × (parse e (t ++ rest) ≡ Ok x))
+    → (buffers : Bool) (old mid : Decoding) (r : Reading) (x : ℕ) (e : Error) → IsTrue old.answers → Begins old mid x → Rejects buffers buffers (behind_byte parse x) mid.reading r e → OpensNot Has parse buffers buffers old (refused_data mid r) e
+opens_no_data Has plain parse parses buffers old mid r x e a b n = record {
   unanswered = λ c. absurd cc (a, c);
   rejects = λ _. record {
     why = λ s at h. let o = b.exact s at in tell s o.0 o.2 (n.why o.0 o.1 (b.step.steady.honest ∙ h));
@@ -113,9 +121,9 @@ opens_no_list buffers old mid r x e a b n = record {
     device = device;
   };
   why = λ t rest i is p w at h _.
-      let o = b.only t rest i (has_bare i is p) w at in
-      let q = list_parses o.0 o.1 rest i is p o.3 in
-      excused_before old.reading mid.reading r b.text e b.step (not_refused mid.reading r _ q.0 e (behind_code list_data x o.0 (o.1 ++ rest) o.2 ∙ q.1) (n.why (o.1 ++ rest) o.4 (b.step.steady.honest ∙ h)));
+      let o = b.only t rest i (plain i is p) w at in
+      let q = parses o.0 o.1 rest i is p o.3 in
+      excused_before old.reading mid.reading r b.text e b.step (not_refused mid.reading r _ q.0 e (behind_code parse x o.0 (o.1 ++ rest) o.2 ∙ q.1) (n.why (o.1 ++ rest) o.4 (b.step.steady.honest ∙ h)));
   steady = steady_then old.reading mid.reading r b.step.steady n.steady;
   device = device;
   closed = b.closed;
@@ -125,6 +133,6 @@ opens_no_list buffers old mid r x e a b n = record {
     device : IsDevice e → old.reading.faults < r.faults
     device d = let f = b.step.steady.faults in let g = n.device d in omega (arith, f, g)
 
-    tell : (s rest : List ℕ) → byte_under (stands_under old) s ≡ Ok (x, rest) → (behind_byte list_data x rest ≡ Err e) ⊎ Excused buffers buffers mid.reading r e → (item_at list_data (stands_under old) s ≡ Err e) ⊎ Excused buffers buffers old.reading r e
-    tell s rest o (inl p) = inl (parsed_list (stands_under old) s x rest (Err e) o p)
+    tell : (s rest : List ℕ) → byte_under (stands_under old) s ≡ Ok (x, rest) → (behind_byte parse x rest ≡ Err e) ⊎ Excused buffers buffers mid.reading r e → (item_at parse (stands_under old) s ≡ Err e) ⊎ Excused buffers buffers old.reading r e
+    tell s rest o (inl p) = inl (parsed parse (stands_under old) s x rest (Err e) o p)
     tell s rest o (inr y) = inr (excused_before old.reading mid.reading r b.text e b.step y)

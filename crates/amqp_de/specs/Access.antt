@@ -1,7 +1,7 @@
 -- An access to the parts of an item, and what its calls give.
 use Rattle.std.specs.Prelude.{◌≡◌, ℕ, suc, ◌+◌, ◌*◌, ◌^◌, ◌≤◌, ◌<◌, min, Bool, true, false, List, ◌++◌, length, ◌⊎◌, IsTrue, Option, Some, None, Result, Ok, Err}
 use Rattle.amqp_base.specs.declared.format_code.EncodingCodes.{EncodingCodes}
-use Rattle.amqp_base.specs.Item.{Item, scalar, list, map, array, described, Items, none, more, count, items}
+use Rattle.amqp_base.specs.Item.{Item, scalar, list, map, array, described, Items, none, more, count, in_turn, items}
 use Rattle.amqp_base.specs.Value.{number}
 use Rattle.amqp_base.specs.Codes.{code_of}
 use Rattle.amqp_base.specs.Wire.{Constructor, bare, under, under_pair, Wire, lenient, Parts}
@@ -40,6 +40,14 @@ HasParts (scalar v) js = ⊥
 HasParts (map ps) js = ⊥
 HasParts (described d v) js = ⊥
 
+-- the item is a map of these keys and values, in turn
+abbrev pub HasPairs : Item → Items → Type 0
+HasPairs (map ps) js = in_turn ps ≡ js
+HasPairs (list is) js = ⊥
+HasPairs (array is) js = ⊥
+HasPairs (scalar v) js = ⊥
+HasPairs (described d v) js = ⊥
+
 -- how many items the parts are, under their constructor
 abbrev pub items_of_all : Constructor → Items → ℕ
 items_of_all c none = 0
@@ -57,17 +65,17 @@ cost bare n = 0
 cost (under e) n = n
 cost (under_pair d e) n = 2 * n
 
--- data of a code were begun, whose parts follow
-pub record OpensData (byte : ℕ) (old new : Reading) (c : Constructor) (left : ℕ) (limit : Option ℕ) : Type 0 where
+-- data of a code were begun, whose parts follow; `Has` says which parts an item has
+pub record OpensData (Has : Item → Items → Type 0) (byte : ℕ) (old new : Reading) (c : Constructor) (left : ℕ) (limit : Option ℕ) : Type 0 where
   pub code : EncodingCodes
   pub code_is : code_of byte ≡ Some code
   pub text : List ℕ
   pub step : Takes old new text
   -- the parts behind it make data of the code
   pub whole : (b : List ℕ) (is : Items) → Parts lenient c b is → count is ≡ left → Within limit (new.taken + length b)
-      → (i : Item) × Wire lenient (under code) (text ++ b) i × HasParts i is × (items i ≡ 1 + (shared_by c + items_of_all c is))
+      → (i : Item) × Wire lenient (under code) (text ++ b) i × Has i is × (items i ≡ 1 + (shared_by c + items_of_all c is))
   -- and data of the code at the front have their parts behind it
-  pub only : (t rest : List ℕ) (i : Item) (is : Items) → HasParts i is → Wire lenient (under code) t i → old.to_come ≡ Some (t ++ rest)
+  pub only : (t rest : List ℕ) (i : Item) (is : Items) → Has i is → Wire lenient (under code) t i → old.to_come ≡ Some (t ++ rest)
       → (b : List ℕ) × Parts lenient c b is × (count is ≡ left) × Within limit (new.taken + length b) × (new.to_come ≡ Some (b ++ rest))
   -- its bytes pay for parts that have none
   pub paid : (left ≡ 0) ⊎ (shared_by c + cost c left + 3 ≤ 16384 * length text)
@@ -75,12 +83,12 @@ pub record OpensData (byte : ℕ) (old new : Reading) (c : Constructor) (left : 
   pub shares : (left ≡ 0) → shared_by c ≡ 0
 
 -- an item with parts was begun
-pub record Opens (old : Decoding) (l : Listing) : Type 0 where
+pub record Opens (Has : Item → Items → Type 0) (old : Decoding) (l : Listing) : Type 0 where
   pub text : List ℕ
   pub step : Takes old.reading l.state.reading text
   pub whole : (b : List ℕ) (is : Items) → Parts lenient l.state.inherited b is → count is ≡ l.left → Within l.limit (l.state.reading.taken + length b)
-      → (i : Item) × Wire lenient (stands_under old) (text ++ b) i × HasParts i is × (old.begun + items_under (stands_under old) i ≡ l.state.begun + items_of_all l.state.inherited is)
-  pub only : (t rest : List ℕ) (i : Item) (is : Items) → HasParts i is → Wire lenient (stands_under old) t i → old.reading.to_come ≡ Some (t ++ rest)
+      → (i : Item) × Wire lenient (stands_under old) (text ++ b) i × Has i is × (old.begun + items_under (stands_under old) i ≡ l.state.begun + items_of_all l.state.inherited is)
+  pub only : (t rest : List ℕ) (i : Item) (is : Items) → Has i is → Wire lenient (stands_under old) t i → old.reading.to_come ≡ Some (t ++ rest)
       → (b : List ℕ) × Parts lenient l.state.inherited b is × (count is ≡ l.left) × Within l.limit (l.state.reading.taken + length b) × (l.state.reading.to_come ≡ Some (b ++ rest))
   pub answered : IsTrue old.answers
   pub outer : l.outer ≡ old.inherited
@@ -95,11 +103,11 @@ pub record OpensExactly (parse : EncodingCodes → List ℕ → Parsed ℕ) (old
   pub exact : (s : List ℕ) → old.reading.to_come ≡ Some s → (rest : List ℕ) × (l.state.reading.to_come ≡ Some rest) × (item_at parse (stands_under old) s ≡ Ok (l.left, rest))
 
 -- no item with parts was begun
-pub record OpensNot (parse : EncodingCodes → List ℕ → Parsed ℕ) (grows buffers : Bool) (old new : Decoding) (err : Error) : Type 0 where
+pub record OpensNot (Has : Item → Items → Type 0) (parse : EncodingCodes → List ℕ → Parsed ℕ) (grows buffers : Bool) (old new : Decoding) (err : Error) : Type 0 where
   -- a call that isn't answered changes nothing
   pub unanswered : old.answers ≡ false → (err ≡ InvalidValue) × (new ≡ old)
   pub rejects : IsTrue old.answers → Rejects grows buffers (item_at parse (stands_under old)) old.reading new.reading err
-  pub why : (t rest : List ℕ) (i : Item) (is : Items) → HasParts i is → Wire lenient (stands_under old) t i → old.reading.to_come ≡ Some (t ++ rest) → IsTrue old.reading.honest → IsTrue old.answers → Excused grows buffers old.reading new.reading err
+  pub why : (t rest : List ℕ) (i : Item) (is : Items) → Has i is → Wire lenient (stands_under old) t i → old.reading.to_come ≡ Some (t ++ rest) → IsTrue old.reading.honest → IsTrue old.answers → Excused grows buffers old.reading new.reading err
   pub steady : Steady old.reading new.reading
   pub device : IsDevice err → old.reading.faults < new.reading.faults
   pub closed : new.answers ≡ false

@@ -6,6 +6,7 @@ pub mod Places
 pub mod Access
 pub mod Seq
 pub mod ReadParts
+pub mod ReadPairs
 pub mod Look
 pub mod OneCode
 pub mod Decimals

@@ -1,11 +1,11 @@
 -- What stands at the front of the bytes, or the first rule that they break.
-use Rattle.std.specs.Prelude.{ℕ, zero, suc, ◌==◌, Bool, true, false, ◌&&◌, nat_lt, if◌then◌else◌, List, [], ◌∷◌, length, take, drop, Option, Some, None, Result, Ok, Err}
+use Rattle.std.specs.Prelude.{ℕ, zero, suc, ◌==◌, ◌%◌, Bool, true, false, ◌&&◌, nat_lt, if◌then◌else◌, List, [], ◌∷◌, length, take, drop, Option, Some, None, Result, Ok, Err}
 use Rattle.std.specs.Str.{is_utf8}
 use Rattle.std.specs.declared.io.ErrorKind.TheVariants.{UnexpectedEof}
 use Rattle.amqp_base.specs.declared.error.Error.{Error}
 use Rattle.amqp_base.specs.declared.error.Error.TheVariants.{Io, InvalidFormatCode, InvalidValue, InvalidUtf8Encoding, SequenceLengthMismatch, InvalidLength}
 use Rattle.amqp_base.specs.declared.format_code.EncodingCodes.{EncodingCodes}
-use Rattle.amqp_base.specs.declared.format_code.EncodingCodes.TheVariants.{DescribedType, List0, List8, List32}
+use Rattle.amqp_base.specs.declared.format_code.EncodingCodes.TheVariants.{DescribedType, List0, List8, List32, Map8, Map32}
 use Rattle.amqp_base.specs.declared.format_code.Category.{Category}
 use Rattle.amqp_base.specs.declared.format_code.Category.TheVariants.{Fixed, Variable, Compound, Array}
 use Rattle.amqp_base.specs.Codes.{Kind, row, code_of}
@@ -135,3 +135,16 @@ of_length len n s = if n == len then Ok (n, s) else Err SequenceLengthMismatch
 -- the same of a list that has just so many elements
 unfoldable pub tuple_data : ℕ → EncodingCodes → List ℕ → Parsed ℕ
 tuple_data len e s = list_data e s >>= λ n. of_length len n.0 n.1
+
+-- keys and values in turn are even in number
+abbrev pub of_pairs : ℕ → List ℕ → Parsed ℕ
+of_pairs n s = if n % 2 == 1 then Err InvalidLength else Ok (n, s)
+
+abbrev pub pairs_at : ℕ → List ℕ → Parsed ℕ
+pairs_at w s = header_at w false s >>= λ h. of_pairs h.0.1 h.1
+
+-- the data of a map up to its first key: so many keys and values together
+unfoldable pub map_data : EncodingCodes → List ℕ → Parsed ℕ
+map_data Map8 s = pairs_at 1 s
+map_data Map32 s = pairs_at 4 s
+map_data _ s = Err InvalidFormatCode

@@ -11,7 +11,7 @@ use Rattle.amqp_de.specs.Law.{Missed}
 use Rattle.amqp_de.specs.Parse.{item_at, list_data, tuple_data}
 use Rattle.amqp_de.specs.Steps.{Rejects}
 use Rattle.amqp_de.specs.Seq.{listing, seq_listing}
-use Rattle.amqp_de.specs.Access.{Listing, Within, Opens, OpensNot, items_of_all, cost}
+use Rattle.amqp_de.specs.Access.{Listing, Within, HasParts, Opens, OpensNot, items_of_all, cost}
 use Rattle.amqp_de.specs.declared.list.ListAccess.{ListAccess}
 use Rattle.amqp_de.specs.declared.list.Beyond.{Beyond}
 use Rattle.amqp_de.specs.declared.seq.SeqAccess.{SeqAccess}
@@ -33,15 +33,12 @@ open_list a = listing a
 unfoldable pub open_seq : {X : Type 0} → SeqAccess X → Listing
 open_seq a = seq_listing a
 
--- Since `old` an item with parts was opened, and these parts of it were read. A list of the fields `all` has the fields
--- `rest` behind them, and what is left of the parts that stood at the front stands at the front now.
-pub record Progress (old : Decoding) (all rest : List (Item → Bool)) (parts : Items) (now : Listing) : Type 0 where
-  pub from : Listing
-  pub opened : Opens old from
+-- Since an access was `from`, these parts were read. What is left of the parts that stood at the front stands at the front
+-- now.
+pub record PartsRead (from : Listing) (parts : Items) (now : Listing) : Type 0 where
   pub text : List ℕ
   pub step : Takes from.state.reading now.state.reading text
   pub spelled : Parts lenient from.state.inherited text parts
-  pub fields : (js : Items) → all_fields all (joined parts js) ≡ all_fields rest js
   pub left : count parts + now.left ≡ from.left
   pub begun : now.state.begun ≡ from.state.begun + items_of_all from.state.inherited parts
   pub inherited : now.state.inherited ≡ from.state.inherited
@@ -53,6 +50,14 @@ pub record Progress (old : Decoding) (all rest : List (Item → Bool)) (parts : 
   pub spent : now.state.begun + 16384 * from.state.reading.taken + cost from.state.inherited now.left + min 2 (2 * now.left) ≤ from.state.begun + 16384 * now.state.reading.taken + cost from.state.inherited from.left + min 2 (2 * from.left)
   pub tracks : (is : Items) (x behind : List ℕ) → Parts lenient from.state.inherited x is → count is ≡ from.left → from.state.reading.to_come ≡ Some (x ++ behind)
       → (js : Items) × (y : List ℕ) × Parts lenient from.state.inherited y js × (is ≡ joined parts js) × (count js ≡ now.left) × (now.state.reading.to_come ≡ Some (y ++ behind)) × (now.state.reading.taken + length y ≡ from.state.reading.taken + length x)
+
+-- Since `old` a list was opened, and these parts of it were read. A list of the fields `all` has the fields `rest` behind
+-- them.
+pub record Progress (old : Decoding) (all rest : List (Item → Bool)) (parts : Items) (now : Listing) : Type 0 where
+  pub from : Listing
+  pub opened : Opens HasParts old from
+  pub reads : PartsRead from parts now
+  pub fields : (js : Items) → all_fields all (joined parts js) ≡ all_fields rest js
 
 -- Of an item with the fields `all`, which was opened since `old`, all but the fields `rest` were read.
 pub record HasRead (old : Decoding) (all rest : List (Item → Bool)) (now : Listing) : Type 0 where
@@ -67,7 +72,7 @@ pub record MoreRead (old : Decoding) (all rest : List (Item → Bool)) (parts : 
 
 -- no item with parts was opened: so a list of any fields is missed
 pub record RefusesParts (buffers : Bool) (old last : Decoding) (e : Error) : Type 0 where
-  pub not_opened : OpensNot list_data true buffers old last e
+  pub not_opened : OpensNot HasParts list_data true buffers old last e
   pub missed : (fields : List (Item → Bool)) → Missed (takes_fields fields) true buffers old last e
 
 -- no list of just so many parts was opened: so one of as many fields is missed, and want of memory is no excuse

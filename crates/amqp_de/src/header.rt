@@ -1,9 +1,9 @@
 //! Sizes and counts in front of a body: the one place where they are read.
 
-ghost use Rattle.std.specs.Prelude.{◌≡◌, ◌⊎◌, ℕ, ◌∷◌, Bool, true, false, None, IfOk, IfErr};
+ghost use Rattle.std.specs.Prelude.{◌≡◌, ◌⊎◌, ◌%◌, ℕ, ◌∷◌, Bool, true, false, None, IfOk, IfErr};
 ghost use Rattle.amqp_base.specs.Wire.{bare};
-ghost use Rattle.amqp_de.specs.Access.{Header, OpensData};
-ghost use Rattle.amqp_de.specs.Parse.{header_at, behind_byte, list_data, count_at};
+ghost use Rattle.amqp_de.specs.Access.{Header, HasParts, HasPairs, OpensData};
+ghost use Rattle.amqp_de.specs.Parse.{header_at, behind_byte, list_data, count_at, pairs_at, map_data};
 ghost use Rattle.amqp_de.specs.Steps.{Rejects, ParsesAs};
 
 use crate::payloads::number;
@@ -55,7 +55,7 @@ pub(crate) fn header<R: Read>(
 /// The data of a list up to its elements: how many there are.
 #[inline(always)]
 pub(crate) fn list_count<R: Read>(reader: &mut R, code: u8) -> Result<u32, Error>
-    ensures ok { IfOk result (λ n. OpensData code (R.reading reader.old) (R.reading reader.new) bare n None) }
+    ensures ok { IfOk result (λ n. OpensData HasParts code (R.reading reader.old) (R.reading reader.new) bare n None) }
     ensures exact { IfOk result (λ n. ParsesAs (behind_byte list_data code) (R.reading reader.old) (R.reading reader.new) n) }
     ensures err { IfErr result (λ e. Rejects R.buffers R.buffers (behind_byte list_data code) (R.reading reader.old) (R.reading reader.new) e) }
 {
@@ -66,6 +66,46 @@ pub(crate) fn list_count<R: Read>(reader: &mut R, code: u8) -> Result<u32, Error
             Err(e) => Err(e),
         },
         0xd0 => match header(reader, 4, false) {
+            Ok((_, count)) => Ok(count),
+            Err(e) => Err(e),
+        },
+        _ => Err(Error::InvalidFormatCode),
+    }
+}
+
+/// The size and the count of a map, which counts keys and values.
+#[inline(always)]
+fn map_header<R: Read>(reader: &mut R, width: u32) -> Result<(u32, u32), Error>
+    requires { (width ≡ 1) ⊎ (width ≡ 4) }
+    ensures ok { IfOk result (λ h. Header width false h.0 h.1 (R.reading reader.old) (R.reading reader.new)) }
+    ensures even { IfOk result (λ h. h.1 % 2 ≡ 0) }
+    ensures err { IfErr result (λ e. Rejects R.buffers R.buffers (pairs_at width) (R.reading reader.old) (R.reading reader.new) e) }
+{
+    match header(reader, width, false) {
+        Ok((size, count)) => {
+            if count % 2 == 1 {
+                return Err(Error::InvalidLength);
+            }
+            Ok((size, count))
+        }
+        Err(e) => Err(e),
+    }
+}
+
+/// The data of a map up to its first key: how many keys and values there are.
+#[inline(always)]
+pub(crate) fn map_count<R: Read>(reader: &mut R, code: u8) -> Result<u32, Error>
+    ensures ok { IfOk result (λ n. OpensData HasPairs code (R.reading reader.old) (R.reading reader.new) bare n None) }
+    ensures even { IfOk result (λ n. n % 2 ≡ 0) }
+    ensures exact { IfOk result (λ n. ParsesAs (behind_byte map_data code) (R.reading reader.old) (R.reading reader.new) n) }
+    ensures err { IfErr result (λ e. Rejects R.buffers R.buffers (behind_byte map_data code) (R.reading reader.old) (R.reading reader.new) e) }
+{
+    match code {
+        0xc1 => match map_header(reader, 1) {
+            Ok((_, count)) => Ok(count),
+            Err(e) => Err(e),
+        },
+        0xd1 => match map_header(reader, 4) {
             Ok((_, count)) => Ok(count),
             Err(e) => Err(e),
         },

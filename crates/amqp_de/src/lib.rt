@@ -1,5 +1,5 @@
 //! Reading values from the wire.
-#![tactic(auto, unfolding(crate::specs::ReadParts::open_list, crate::specs::ReadParts::open_seq))]
+#![tactic(auto, unfolding(crate::specs::ReadParts::open_list, crate::specs::ReadParts::open_seq, crate::specs::ReadPairs::open_map))]
 
 mod any;
 mod constructor;
@@ -10,6 +10,7 @@ mod fixed;
 mod header;
 mod leaf;
 mod list;
+mod map;
 mod numbers;
 mod option;
 mod payloads;
@@ -21,4 +22,5 @@ mod tuples;
 pub use deserialize::Deserialize;
 pub use deserializer::Deserializer;
 pub use list::{Ended, ListAccess};
+pub use map::MapAccess;
 pub use seq::SeqAccess;

@@ -88,9 +88,9 @@ impl<R: Read> Deserializer<R> {
     /// Begins a list: its header is consumed.
     #[inline(always)]
     pub(crate) fn open_list(&mut self) -> Result<Opened, Error>
-        ensures ok { IfOk result (λ o. Opens self.old (record { state = self.new; left = o.left; answers = true; outer = constructor_of o.beyond.outer; limit = limit_of o.beyond.limit })) }
+        ensures ok { IfOk result (λ o. Opens HasParts self.old (record { state = self.new; left = o.left; answers = true; outer = constructor_of o.beyond.outer; limit = limit_of o.beyond.limit })) }
         ensures exact { IfOk result (λ o. OpensExactly list_data self.old (record { state = self.new; left = o.left; answers = true; outer = constructor_of o.beyond.outer; limit = limit_of o.beyond.limit })) }
-        ensures err { IfErr result (λ e. OpensNot list_data R.buffers R.buffers self.old self.new e) }
+        ensures err { IfErr result (λ e. OpensNot HasParts list_data R.buffers R.buffers self.old self.new e) }
         ensures missed { IfErr result (λ e. RefusesParts R.buffers self.old self.new e) }
         ensures reads { IfOk result (λ o. (all : List (Item → Bool)) → HasRead self.old all all (record { state = self.new; left = o.left; answers = true; outer = constructor_of o.beyond.outer; limit = limit_of o.beyond.limit })) }
         ensures progress { IfOk result (λ o. (all : List (Item → Bool)) → Progress self.old all all none (record { state = self.new; left = o.left; answers = true; outer = constructor_of o.beyond.outer; limit = limit_of o.beyond.limit })) }
@@ -100,9 +100,9 @@ impl<R: Read> Deserializer<R> {
 
     #[inline(always)]
     fn begin_list(&mut self) -> Result<Opened, Error>
-        ensures ok { IfOk result (λ o. Opens self.old (record { state = self.new; left = o.left; answers = true; outer = constructor_of o.beyond.outer; limit = limit_of o.beyond.limit })) }
+        ensures ok { IfOk result (λ o. Opens HasParts self.old (record { state = self.new; left = o.left; answers = true; outer = constructor_of o.beyond.outer; limit = limit_of o.beyond.limit })) }
         ensures exact { IfOk result (λ o. OpensExactly list_data self.old (record { state = self.new; left = o.left; answers = true; outer = constructor_of o.beyond.outer; limit = limit_of o.beyond.limit })) }
-        ensures err { IfErr result (λ e. OpensNot list_data R.buffers R.buffers self.old self.new e) }
+        ensures err { IfErr result (λ e. OpensNot HasParts list_data R.buffers R.buffers self.old self.new e) }
     {
         if !self.answers {
             return Err(Error::InvalidValue);
@@ -124,9 +124,9 @@ impl<R: Read> Deserializer<R> {
 
     #[inline(always)]
     pub(crate) fn deserialize_list(&mut self) -> Result<ListAccess<'_, R>, Error>
-        ensures* refused { sem 𝓛 (RestsIfErr (the_row R.row R.Read) self.entry (λ a. a.de.ghost_name) result (λ last. IfErr result (λ e. OpensNot list_data R.buffers R.buffers self.old last e))) }
+        ensures* refused { sem 𝓛 (RestsIfErr (the_row R.row R.Read) self.entry (λ a. a.de.ghost_name) result (λ last. IfErr result (λ e. OpensNot HasParts list_data R.buffers R.buffers self.old last e))) }
         ensures same_reference { IfOk result (λ a. a.de.ghost_name ≡ self.entry.ghost_name) }
-        ensures opened { IfOk result (λ a. Opens self.old (listing a)) }
+        ensures opened { IfOk result (λ a. Opens HasParts self.old (listing a)) }
         ensures exact { IfOk result (λ a. OpensExactly list_data self.old (listing a)) }
     {
         let opened = self.open_list()?;
@@ -141,7 +141,7 @@ impl<R: Read> Deserializer<R> {
     /// Begins a list of just so many parts.
     #[inline(always)]
     fn open_tuple(&mut self, len: usize) -> Result<Opened, Error>
-        ensures ok { IfOk result (λ o. Opens self.old (record { state = self.new; left = o.left; answers = true; outer = constructor_of o.beyond.outer; limit = limit_of o.beyond.limit })) }
+        ensures ok { IfOk result (λ o. Opens HasParts self.old (record { state = self.new; left = o.left; answers = true; outer = constructor_of o.beyond.outer; limit = limit_of o.beyond.limit })) }
         ensures exact { IfOk result (λ o. OpensExactly (tuple_data len) self.old (record { state = self.new; left = o.left; answers = true; outer = constructor_of o.beyond.outer; limit = limit_of o.beyond.limit })) }
         ensures len { IfOk result (λ o. o.left ≡ len) }
         ensures err { RefusesTuple len R.buffers self.old result self.new }
@@ -169,7 +169,7 @@ impl<R: Read> Deserializer<R> {
     pub fn deserialize_tuple(&mut self, len: usize) -> Result<ListAccess<'_, R>, Error>
         ensures* refused { sem 𝓛 (RestsIfErr (the_row R.row R.Read) self.entry (λ a. a.de.ghost_name) result (λ last. RefusesTuple len R.buffers self.old result last)) }
         ensures same_reference { IfOk result (λ a. a.de.ghost_name ≡ self.entry.ghost_name) }
-        ensures opened { IfOk result (λ a. Opens self.old (listing a)) }
+        ensures opened { IfOk result (λ a. Opens HasParts self.old (listing a)) }
         ensures exact { IfOk result (λ a. OpensExactly (tuple_data len) self.old (listing a)) }
         ensures len { IfOk result (λ a. a.left ≡ len) }
         ensures reads { IfOk result (λ a. (all : List (Item → Bool)) → HasRead self.old all all (open_list a)) }
@@ -205,42 +205,8 @@ impl<'a, R: Read> ListAccess<'a, R> {
         ensures missed { IfErr result (λ e. (old : Decoding) (all rest : List (Item → Bool)) → HasRead old all (T.takes ∷ rest) (open_list self.old) →
             Missed (takes_fields all) (T.grows || R.buffers) R.buffers old self.new.de.now e) }
     {
-        self.next_part(alloc)
-    }
-
-    #[inline(always)]
-    fn next_part<T: Deserialize<R>>(&mut self, alloc: Global) -> Result<Option<T>, Error>
-        ensures same_reference { self.new.de.ghost_name ≡ self.old.de.ghost_name }
-        ensures kept_outer { constructor_of self.new.beyond.outer ≡ constructor_of self.old.beyond.outer }
-        ensures kept_limit { limit_of self.new.beyond.limit ≡ limit_of self.old.beyond.limit }
-        ensures closed { self.old.de.now.answers ≡ false → self.new.de.now.answers ≡ false }
-        ensures next { Next T.takes T.means (T.grows || R.buffers) R.buffers (listing self.old) result (listing self.new) }
-    {
-        if !self.answers {
-            return Err(Error::InvalidValue);
-        }
-        if self.left == 0 {
-            return Ok(None);
-        }
-        self.answers = false;
-        self.de.set_answers(true);
-        match T::deserialize(alloc, self.de) {
-            Ok(item) => {
-                self.de.set_answers(false);
-                let consumed = self.de.bytes_consumed();
-                let within = is_within(consumed, &self.beyond.limit);
-                if !within {
-                    return Err(Error::InvalidValue);
-                }
-                self.answers = true;
-                self.left -= 1;
-                Ok(Some(item))
-            }
-            Err(e) => {
-                self.de.set_answers(false);
-                Err(e)
-            }
-        }
+        self.de
+            .next_part(alloc, &mut self.left, &mut self.answers, &self.beyond)
     }
 
     /// Ends the list: its deserializer answers again. Nothing is consumed.
@@ -298,9 +264,50 @@ impl<R: Read> Deserializer<R> {
         Ok(Ended { de: self })
     }
 
+    /// The next part of every access.
+    #[inline(always)]
+    pub(crate) fn next_part<T: Deserialize<R>>(
+        &mut self,
+        alloc: Global,
+        left: &mut u32,
+        answers: &mut bool,
+        beyond: &Beyond,
+    ) -> Result<Option<T>, Error>
+        ensures closed { self.old.answers ≡ false → self.new.answers ≡ false }
+        ensures next { Next T.takes T.means (T.grows || R.buffers) R.buffers
+            (record { state = self.old; left = left.old; answers = answers.old; outer = constructor_of beyond.now.outer; limit = limit_of beyond.now.limit }) result
+            (record { state = self.new; left = left.new; answers = answers.new; outer = constructor_of beyond.now.outer; limit = limit_of beyond.now.limit }) }
+    {
+        if !*answers {
+            return Err(Error::InvalidValue);
+        }
+        if *left == 0 {
+            return Ok(None);
+        }
+        *answers = false;
+        self.set_answers(true);
+        match T::deserialize(alloc, self) {
+            Ok(item) => {
+                self.set_answers(false);
+                let consumed = self.bytes_consumed();
+                let within = is_within(consumed, &beyond.limit);
+                if !within {
+                    return Err(Error::InvalidValue);
+                }
+                *answers = true;
+                *left -= 1;
+                Ok(Some(item))
+            }
+            Err(e) => {
+                self.set_answers(false);
+                Err(e)
+            }
+        }
+    }
+
     /// What the end of every access does.
     #[inline(always)]
-    fn close(&mut self, left: u32, answers: bool, beyond: Beyond) -> Result<(), Error>
+    pub(crate) fn close(&mut self, left: u32, answers: bool, beyond: Beyond) -> Result<(), Error>
         ensures ends { Ends (record { state = self.old; left = left; answers = answers; outer = constructor_of beyond.outer; limit = limit_of beyond.limit }) result self.new }
         ensures shut { IfErr result (λ e. self.new ≡ shut (record { state = self.old; left = left; answers = answers; outer = constructor_of beyond.outer; limit = limit_of beyond.limit })) }
     {

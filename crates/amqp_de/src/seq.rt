@@ -2,7 +2,7 @@
 
 ghost use Rattle.std.specs.Prelude.{◌≡◌, List, Bool, true, false, ◌||◌, Ok, Err, IfOk, IfErr};
 ghost use Rattle.std.specs.Borrow.{sem, RestsIfErr};
-ghost use Rattle.amqp_de.specs.Access.{Listing, Next, Ends, Opens, OpensExactly, shut};
+ghost use Rattle.amqp_de.specs.Access.{Listing, HasParts, Next, Ends, Opens, OpensExactly, shut};
 ghost use Rattle.amqp_base.specs.Item.{Item, Items, none};
 ghost use Rattle.amqp_de.specs.Decoding.{Decoding};
 ghost use Rattle.amqp_de.specs.Parse.{list_data};
@@ -35,7 +35,7 @@ impl<R: Read> Deserializer<R> {
     pub fn deserialize_seq(&mut self, alloc: Global) -> Result<SeqAccess<'_, R>, Error>
         ensures* refused { sem 𝓛 (RestsIfErr (the_row R.row R.Read) self.entry (λ a. (lender_of a).ghost_name) result (λ last. IfErr result (λ e. RefusesParts R.buffers self.old last e))) }
         ensures same_reference { IfOk result (λ a. (lender_of a).ghost_name ≡ self.entry.ghost_name) }
-        ensures opened { IfOk result (λ a. Opens self.old (seq_listing a)) }
+        ensures opened { IfOk result (λ a. Opens HasParts self.old (seq_listing a)) }
         ensures exact { IfOk result (λ a. OpensExactly list_data self.old (seq_listing a)) }
         ensures reads { IfOk result (λ a. (all : List (Item → Bool)) → HasRead self.old all all (open_seq a)) }
         ensures progress { IfOk result (λ a. (all : List (Item → Bool)) → Progress self.old all all none (open_seq a)) }

@@ -1,15 +1,15 @@
-use Rattle.std.proofs.Common.{◌||◌}
+use Rattle.std.proofs.Common.{◌||◌, refl}
 use Rattle.amqp_de.specs.ReadParts.{open_list}
 use Rattle.amqp_de.proofs.ReadParts.{next_part, next_reads, next_none, next_missed}
 use Rattle.amqp_de.proofs.list.ListAccess+R.next_element.Goals as goal
 
 pub returns-clause-reads : goal.returns-clause-reads
 unfolding open_list
-returns-clause-reads g c = next_reads g.R.Read.buffers _ g.T.Typed.takes g.T.Typed.means (g.T.Typed.grows || g.R.Read.buffers) _ _ c.next_part.ensures.next c.next_part.ensures.kept_outer c.next_part.ensures.kept_limit
+returns-clause-reads g c = next_reads g.R.Read.buffers _ g.T.Typed.takes g.T.Typed.means (g.T.Typed.grows || g.R.Read.buffers) _ _ c.next_part.ensures.next refl refl
 
 pub returns-clause-part : goal.returns-clause-part
 unfolding open_list
-returns-clause-part g c = next_part g.R.Read.buffers _ g.T.Typed.takes g.T.Typed.means (g.T.Typed.grows || g.R.Read.buffers) _ _ c.next_part.ensures.next c.next_part.ensures.kept_outer c.next_part.ensures.kept_limit
+returns-clause-part g c = next_part g.R.Read.buffers _ g.T.Typed.takes g.T.Typed.means (g.T.Typed.grows || g.R.Read.buffers) _ _ c.next_part.ensures.next refl refl
 
 pub returns-clause-too_few : goal.returns-clause-too_few
 unfolding open_list

@@ -1,0 +1,257 @@
+-- Reading a map, key by key and value by value.
+use Rattle.std.proofs.Common.{◌≡◌, ℕ, suc, ◌%◌, Bool, true, false, ◌&&◌, ◌||◌, List, [], ◌∷◌, ◌++◌, Option, Some, None, Result, Ok, Err, IfOk, IfErr, OnOk, refl, sym, ap, subst, ◌∙◌, arith, IsTrue}
+use Rattle.std.proofs.lemmas.List.Sums.{fold-append}
+use Rattle.amqp_base.specs.declared.error.Error.{Error}
+use Rattle.amqp_base.specs.declared.error.Error.TheVariants.{InvalidValue, OutOfMemory}
+use Rattle.amqp_base.specs.Item.{Item, scalar, list, map, array, described, Items, none, more, Pairs, no_pairs, pair, in_turn}
+use Rattle.amqp_base.specs.Maps.{all_pairs_taken, is_map_of, all_pairs_mean, put_in_turn, MeansPairs, means_map}
+use Rattle.amqp_de.specs.Decoding.{Decoding}
+use Rattle.amqp_de.specs.Law.{Found, Missed}
+use Rattle.amqp_de.specs.Parse.{map_data}
+use Rattle.amqp_de.specs.Access.{Listing, HasPairs, Opens, OpensNot, Part, NoPart, Ends, ended}
+use Rattle.amqp_de.specs.ReadParts.{PartsRead, and_last, joined}
+use Rattle.amqp_de.specs.ReadPairs.{KeyNext, ValueNext, broken_off, OutOfTurn, NextKey, NextValue, NextPair, NextEntry, NoEntry, no_key, no_value, and_pair, PairsRead, KeyRead, MoreKey, MoreValue, MorePair, NoMap}
+use Rattle.amqp_de.proofs.PartsRead as read
+use Rattle.amqp_de.proofs.PartsRead.{both, left_of, right_of, missed_more}
+use Rattle.amqp_de.proofs.ReadParts.{or_left, or_right, or_more}
+
+-- ---- pairs, and keys and values in turn
+
+pair_turn : (ps : Pairs) (k v : Item) → in_turn (and_pair ps k v) ≡ and_last (and_last (in_turn ps) k) v
+pair_turn no_pairs k v = refl
+pair_turn (pair i j ps) k v = ap (λ (x : Items). more i (more j x)) (pair_turn ps k v)
+
+one_turn : (ps qs : Pairs) → in_turn ps ≡ in_turn qs → ps ≡ qs
+one_turn no_pairs no_pairs h = refl
+one_turn no_pairs (pair k l qs) h = absurd cc
+one_turn (pair i j ps) no_pairs h = absurd cc
+one_turn (pair i j ps) (pair k l qs) h =
+    let t : in_turn ps ≡ in_turn qs = cc in
+    let a : i ≡ k = cc in
+    let b : j ≡ l = cc in
+    rw (a, b, one_turn ps qs t) refl
+
+module _ (key value : Item → Bool) where
+  taken_pair : (ps : Pairs) (k v : Item) → IsTrue (all_pairs_taken key value ps) → IsTrue (key k) → IsTrue (value v) → IsTrue (all_pairs_taken key value (and_pair ps k v))
+  taken_pair no_pairs k v t p q = both _ _ (both _ _ p q) refl
+  taken_pair (pair i j ps) k v t p q = both _ _ (left_of _ _ t) (taken_pair ps k v (right_of (key i && value j) _ t) p q)
+
+  -- parts that are the keys and values of a map that is taken
+  abbrev Taken : Items → Type 0
+  Taken is = (ps : Pairs) × (in_turn ps ≡ is) × IsTrue (all_pairs_taken key value ps)
+
+  sorts : (i : Item) → IsTrue (is_map_of key value i) → (is : Items) × HasPairs i is × Taken is
+  sorts (map ps) t = (in_turn ps, refl, (ps, refl, t))
+  sorts (list is) t = absurd cc
+  sorts (array is) t = absurd cc
+  sorts (scalar v) t = absurd cc
+  sorts (described d v) t = absurd cc
+
+  -- what stands behind pairs is a key
+  key_behind : (qs ps : Pairs) (j : Item) (js : Items) → in_turn ps ≡ joined (in_turn qs) (more j js) → IsTrue (all_pairs_taken key value ps) → IsTrue (key j)
+  key_behind no_pairs no_pairs j js e t = absurd cc
+  key_behind no_pairs (pair k v ps) j js e t = let a : j ≡ k = cc in rw a (left_of (key k) (value v) (left_of (key k && value v) _ t))
+  key_behind (pair i l qs) no_pairs j js e t = absurd cc
+  key_behind (pair i l qs) (pair k v ps) j js e t = let r : in_turn ps ≡ joined (in_turn qs) (more j js) = cc in key_behind qs ps j js r (right_of (key k && value v) _ t)
+
+  -- what stands behind pairs and a key is a value
+  value_behind : (qs ps : Pairs) (i j : Item) (js : Items) → in_turn ps ≡ joined (and_last (in_turn qs) i) (more j js) → IsTrue (all_pairs_taken key value ps) → IsTrue (value j)
+  value_behind no_pairs no_pairs i j js e t = absurd cc
+  value_behind no_pairs (pair k v ps) i j js e t = let a : j ≡ v = cc in rw a (right_of (key k) (value v) (left_of (key k && value v) _ t))
+  value_behind (pair x l qs) no_pairs i j js e t = absurd cc
+  value_behind (pair x l qs) (pair k v ps) i j js e t = let r : in_turn ps ≡ joined (and_last (in_turn qs) i) (more j js) = cc in value_behind qs ps i j js r (right_of (key k && value v) _ t)
+
+  -- an item of these pairs is taken
+  pairs_item : (pairs : Pairs) → IsTrue (all_pairs_taken key value pairs) → (i : Item) → HasPairs i (in_turn pairs) → IsTrue (is_map_of key value i) × (i ≡ map pairs)
+  pairs_item pairs t (map ps) p = let e = one_turn ps pairs p in (rw e t, ap map e)
+  pairs_item pairs t (list is) p = absurd p
+  pairs_item pairs t (array is) p = absurd p
+  pairs_item pairs t (scalar v) p = absurd p
+  pairs_item pairs t (described d v) p = absurd p
+
+  -- ---- the steps
+
+  pub pairs_start : (old : Decoding) (l : Listing) → Opens HasPairs old l → l.left % 2 ≡ 0 → PairsRead old key value no_pairs l
+  pairs_start old l o even = record { from = l; opened = o; reads = read.parts_begun old l o; taken = refl; turn = even }
+
+  pub map_unopened : {grows buffers : Bool} {old last : Decoding} {e : Error} → OpensNot HasPairs map_data grows buffers old last e → Missed (is_map_of key value) grows buffers old last e
+  map_unopened o = read.unopened (is_map_of key value) Taken sorts o
+
+  pub key_more : (old : Decoding) (pairs : Pairs) (now next : Listing) (s : PairsRead old key value pairs now) {means : Item → Type 0} → (p : Part key means now next) → next.outer ≡ now.outer → next.limit ≡ now.limit → KeyRead old key value pairs p.front.item next
+  key_more old pairs now next s p outer limit = record {
+    from = s.from;
+    opened = s.opened;
+    reads = read.parts_more s.from (in_turn pairs) now next s.reads p outer limit;
+    taken = s.taken;
+    key_taken = p.front.taken;
+    turn = let t = s.turn in omega (arith, t, p.left);
+  }
+
+  pub value_more : (old : Decoding) (pairs : Pairs) (last : Item) (now next : Listing) (s : KeyRead old key value pairs last now) {means : Item → Type 0} → (p : Part value means now next) → next.outer ≡ now.outer → next.limit ≡ now.limit → PairsRead old key value (and_pair pairs last p.front.item) next
+  value_more old pairs last now next s p outer limit = record {
+    from = s.from;
+    opened = s.opened;
+    reads = rw (pair_turn pairs last p.front.item) (read.parts_more s.from (and_last (in_turn pairs) last) now next s.reads p outer limit);
+    taken = taken_pair pairs last p.front.item s.taken s.key_taken p.front.taken;
+    turn = let t = s.turn in omega (arith, t, p.left);
+  }
+
+  pub key_missed : (old : Decoding) (pairs : Pairs) (now next : Listing) (s : PairsRead old key value pairs now) (grows buffers : Bool) (e : Error) → OutOfTurn KeyNext key grows buffers now next e → Missed (is_map_of key value) grows buffers old next.state e
+  key_missed old pairs now next s grows buffers e n = read.part_missed old s.from (in_turn pairs) now s.opened s.reads (is_map_of key value) Taken sorts key (λ j js t. key_behind pairs t.0 j js t.1 t.2) grows buffers next next.state e (n.refused s.turn) refl
+
+  pub value_missed : (old : Decoding) (pairs : Pairs) (last : Item) (now next : Listing) (s : KeyRead old key value pairs last now) (grows buffers : Bool) (e : Error) → OutOfTurn ValueNext value grows buffers now next e → Missed (is_map_of key value) grows buffers old next.state e
+  value_missed old pairs last now next s grows buffers e n = read.part_missed old s.from (and_last (in_turn pairs) last) now s.opened s.reads (is_map_of key value) Taken sorts value (λ j js t. value_behind pairs t.0 last j js t.1 t.2) grows buffers next next.state e (n.refused s.turn) refl
+
+  -- no memory was there for a pair
+  pub insert_missed : (old : Decoding) (pairs : Pairs) (now : Listing) → PairsRead old key value pairs now → (buffers : Bool) (last : Decoding) → last ≡ now.state → Missed (is_map_of key value) true buffers old last OutOfMemory
+  insert_missed old pairs now s buffers last l = read.no_room old s.from (in_turn pairs) now s.opened s.reads (is_map_of key value) buffers last l
+
+  -- everything was read
+  pub pairs_found : (old : Decoding) (pairs : Pairs) (now : Listing) → PairsRead old key value pairs now → (last : Decoding) → now.left ≡ 0 → last ≡ ended now → Found (is_map_of key value) (λ i. i ≡ map pairs) old last
+  pairs_found old pairs now s last z l = read.parts_found old s.from (in_turn pairs) now s.opened s.reads (is_map_of key value) (λ i. i ≡ map pairs) (pairs_item pairs s.taken) last z l
+
+-- ---- the calls
+
+some_same : {A : Type 0} {x y : A} → Some x ≡ Some y → x ≡ y
+some_same e = cc
+
+pub pairs_opened : {A : Type 0} (old : Decoding) (r : Result A Error) (l : A → Listing) → IfOk r (λ o. Opens HasPairs old (l o)) → IfOk r (λ o. (l o).left % 2 ≡ 0) → IfOk r (λ o. (key value : Item → Bool) → PairsRead old key value no_pairs (l o))
+pairs_opened old (Ok o) l p q = λ key value. pairs_start key value old (l o) p q
+pairs_opened old (Err e) l p q = p
+
+pub no_map : {A : Type 0} (buffers : Bool) (old last : Decoding) (r : Result A Error) → IfErr r (λ e. OpensNot HasPairs map_data buffers buffers old last e) → IfErr r (λ e. NoMap buffers old last e)
+no_map buffers old last (Ok v) o = o
+no_map buffers old last (Err e) o = record { not_opened = o; missed = λ key value. map_unopened key value o }
+
+-- out of turn
+pub turned_away : (Turn : Listing → Type 0) (takes : Item → Bool) (grows buffers : Bool) (old new : Listing) → (Turn old → ⊥) → new ≡ broken_off old → OutOfTurn Turn takes grows buffers old new InvalidValue
+turned_away Turn takes grows buffers old new not_now n = record {
+  unanswered = λ u. (refl, n ∙ ap (λ (b : Bool). record { state = old.state; left = old.left; answers = b; outer = old.outer; limit = old.limit }) (sym u));
+  other = λ _. (refl, n);
+  refused = λ t. absurd (not_now t);
+  closed = ap (λ (l : Listing). l.answers) n;
+}
+
+-- in turn, but refused
+pub part_refused : (Turn : Listing → Type 0) (takes : Item → Bool) (grows buffers : Bool) (old new : Listing) (e : Error) → Turn old → NoPart takes grows buffers old new e → OutOfTurn Turn takes grows buffers old new e
+part_refused Turn takes grows buffers old new e t n = record { unanswered = n.unanswered; other = λ no. absurd (no t); refused = λ _. n; closed = n.closed }
+
+module _ (buffers : Bool) (now : Listing) where
+  pub key_part : {K : Type 0} (t : Item → Bool) (means : Item → K → Type 0) (grows : Bool) (next : Listing) (r : Result (Option K) Error) → NextKey t means grows buffers now r next → next.outer ≡ now.outer → next.limit ≡ now.limit
+      → IfOk r (λ o. (k : K) → o ≡ Some k → (old : Decoding) (value : Item → Bool) (pairs : Pairs) → PairsRead old t value pairs now → MoreKey old t value pairs (λ i. means i k) next)
+  key_part t means grows next (Ok None) n outer limit = λ k e. absurd cc
+  key_part {K} t means grows next (Ok (Some w)) n outer limit = λ k e old value pairs s.
+      let p = subst (λ (x : K). Part t (λ i. means i x) now next) (some_same e) n.0 in
+      record { item = p.front.item; meant = p.front.value; more = key_more t value old pairs now next s p outer limit }
+  key_part t means grows next (Err e) n outer limit = tt
+
+  pub key_refused : {K : Type 0} (t : Item → Bool) (means : Item → K → Type 0) (grows : Bool) (next : Listing) (r : Result (Option K) Error) → NextKey t means grows buffers now r next
+      → IfErr r (λ e. (old : Decoding) (value : Item → Bool) (pairs : Pairs) → PairsRead old t value pairs now → Missed (is_map_of t value) grows buffers old next.state e)
+  key_refused t means grows next (Ok o) n = tt
+  key_refused t means grows next (Err e) n = λ old value pairs s. key_missed t value old pairs now next s grows buffers e n
+
+  pub value_part : {V : Type 0} (t : Item → Bool) (means : Item → V → Type 0) (grows : Bool) (next : Listing) (r : Result V Error) → NextValue t means grows buffers now r next → next.outer ≡ now.outer → next.limit ≡ now.limit
+      → IfOk r (λ v. (old : Decoding) (key : Item → Bool) (pairs : Pairs) (last : Item) → KeyRead old key t pairs last now → MoreValue old key t pairs last (λ i. means i v) next)
+  value_part t means grows next (Ok v) n outer limit = λ old key pairs last s.
+      record { item = n.0.front.item; meant = n.0.front.value; more = value_more key t old pairs last now next s n.0 outer limit }
+  value_part t means grows next (Err e) n outer limit = tt
+
+  pub value_refused : {V : Type 0} (t : Item → Bool) (means : Item → V → Type 0) (grows : Bool) (next : Listing) (r : Result V Error) → NextValue t means grows buffers now r next
+      → IfErr r (λ e. (old : Decoding) (key : Item → Bool) (pairs : Pairs) (last : Item) → KeyRead old key t pairs last now → Missed (is_map_of key t) grows buffers old next.state e)
+  value_refused t means grows next (Ok v) n = tt
+  value_refused t means grows next (Err e) n = λ old key pairs last s. value_missed key t old pairs last now next s grows buffers e n
+
+  -- a pair is the next two parts
+  pub entry_part : {K V : Type 0} (kt vt : Item → Bool) (km : Item → K → Type 0) (vm : Item → V → Type 0) (kg vg : Bool) (next : Listing) (r : Result (Option (K × V)) Error) → NextEntry kt vt km vm kg vg buffers now r next → next.outer ≡ now.outer → next.limit ≡ now.limit
+      → IfOk r (λ o. (k : K) (v : V) → o ≡ Some (k, v) → (old : Decoding) (pairs : Pairs) → PairsRead old kt vt pairs now → MorePair old kt vt pairs (λ i. km i k) (λ i. vm i v) next)
+  entry_part kt vt km vm kg vg next (Ok None) n outer limit = λ k v e. absurd cc
+  entry_part {K} {V} kt vt km vm kg vg next (Ok (Some w)) n outer limit = λ k v e old pairs s.
+      let n' = subst (λ (x : K × V). NextPair kt vt km vm kg vg buffers now x.0 x.1 next) (some_same e) n in
+      let p = n'.key_read.0 in
+      let q = n'.value_read.0 in
+      let a = key_more kt vt old pairs now n'.between s p n'.same_outer n'.same_limit in
+      record {
+        key_item = p.front.item;
+        value_item = q.front.item;
+        key_meant = p.front.value;
+        value_meant = q.front.value;
+        more = value_more kt vt old pairs p.front.item n'.between next a q (outer ∙ sym n'.same_outer) (limit ∙ sym n'.same_limit);
+      }
+  entry_part kt vt km vm kg vg next (Err e) n outer limit = tt
+
+  pub entry_refused : {K V : Type 0} (kt vt : Item → Bool) (km : Item → K → Type 0) (vm : Item → V → Type 0) (kg vg : Bool) (next : Listing) (r : Result (Option (K × V)) Error) → NextEntry kt vt km vm (kg || buffers) (vg || buffers) buffers now r next
+      → IfErr r (λ e. (old : Decoding) (pairs : Pairs) → PairsRead old kt vt pairs now → Missed (is_map_of kt vt) ((kg || vg) || buffers) buffers old next.state e)
+  entry_refused kt vt km vm kg vg next (Ok o) n = tt
+  entry_refused kt vt km vm kg vg next (Err e) (no_key n) = λ old pairs s. missed_more (or_more kg (kg || vg) buffers (or_left kg vg)) (key_missed kt vt old pairs now next s (kg || buffers) buffers e n)
+  entry_refused kt vt km vm kg vg next (Err e) (no_value k mid p outer limit n) = λ old pairs s.
+      missed_more (or_more vg (kg || vg) buffers (or_right kg vg)) (value_missed kt vt old pairs p.0.front.item mid next (key_more kt vt old pairs now mid s p.0 outer limit) (vg || buffers) buffers e n)
+
+  -- none is left: nothing changes
+  pub entry_none : {K V : Type 0} (kt vt : Item → Bool) (km : Item → K → Type 0) (vm : Item → V → Type 0) (kg vg : Bool) (next : Listing) (r : Result (Option (K × V)) Error) → NextEntry kt vt km vm kg vg buffers now r next
+      → IfOk r (λ o. o ≡ None → (old : Decoding) (key value : Item → Bool) (pairs : Pairs) → PairsRead old key value pairs now → PairsRead old key value pairs next)
+  entry_none kt vt km vm kg vg next (Ok None) n = λ e old key value pairs s. subst (λ (l : Listing). PairsRead old key value pairs l) (sym n.1) s
+  entry_none kt vt km vm kg vg next (Ok (Some w)) n = λ e. absurd cc
+  entry_none kt vt km vm kg vg next (Err e) n = tt
+
+  pub map_end : (r : Result (Unit {0}) Error) (last : Decoding) → Ends now r last
+      → OnOk r ((old : Decoding) (key value : Item → Bool) (pairs : Pairs) → PairsRead old key value pairs now → Found (is_map_of key value) (λ i. i ≡ map pairs) old last)
+  map_end (Ok u) last n = λ old key value pairs s. pairs_found key value old pairs now s last n.1 n.2
+  map_end (Err e) last n = tt
+
+-- where all was read the end isn't refused
+pub end_stands : {takes : Item → Bool} {grows buffers : Bool} (old : Decoding) (key value : Item → Bool) (pairs : Pairs) (now : Listing) → PairsRead old key value pairs now → (last x : Decoding) (e : Error) → now.left ≡ 0 → Ends now (Err e) x → Missed takes grows buffers old last e
+end_stands old key value pairs now s last x e z n = absurd ((read.end_refused old s.from (in_turn pairs) now s.opened s.reads x e n).0 z)
+
+-- ---- what the pairs mean
+
+mean_pair : {K V : Type 0} (key : Item → K → Type 0) (value : Item → V → Type 0) (ps : Pairs) (rows : List (K × V)) (k v : Item) (x : K) (y : V) → all_pairs_mean key value ps rows → key k x → value v y → all_pairs_mean key value (and_pair ps k v) (rows ++ (x, y) ∷ [])
+mean_pair key value no_pairs [] k v x y m p q = (p, (q, tt))
+mean_pair key value no_pairs (r ∷ rows) k v x y m p q = absurd m
+mean_pair key value (pair i j ps) [] k v x y m p q = absurd m
+mean_pair key value (pair i j ps) (r ∷ rows) k v x y m p q = (m.0, (m.1.0, mean_pair key value ps rows k v x y m.1.1 p q))
+
+module _ {K V : Type 0} (key : Item → K → Type 0) (value : Item → V → Type 0) (put : List (K × V) → K → V → List (K × V)) where
+  pub means_none : MeansPairs key value put no_pairs []
+  means_none = record { rows = []; mean = tt; placed = refl }
+
+  pub means_more : (ps : Pairs) (entries : List (K × V)) (k v : Item) (x : K) (y : V) → MeansPairs key value put ps entries → key k x → value v y → MeansPairs key value put (and_pair ps k v) (put entries x y)
+  means_more ps entries k v x y m p q = record {
+    rows = m.rows ++ (x, y) ∷ [];
+    mean = mean_pair key value ps m.rows k v x y m.mean p q;
+    placed = ap (λ (z : List (K × V)). put z x y) m.placed ∙ sym (fold-append (λ (done : List (K × V)) (r : K × V). put done r.0 r.1) [] m.rows ((x, y) ∷ []));
+  }
+
+  -- Since `old` a map was opened, and the pairs that were read of it give these entries, put one after the other.
+  pub record EntriesRead (old : Decoding) (key_taken value_taken : Item → Bool) (entries : List (K × V)) (now : Listing) : Type 0 where
+    pub pairs : Pairs
+    pub reads : PairsRead old key_taken value_taken pairs now
+    pub meant : MeansPairs key value put pairs entries
+
+  pub entries_start : (old : Decoding) (kt vt : Item → Bool) (entries : List (K × V)) (now : Listing) → PairsRead old kt vt no_pairs now → entries ≡ [] → EntriesRead old kt vt entries now
+  entries_start old kt vt entries now s e = rw e record { pairs = no_pairs; reads = s; meant = means_none }
+
+  pub entries_step : (old : Decoding) (kt vt : Item → Bool) (entries after : List (K × V)) (now next : Listing) (x : K) (y : V) (s : EntriesRead old kt vt entries now) → MorePair old kt vt s.pairs (λ i. key i x) (λ i. value i y) next → after ≡ put entries x y → EntriesRead old kt vt after next
+  entries_step old kt vt entries after now next x y s m e = rw e record {
+    pairs = and_pair s.pairs m.key_item m.value_item;
+    reads = m.more;
+    meant = means_more s.pairs entries m.key_item m.value_item x y s.meant m.key_meant m.value_meant;
+  }
+
+  -- the map that was read means its entries
+  pub entries_found : (takes : Item → Bool) (ps : Pairs) (entries : List (K × V)) (old new : Decoding) → Found takes (λ i. i ≡ map ps) old new → MeansPairs key value put ps entries → Found takes (λ i. means_map key value put i entries) old new
+  entries_found takes ps entries old new f m = record {
+    front = λ a. let x = f.front a in record {
+      item = x.item;
+      text = x.text;
+      spelled = x.spelled;
+      taken = x.taken;
+      value = rw x.value m;
+      step = x.step;
+      answers = x.answers;
+      inherited = x.inherited;
+      described = x.described;
+      begun = x.begun;
+    };
+    spent = f.spent;
+    steady = f.steady;
+  }
