@@ -3,6 +3,7 @@
 mod compounds;
 mod forms;
 mod refusals;
+mod structs;
 mod texts;
 
 use crate::{Deserializer, Error, Read, SliceReader, from_slice, to_vec};
