@@ -1,6 +1,6 @@
 //! The bytes of types of one's own, and what is read from them.
 
-use crate::{Celsius, Measurement, Pair, Tags};
+use crate::{Celsius, Colour, Foo, Measurement, Note, Pair, Tags};
 use amqp_base::Error;
 use amqp_de::{Deserialize, Deserializer};
 use amqp_read::SliceReader;
@@ -47,6 +47,39 @@ fn own_types(rt: HostRuntime) -> Result<(), Fail> {
     assert_eq!(rt;
         written(alloc, &pair)?.as_slice(),
         b"\xc0\x16\x02\xc0\x04\x02\x43\x54\x01\xc0\x0d\x01\xc0\x0a\x02\x70\x00\x00\x01\x2c\xa1\x02kg".as_slice()
+    );
+    Ok(())
+}
+
+#[test]
+fn structs_under_their_names(rt: HostRuntime) -> Result<(), Fail> {
+    let alloc = rt.alloc();
+    let foo = Foo {
+        bar: 13,
+        is_fool: true,
+    };
+    assert_eq!(rt;
+        written(alloc, &foo)?.as_slice(),
+        b"\xc0\x04\x02\x52\x0d\x41".as_slice()
+    );
+    let mut ser = Serializer::described_map(Vec::new(alloc));
+    foo.serialize(alloc, &mut ser)?;
+    let map = ser.into_inner();
+    assert_eq!(rt;
+        map.as_slice(),
+        b"\xc1\x12\x04\xa1\x03bar\x52\x0d\xa1\x07is_fool\x41".as_slice()
+    );
+    assert_eq!(rt;
+        written(alloc, &Colour(1, 2, 255))?.as_slice(),
+        b"\xc0\x07\x03\x50\x01\x50\x02\x50\xff".as_slice()
+    );
+    let note = Note {
+        text: String::from_str(alloc, "a")?,
+        number: None,
+    };
+    assert_eq!(rt;
+        written(alloc, &note)?.as_slice(),
+        b"\xc0\x05\x02\xa1\x01a\x40".as_slice()
     );
     Ok(())
 }

@@ -25,7 +25,10 @@ pub use amqp_base::{
 };
 pub use amqp_de::{Deserialize, Deserializer, Ended, ListAccess, MapAccess, SeqAccess};
 pub use amqp_read::{Read, SliceReader, read_const_bytes};
-pub use amqp_ser::{MapSerializer, SeqSerializer, Serialize, Serializer, TupleSerializer};
+pub use amqp_ser::{
+    MapSerializer, SeqSerializer, Serialize, Serializer, StructSerializer, TupleSerializer,
+    TupleStructSerializer,
+};
 pub use amqp_types::{
     Binary, BinaryRef, Boolean, Byte, Char, Dec32, Dec64, Dec128, Decimal, Double, Float, Int,
     List, Long, OrderedMap, Short, Symbol, SymbolRef, Timestamp, Ubyte, Uint, Ulong, Ushort, Uuid,

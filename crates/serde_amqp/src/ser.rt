@@ -1,4 +1,7 @@
 //! Writing.
 
 pub use crate::to_vec;
-pub use amqp_ser::{MapSerializer, SeqSerializer, Serialize, Serializer, TupleSerializer};
+pub use amqp_ser::{
+    MapSerializer, SeqSerializer, Serialize, Serializer, StructSerializer, TupleSerializer,
+    TupleStructSerializer,
+};

@@ -5,6 +5,7 @@ mod forms;
 mod maps_written;
 mod options;
 mod refusals;
+mod structs;
 mod texts;
 
 use crate::{Deserializer, Error, Read, SliceReader, from_slice, to_vec};
