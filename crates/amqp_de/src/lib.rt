@@ -11,6 +11,7 @@ mod header;
 mod leaf;
 mod list;
 mod map;
+mod maps;
 mod numbers;
 mod option;
 mod payloads;

@@ -2,6 +2,7 @@
 
 mod compounds;
 mod forms;
+mod maps;
 mod maps_written;
 mod options;
 mod refusals;
