@@ -50,12 +50,20 @@ fn refusals_of_maps(rt: HostRuntime) {
     assert!(rt; matches!(&read(&[0xc1, 0]), Err(Error::Io(ErrorKind::UnexpectedEof))));
     // the count before the size, the size before an odd count
     assert!(rt;
-        matches!(&read(&[0xd1, 0, 0, 0, 0, 0, 1, 0, 1]), Err(Error::InvalidValue))
+        matches!(
+            &read(&[0xd1, 0, 0, 0, 0, 0, 1, 0, 1]),
+            Err(Error::InvalidValue)
+        )
     );
     assert!(rt; matches!(&read(&[0xc1, 0, 0]), Err(Error::InvalidLength)));
     assert!(rt; matches!(&read(&[0xc1, 1, 1]), Err(Error::InvalidLength)));
     // the value is looked at once its key was read
-    assert!(rt; matches!(&read(&[0xc1, 3, 2, 0x43, 0x41]), Err(Error::InvalidFormatCode)));
+    assert!(rt;
+        matches!(
+            &read(&[0xc1, 3, 2, 0x43, 0x41]),
+            Err(Error::InvalidFormatCode)
+        )
+    );
 }
 
 #[test]
