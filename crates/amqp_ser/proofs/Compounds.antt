@@ -266,7 +266,7 @@ end_named_each q b (Err e) t contents p = λ s shape xs body h complete text.
 list_split : {X : Type 0} (xs : List X) (k : ℕ) (v : X) → k < length xs → v ≡ get_or xs k v → take k xs ++ v ∷ drop (k + 1) xs ≡ xs
 list_split xs k v h e = let d : drop k xs ≡ v ∷ drop (k + 1) xs = rw add-one (drop-cons xs k v h ∙ ap (λ x. x ∷ drop (suc k) xs) (sym e)) in sym (ap (λ ys. take k xs ++ ys) d) ∙ take-append-drop k xs
 
-map_split : {X : Type 0} (f : X → Item) (xs : List X) (k : ℕ) (v : X) → k < length xs → v ≡ get_or xs k v → map f (take k xs) ++ f v ∷ map f (drop (k + 1) xs) ≡ map f xs
+pub map_split : {X : Type 0} (f : X → Item) (xs : List X) (k : ℕ) (v : X) → k < length xs → v ≡ get_or xs k v → map f (take k xs) ++ f v ∷ map f (drop (k + 1) xs) ≡ map f xs
 map_split f xs k v h e = sym (map-append f (take k xs) (v ∷ drop (k + 1) xs)) ∙ ap (map f) (list_split xs k v h e)
 
 -- a list begins with the images of a front and of the next element
@@ -300,7 +300,7 @@ pub turn_is : (s : State) (xs : List Item) (q : Open) (turn : Bool) → Holds s 
 turn_is s xs q turn h test = test ∙ (ap (λ n. n % 2 == 1) h.count ∙ odd_count xs)
 
 -- where the parts aren't keys and values, they are under the plain setting
-plain_inside : (shape : Shape) → false ≡ is_map shape → setting_inside shape ≡ Plain
+pub plain_inside : (shape : Shape) → false ≡ is_map shape → setting_inside shape ≡ Plain
 plain_inside Shape.List e = refl
 plain_inside Shape.Array e = refl
 plain_inside (Shape.Tuple n) e = refl

@@ -12,3 +12,4 @@ pub mod Fields
 pub mod Finish
 pub mod Counting
 pub mod MapPairs
+pub mod ManyParts

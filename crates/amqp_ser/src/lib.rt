@@ -2,6 +2,7 @@
 #![tactic(auto, unfolding(crate::specs::State::state, crate::specs::Compound::open_state, crate::specs::Compound::tuple_state, crate::specs::Compound::map_state, crate::specs::Compound::tuple_struct_state, crate::specs::Compound::struct_state))]
 
 mod compound;
+mod each;
 mod fixed;
 mod floats;
 mod map;

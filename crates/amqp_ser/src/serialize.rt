@@ -1,11 +1,14 @@
 //! Types whose values can be written.
 
-ghost use Rattle.std.specs.Prelude.{IfErr, OnOk};
-ghost use Rattle.amqp_ser.specs.State.{state};
+ghost use Rattle.std.specs.Prelude.{◌≡◌, ◌++◌, map, IfErr, OnOk, List};
+ghost use Rattle.amqp_base.specs.Item.{Item};
+ghost use Rattle.amqp_base.specs.Shapes.{whole};
+ghost use Rattle.amqp_ser.specs.State.{State, state};
 ghost use Rattle.amqp_ser.specs.Law.{Wrote, Refused};
+ghost use Rattle.amqp_ser.specs.Compound.{open_state, Holds, BeginsWith};
 
-use crate::Serializer;
-use amqp_base::{Error, Sink, Typed};
+use crate::{SeqSerializer, Serializer};
+use amqp_base::{Error, Setting, Shape, Sink, Typed};
 use amqp_types::{
     Binary, BinaryRef, Dec32, Dec64, Dec128, Double, Float, Symbol, SymbolRef, Timestamp, Uuid,
 };
@@ -21,6 +24,39 @@ pub trait Serialize: Typed {
     fn serialize<W: Sink>(&self, alloc: Global, ser: &mut Serializer<W>) -> Result<(), Error>
         ensures ok { OnOk result (Wrote (state W.Write W.FaultCount ser.old) (Self.item self.now (state W.Write W.FaultCount ser.old).setting) (state W.Write W.FaultCount ser.new)) }
         ensures err { IfErr result (λ e. Refused (state W.Write W.FaultCount ser.old) (Self.item self.now (state W.Write W.FaultCount ser.old).setting) e (state W.Write W.FaultCount ser.new)) };
+
+    /// Writes the values as the next elements, each as `SeqSerializer::serialize_element` does. A type of one's own has
+    /// no need to say more of it; types whose text is short write many of them at once.
+    fn serialize_each<W: Sink>(
+        values: &[Self],
+        alloc: Global,
+        seq: &mut SeqSerializer<'_, W>,
+    ) -> Result<(), Error>
+    where
+        Self: Sized,
+        ensures same_reference { seq.new.ser.ghost_name ≡ seq.old.ser.ghost_name }
+        ensures ok { OnOk result ((s : State) (shape : Shape) (xs : List Item) → Holds s shape xs (open_state W.Write W.FaultCount seq.old) →
+            Holds s shape (xs ++ map (λ v. Self.item v Setting.Plain) values.now) (open_state W.Write W.FaultCount seq.new)) }
+        ensures err { IfErr result (λ e. (s : State) (shape : Shape) (xs all : List Item) → Holds s shape xs (open_state W.Write W.FaultCount seq.old) →
+            BeginsWith all (xs ++ map (λ v. Self.item v Setting.Plain) values.now) → Refused s (whole shape all) e (state W.Write W.FaultCount seq.new.ser.now)) }
+    {
+        for value in values {
+            if seq.parts.buffer.stopped {
+                return Err(Error::InvalidValue);
+            }
+            match value.serialize(alloc, &mut seq.parts.buffer) {
+                Ok(()) => {
+                    seq.parts.count = seq.parts.count.saturating_add(1);
+                    seq.parts.buffer.turn();
+                }
+                Err(e) => {
+                    seq.parts.buffer.stopped = true;
+                    return Err(e);
+                }
+            }
+        }
+        Ok(())
+    }
 }
 
 impl Serialize for bool {
@@ -100,6 +136,16 @@ impl Serialize for i32 {
             Ok(()) => Ok(()),
             Err(e) => Err(e),
         }
+    }
+
+    #[inline(always)]
+    fn serialize_each<W: Sink>(
+        values: &[i32],
+        alloc: Global,
+        seq: &mut SeqSerializer<'_, W>,
+    ) -> Result<(), Error> {
+        let _ = alloc;
+        seq.each_number(values)
     }
 }
 
@@ -271,12 +317,9 @@ impl<T: Serialize> Serialize for Vec<T> {
             Ok(seq) => seq,
             Err(e) => return Err(e),
         };
-        for value in self {
-            match seq.serialize_element(alloc, value) {
-                Ok(()) => {}
-                Err(e) => return Err(e),
-            }
+        match T::serialize_each(self.as_slice(), alloc, &mut seq) {
+            Ok(()) => seq.end(),
+            Err(e) => Err(e),
         }
-        seq.end()
     }
 }
