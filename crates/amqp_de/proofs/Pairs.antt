@@ -1,16 +1,16 @@
 -- Reading a map, key by key and value by value.
-use Rattle.std.proofs.Common.{◌≡◌, ℕ, suc, ◌%◌, Bool, true, false, ◌&&◌, ◌||◌, List, [], ◌∷◌, ◌++◌, Option, Some, None, Result, Ok, Err, IfOk, IfErr, OnOk, refl, sym, ap, subst, ◌∙◌, arith, IsTrue}
+use Rattle.std.proofs.Common.{◌≡◌, ◌%◌, Bool, true, ◌&&◌, ◌||◌, List, [], ◌∷◌, ◌++◌, Option, Some, None, Result, Ok, Err, IfOk, IfErr, OnOk, refl, sym, ap, subst, ◌∙◌, arith, IsTrue}
 use Rattle.std.proofs.lemmas.List.Sums.{fold-append}
 use Rattle.amqp_base.specs.declared.error.Error.{Error}
 use Rattle.amqp_base.specs.declared.error.Error.TheVariants.{InvalidValue, OutOfMemory}
-use Rattle.amqp_base.specs.Item.{Item, scalar, list, map, array, described, Items, none, more, Pairs, no_pairs, pair, in_turn}
-use Rattle.amqp_base.specs.Maps.{all_pairs_taken, is_map_of, all_pairs_mean, put_in_turn, MeansPairs, means_map}
+use Rattle.amqp_base.specs.Item.{Item, scalar, list, map, array, described, Items, more, Pairs, no_pairs, pair, in_turn}
+use Rattle.amqp_base.specs.Maps.{all_pairs_taken, is_map_of, all_pairs_mean, MeansPairs, means_map}
 use Rattle.amqp_de.specs.Decoding.{Decoding}
 use Rattle.amqp_de.specs.Law.{Found, Missed}
 use Rattle.amqp_de.specs.Parse.{map_data}
 use Rattle.amqp_de.specs.Access.{Listing, HasPairs, Opens, OpensNot, Part, NoPart, Ends, ended}
-use Rattle.amqp_de.specs.ReadParts.{PartsRead, and_last, joined}
-use Rattle.amqp_de.specs.ReadPairs.{KeyNext, ValueNext, broken_off, OutOfTurn, NextKey, NextValue, NextPair, NextEntry, NoEntry, no_key, no_value, and_pair, PairsRead, KeyRead, MoreKey, MoreValue, MorePair, NoMap}
+use Rattle.amqp_de.specs.ReadParts.{and_last, joined}
+use Rattle.amqp_de.specs.ReadPairs.{KeyNext, ValueNext, broken_off, OutOfTurn, NextKey, NextValue, NextPair, NextEntry, no_key, no_value, and_pair, PairsRead, KeyRead, MoreKey, MoreValue, MorePair, NoMap}
 use Rattle.amqp_de.proofs.PartsRead as read
 use Rattle.amqp_de.proofs.PartsRead.{both, left_of, right_of, missed_more}
 use Rattle.amqp_de.proofs.ReadParts.{or_left, or_right, or_more}

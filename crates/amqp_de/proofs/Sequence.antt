@@ -1,5 +1,5 @@
 -- Reading a sequence of parts of one type.
-use Rattle.std.proofs.Common.{◌≡◌, ℕ, Bool, true, false, ◌&&◌, List, [], ◌∷◌, ◌++◌, Err, refl, sym, ◌∙◌, IsTrue, ap}
+use Rattle.std.proofs.Common.{◌≡◌, Bool, true, List, [], ◌∷◌, ◌++◌, Err, refl, IsTrue}
 use Rattle.amqp_base.specs.declared.error.Error.{Error}
 use Rattle.amqp_base.specs.declared.error.Error.TheVariants.{OutOfMemory}
 use Rattle.amqp_base.specs.Item.{Item, scalar, list, map, array, described, Items, none, more}

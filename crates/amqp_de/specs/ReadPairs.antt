@@ -1,5 +1,5 @@
 -- What was read of a map, key by key and value by value.
-use Rattle.std.specs.Prelude.{◌≡◌, ◌%◌, Bool, true, false, IsTrue, Option, Some, None, Result, Ok, Err}
+use Rattle.std.specs.Prelude.{◌≡◌, ◌%◌, Bool, false, IsTrue, Option, Some, None, Result, Ok, Err}
 use Rattle.amqp_base.specs.declared.error.Error.{Error}
 use Rattle.amqp_base.specs.declared.error.Error.TheVariants.{InvalidValue}
 use Rattle.amqp_base.specs.Item.{Item, Pairs, no_pairs, pair, in_turn}

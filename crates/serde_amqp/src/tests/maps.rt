@@ -87,6 +87,7 @@ fn keys_and_values_come_in_turn(rt: HostRuntime) -> Result<(), Fail> {
     let mut pairs = de.deserialize_map()?;
     assert!(rt; matches!(&pairs.next_value::<u32>(alloc), Err(Error::InvalidValue)));
     assert!(rt; matches!(&pairs.next_key::<u32>(alloc), Err(Error::InvalidValue)));
+    assert!(rt; matches!(&pairs.end(), Err(Error::InvalidValue)));
     // a key whose value isn't read
     let mut de = Deserializer::new(SliceReader::new(&bytes));
     let mut pairs = de.deserialize_map()?;

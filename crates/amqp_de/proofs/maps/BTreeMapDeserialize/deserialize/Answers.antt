@@ -1,7 +1,7 @@
-use Rattle.std.proofs.Common.{rules, ◌||◌, refl, sym, ◌∙◌}
+use Rattle.std.proofs.Common.{rules, refl, ◌∙◌}
 use Rattle.std.specs.BTreeMap.{insert_entry}
 use Rattle.amqp_de.proofs.ReadParts.{missed_on, missed_at, found_at}
-use Rattle.amqp_de.proofs.Pairs.{entries_start, entries_step, entries_found, insert_missed}
+use Rattle.amqp_de.proofs.Pairs.{entries_start, entries_step, entries_found}
 use Rattle.amqp_de.proofs.maps.BTreeMapDeserialize.deserialize.Goals as goal
 
 -- no map was opened
