@@ -1,6 +1,9 @@
 //! A plain codec for the same jobs, written by hand: vectors, slices, and every check of a code, a size and a text.
 //! It writes the same canonical bytes.
 
+use std::collections::HashMap;
+use std::collections::hash_map::Entry;
+
 #[derive(Debug)]
 pub enum Error {
     End,
@@ -9,6 +12,7 @@ pub enum Error {
     Size,
     Left,
     Utf8,
+    Value,
     TooLong,
 }
 
@@ -19,6 +23,29 @@ const NARROW: usize = 254;
 
 #[derive(Debug, PartialEq)]
 pub struct Binary(pub Vec<u8>);
+
+/// A map that keeps the order in which its keys came.
+#[derive(Debug, Default, PartialEq)]
+pub struct OrderedMap {
+    pub keys: Vec<String>,
+    pub values: HashMap<String, u32>,
+}
+
+impl OrderedMap {
+    /// A key that is there keeps its place and gets the value.
+    #[inline]
+    pub fn insert(&mut self, key: String, value: u32) {
+        match self.values.entry(key) {
+            Entry::Occupied(mut there) => {
+                there.insert(value);
+            }
+            Entry::Vacant(room) => {
+                self.keys.push(room.key().clone());
+                room.insert(value);
+            }
+        }
+    }
+}
 
 pub trait Encode {
     fn encode(&self, out: &mut Vec<u8>) -> Result<(), Error>;
@@ -37,6 +64,14 @@ pub fn to_vec<T: Encode>(value: &T) -> Result<Vec<u8>, Error> {
 /// The value at the front of the text; what stands behind it is ignored.
 pub fn from_slice<T: Decode>(mut text: &[u8]) -> Result<T, Error> {
     T::decode(&mut text)
+}
+
+impl Encode for bool {
+    #[inline]
+    fn encode(&self, out: &mut Vec<u8>) -> Result<(), Error> {
+        out.push(if *self { 0x41 } else { 0x42 });
+        Ok(())
+    }
 }
 
 impl Encode for u32 {
@@ -110,31 +145,67 @@ impl Encode for Binary {
     }
 }
 
+/// Room is left for the wide header; where the narrow one serves, the body is moved down.
+#[inline]
+fn compound(
+    narrow: u8,
+    wide: u8,
+    count: usize,
+    out: &mut Vec<u8>,
+    parts: impl FnOnce(&mut Vec<u8>) -> Result<(), Error>,
+) -> Result<(), Error> {
+    let start = out.len();
+    out.extend_from_slice(&[wide, 0, 0, 0, 0, 0, 0, 0, 0]);
+    parts(out)?;
+    let body = start + 9;
+    let len = out.len() - body;
+    if len <= NARROW {
+        out[start..start + 3].copy_from_slice(&[narrow, len as u8 + 1, count as u8]);
+        out.copy_within(body.., start + 3);
+        out.truncate(start + 3 + len);
+    } else {
+        let size = u32::try_from(len + 4).map_err(|_| Error::TooLong)?;
+        let count = u32::try_from(count).map_err(|_| Error::TooLong)?;
+        out[start + 1..start + 5].copy_from_slice(&size.to_be_bytes());
+        out[start + 5..body].copy_from_slice(&count.to_be_bytes());
+    }
+    Ok(())
+}
+
 impl<T: Encode> Encode for Vec<T> {
-    /// Room is left for the wide header; where the narrow one serves, the body is moved down.
     fn encode(&self, out: &mut Vec<u8>) -> Result<(), Error> {
         if self.is_empty() {
             out.push(0x45);
             return Ok(());
         }
-        let start = out.len();
-        out.extend_from_slice(&[0xd0, 0, 0, 0, 0, 0, 0, 0, 0]);
-        for item in self {
-            item.encode(out)?;
-        }
-        let body = start + 9;
-        let len = out.len() - body;
-        if len <= NARROW {
-            out[start..start + 3].copy_from_slice(&[0xc0, len as u8 + 1, self.len() as u8]);
-            out.copy_within(body.., start + 3);
-            out.truncate(start + 3 + len);
-        } else {
-            let size = u32::try_from(len + 4).map_err(|_| Error::TooLong)?;
-            let count = u32::try_from(self.len()).map_err(|_| Error::TooLong)?;
-            out[start + 1..start + 5].copy_from_slice(&size.to_be_bytes());
-            out[start + 5..body].copy_from_slice(&count.to_be_bytes());
-        }
-        Ok(())
+        compound(0xc0, 0xd0, self.len(), out, |out| {
+            for item in self {
+                item.encode(out)?;
+            }
+            Ok(())
+        })
+    }
+}
+
+impl<A: Encode, B: Encode, C: Encode> Encode for (A, B, C) {
+    fn encode(&self, out: &mut Vec<u8>) -> Result<(), Error> {
+        compound(0xc0, 0xd0, 3, out, |out| {
+            self.0.encode(out)?;
+            self.1.encode(out)?;
+            self.2.encode(out)
+        })
+    }
+}
+
+impl Encode for OrderedMap {
+    fn encode(&self, out: &mut Vec<u8>) -> Result<(), Error> {
+        compound(0xc1, 0xd1, 2 * self.keys.len(), out, |out| {
+            for key in &self.keys {
+                key.encode(out)?;
+                self.values[key].encode(out)?;
+            }
+            Ok(())
+        })
     }
 }
 
@@ -157,6 +228,22 @@ fn byte(input: &mut &[u8]) -> Result<u8, Error> {
     let (first, rest) = input.split_first().ok_or(Error::End)?;
     *input = rest;
     Ok(*first)
+}
+
+impl Decode for bool {
+    #[inline]
+    fn decode(input: &mut &[u8]) -> Result<bool, Error> {
+        match byte(input)? {
+            0x41 => Ok(true),
+            0x42 => Ok(false),
+            0x56 => match byte(input)? {
+                0 => Ok(false),
+                1 => Ok(true),
+                _ => Err(Error::Value),
+            },
+            _ => Err(Error::Code),
+        }
+    }
 }
 
 impl Decode for u32 {
@@ -224,34 +311,74 @@ impl Decode for Binary {
     }
 }
 
+/// The count of a list or a map, and its body, behind which the input stands.
+#[inline]
+fn body<'a>(narrow: u8, wide: u8, input: &mut &'a [u8]) -> Result<(usize, &'a [u8]), Error> {
+    let code = byte(input)?;
+    let (size, count, width) = if code == narrow {
+        let [size, count] = array(input)?;
+        (usize::from(size), usize::from(count), 1)
+    } else if code == wide {
+        let size = u32::from_be_bytes(array(input)?);
+        let count = u32::from_be_bytes(array(input)?);
+        (size as usize, count as usize, 4)
+    } else {
+        return Err(Error::Code);
+    };
+    if count > MOST {
+        return Err(Error::Count);
+    }
+    let len = size.checked_sub(width).ok_or(Error::Size)?;
+    Ok((count, take(input, len)?))
+}
+
+#[inline]
+fn ended<T>(body: &[u8], value: T) -> Result<T, Error> {
+    if !body.is_empty() {
+        return Err(Error::Left);
+    }
+    Ok(value)
+}
+
 impl<T: Decode> Decode for Vec<T> {
     fn decode(input: &mut &[u8]) -> Result<Vec<T>, Error> {
-        let (size, count, width) = match byte(input)? {
-            0x45 => return Ok(Vec::new()),
-            0xc0 => {
-                let [size, count] = array(input)?;
-                (usize::from(size), usize::from(count), 1)
-            }
-            0xd0 => {
-                let size = u32::from_be_bytes(array(input)?);
-                let count = u32::from_be_bytes(array(input)?);
-                (size as usize, count as usize, 4)
-            }
-            _ => return Err(Error::Code),
-        };
-        if count > MOST {
-            return Err(Error::Count);
+        if let Some((0x45, rest)) = input.split_first() {
+            *input = rest;
+            return Ok(Vec::new());
         }
-        let len = size.checked_sub(width).ok_or(Error::Size)?;
-        let mut body = take(input, len)?;
+        let (count, mut body) = body(0xc0, 0xd0, input)?;
         // Each element is a byte at least, so a stranger's count asks for no more than that.
-        let mut items = Vec::with_capacity(count.min(len));
+        let mut items = Vec::with_capacity(count.min(body.len()));
         for _ in 0..count {
             items.push(T::decode(&mut body)?);
         }
-        if !body.is_empty() {
-            return Err(Error::Left);
+        ended(body, items)
+    }
+}
+
+impl<A: Decode, B: Decode, C: Decode> Decode for (A, B, C) {
+    fn decode(input: &mut &[u8]) -> Result<(A, B, C), Error> {
+        let (count, mut body) = body(0xc0, 0xd0, input)?;
+        if count != 3 {
+            return Err(Error::Count);
         }
-        Ok(items)
+        let parts = (A::decode(&mut body)?, B::decode(&mut body)?, C::decode(&mut body)?);
+        ended(body, parts)
+    }
+}
+
+impl Decode for OrderedMap {
+    fn decode(input: &mut &[u8]) -> Result<OrderedMap, Error> {
+        let (count, mut body) = body(0xc1, 0xd1, input)?;
+        if count % 2 == 1 {
+            return Err(Error::Count);
+        }
+        let mut map = OrderedMap::default();
+        for _ in 0..count / 2 {
+            let key = String::decode(&mut body)?;
+            let value = u32::decode(&mut body)?;
+            map.insert(key, value);
+        }
+        ended(body, map)
     }
 }

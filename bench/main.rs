@@ -9,7 +9,7 @@ mod plain;
 #[cfg(not(counting))]
 mod timing;
 
-use codec::Binary;
+use codec::{Binary, OrderedMap};
 use std::fmt::Write;
 
 type OursEncode = unsafe extern "C" fn(*const u8, usize, u32, *mut u8, usize) -> usize;
@@ -28,6 +28,10 @@ unsafe extern "C" {
     fn amqp_bench_decode_longs(text: *const u8, len: usize, times: u32) -> usize;
     fn amqp_bench_encode_string(text: *const u8, len: usize, times: u32, out: *mut u8, room: usize) -> usize;
     fn amqp_bench_decode_string(text: *const u8, len: usize, times: u32) -> usize;
+    fn amqp_bench_encode_tuple(text: *const u8, len: usize, times: u32, out: *mut u8, room: usize) -> usize;
+    fn amqp_bench_decode_tuple(text: *const u8, len: usize, times: u32) -> usize;
+    fn amqp_bench_encode_map(text: *const u8, len: usize, times: u32, out: *mut u8, room: usize) -> usize;
+    fn amqp_bench_decode_map(text: *const u8, len: usize, times: u32) -> usize;
 }
 
 /// A value by its text, and the calls for its type.
@@ -145,6 +149,12 @@ fn cases() -> Vec<Case> {
     let binary = Binary((0..1 << 20).map(|_| n.next() as u8).collect());
     let longs: Vec<u64> = (0..10_000).map(|_| n.long()).collect();
     let string = n.text(12);
+    let tuple = (true, n.long(), n.text(12));
+    let mut map = OrderedMap::default();
+    for _ in 0..1_000 {
+        let key = n.text(20);
+        map.insert(key, n.long() as u32);
+    }
     vec![
         Case::new("vec of 10000 i32", ints, amqp_bench_encode_ints, amqp_bench_decode_ints),
         Case::new("vec of 1000 strings of 20", strings, amqp_bench_encode_strings, amqp_bench_decode_strings),
@@ -152,6 +162,8 @@ fn cases() -> Vec<Case> {
         Case::new("binary of 1 MiB", binary, amqp_bench_encode_binary, amqp_bench_decode_binary),
         Case::new("vec of 10000 u64", longs, amqp_bench_encode_longs, amqp_bench_decode_longs),
         Case::new("string of 12", string, amqp_bench_encode_string, amqp_bench_decode_string),
+        Case::new("tuple bool, u64, string", tuple, amqp_bench_encode_tuple, amqp_bench_decode_tuple),
+        Case::new("map of 1000 strings", map, amqp_bench_encode_map, amqp_bench_decode_map),
     ]
 }
 
