@@ -18,6 +18,7 @@ pub mod OneValue
 pub mod ReadBack
 pub mod Options
 pub mod Fields
+pub mod NamedFields
 pub mod Maps
 pub mod MapsReadBack
 pub mod Faults

@@ -15,7 +15,7 @@ use Rattle.amqp_de.specs.ReadParts.{NoTuple, RefusesTuple}
 use Rattle.amqp_de.proofs.PartsRead.{right_of, missed_more}
 use Rattle.amqp_de.proofs.ReadParts.{fields_unopened, progress_start, not_taken}
 
-count_fields : (fields : List (Item → Bool)) (is : Items) → IsTrue (all_fields fields is) → count is ≡ length fields
+pub count_fields : (fields : List (Item → Bool)) (is : Items) → IsTrue (all_fields fields is) → count is ≡ length fields
 count_fields [] none t = refl
 count_fields [] (more i is) t = absurd cc
 count_fields (f ∷ fs) none t = absurd cc

@@ -18,5 +18,9 @@ pub mod Pairs
 pub mod JustSoMany
 pub mod Looking
 pub mod LookedFirst
+pub mod Slots
+pub mod StructRead
+pub mod StructForms
+pub mod FormsOpened
 pub mod Decimals
 pub mod Nulls

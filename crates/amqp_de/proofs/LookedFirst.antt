@@ -30,7 +30,7 @@ keeps_consumes (Some t) None m x h c = absurd h
 keeps_consumes (Some t) (Some u) None x h c = absurd c
 keeps_consumes (Some t) (Some u) (Some v) x h c = sym h ∙ c
 
-excused_kept : {grows buffers : Bool} (old mid new : Reading) (e : Error) → Stays old mid → Excused grows buffers mid new e → Excused grows buffers old new e
+pub excused_kept : {grows buffers : Bool} (old mid new : Reading) (e : Error) → Stays old mid → Excused grows buffers mid new e → Excused grows buffers old new e
 excused_kept old mid new e s (no_memory p q) = no_memory p q
 excused_kept old mid new e s (faulted p q) = faulted (let f = s.steady.faults in omega (arith, f, p)) q
 excused_kept old mid new e s (uncounted p q o) = uncounted p q (keeps_overfull old.taken old.to_come mid.to_come s.to_come (rw s.taken at o))
@@ -39,7 +39,7 @@ excused_kept old mid new e s (uncounted p q o) = uncounted p q (keeps_overfull o
 pub same_place : (old mid : Decoding) (x : EncodingCodes) → Looks old mid x → stands_under mid ≡ stands_under old
 same_place old mid x l = rw (l.inherited, l.described) refl
 
-takes_behind : (n : ℕ) (old mid new : Reading) (x : List ℕ) → Looked n old mid → n ≤ length x → Takes mid new x → Takes old new x
+pub takes_behind : (n : ℕ) (old mid new : Reading) (x : List ℕ) → Looked n old mid → n ≤ length x → Takes mid new x → Takes old new x
 takes_behind n old mid new x l h t = record {
   to_come = keeps_consumes old.to_come mid.to_come new.to_come x l.stays.to_come t.to_come;
   taken = omega (arith, t.taken, l.stays.taken);
@@ -130,7 +130,7 @@ missed_unseen takes grows buffers old new e g n = record {
 pub missed_look : (k : Kind) (buffers : Bool) (old new : Decoding) (e : Error) → LooksNot buffers old new e → Missed (is_of k) true buffers old new e
 missed_look k buffers old new e n = missed_unseen (is_of k) true buffers old new e (λ b. refl) n
 
-custom_device : (text : List ℕ) (e : Error) → IsCustom text e → IsDevice e → ⊥
+pub custom_device : (text : List ℕ) (e : Error) → IsCustom text e → IsDevice e → ⊥
 custom_device text (Message s) c d = d
 custom_device text OutOfMemory c d = d
 custom_device text (Io k) c d = c

@@ -83,7 +83,7 @@ not_a_map b buffers r p q = rejects_here (behind_byte map_data b) r InvalidForma
 
 -- ---- a map that stands parses
 
-map_codes : (e : EncodingCodes) → (row e).kind ≡ Kind.map → (e ≡ Map8) ⊎ (e ≡ Map32)
+pub map_codes : (e : EncodingCodes) → (row e).kind ≡ Kind.map → (e ≡ Map8) ⊎ (e ≡ Map32)
 unfolding row
 map_codes Map8 h = inl refl
 map_codes Map32 h = inr refl

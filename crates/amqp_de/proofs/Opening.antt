@@ -1,5 +1,6 @@
 -- Opening an item with parts.
 use Rattle.std.proofs.Common.{◌≡◌, ℕ, ◌+◌, ◌*◌, ◌<◌, ◌≤◌, min, Bool, true, List, ◌++◌, length, Option, Some, Ok, Err, refl, sym, subst, ◌∙◌, arith, inl, inr, ◌⊎◌, append_assoc, IsTrue}
+use Rattle.std.proofs.lemmas.List.{length-append}
 use Rattle.amqp_base.specs.declared.error.Error.{Error}
 use Rattle.amqp_base.specs.declared.format_code.EncodingCodes.{EncodingCodes}
 use Rattle.amqp_base.specs.Item.{Item, scalar, list, map, array, described, Items}
@@ -10,6 +11,7 @@ use Rattle.amqp_de.specs.Decoding.{Decoding, stands_under}
 use Rattle.amqp_de.specs.Law.{Excused, free}
 use Rattle.amqp_de.specs.Parse.{Parsed, byte_under, behind_byte, item_at}
 use Rattle.amqp_de.specs.Steps.{Begins, BeginsNot, IsDescribed, Rejects, ParsesAs}
+use Rattle.amqp_de.specs.Look.{looked_at}
 use Rattle.amqp_de.specs.Access.{Listing, HasParts, HasPairs, shared_by, cost, OpensData, Opens, OpensExactly, OpensNot}
 use Rattle.amqp_de.proofs.Readings.{steady_then, takes_then, excused_before}
 use Rattle.amqp_de.proofs.Answered.{byte_stands, not_refused}
@@ -28,6 +30,11 @@ map_plain (array is) js p d = p
 map_plain (scalar v) js p d = p
 map_plain (map ps) js p d = d
 map_plain (described d v) js p q = p
+
+own_room : (c : Constructor) (n m : ℕ) → 1 ≤ free c + n → looked_at c ≤ n + m
+own_room bare n m h = omega (arith, h)
+own_room (under e) n m h = omega arith
+own_room (under_pair d e) n m h = omega arith
 
 nothing_left : (c : Constructor) (n : ℕ) → n ≡ 0 → cost c n ≡ 0
 nothing_left bare n h = refl
@@ -55,6 +62,7 @@ opens Has plain old mid r x c begun left limit n-is a b d = record {
       let o = b.only t rest i (plain i is p) w at in
       let same : o.0 ≡ d.code = some_is (sym o.2 ∙ d.code_is) in
       d.only o.1 rest i is p (subst (λ (z : EncodingCodes). Wire lenient (under z) o.1 i) same o.3) o.4;
+  own = rw (length-append b.text d.text) (own_room (stands_under old) (length b.text) (length d.text) b.room);
   answered = a;
   outer = b.inherited;
   described = b.described;

@@ -17,11 +17,11 @@ use Rattle.amqp_de.proofs.ReadParts.{or_left, or_right, or_more}
 
 -- ---- pairs, and keys and values in turn
 
-pair_turn : (ps : Pairs) (k v : Item) → in_turn (and_pair ps k v) ≡ and_last (and_last (in_turn ps) k) v
+pub pair_turn : (ps : Pairs) (k v : Item) → in_turn (and_pair ps k v) ≡ and_last (and_last (in_turn ps) k) v
 pair_turn no_pairs k v = refl
 pair_turn (pair i j ps) k v = ap (λ (x : Items). more i (more j x)) (pair_turn ps k v)
 
-one_turn : (ps qs : Pairs) → in_turn ps ≡ in_turn qs → ps ≡ qs
+pub one_turn : (ps qs : Pairs) → in_turn ps ≡ in_turn qs → ps ≡ qs
 one_turn no_pairs no_pairs h = refl
 one_turn no_pairs (pair k l qs) h = absurd cc
 one_turn (pair i j ps) no_pairs h = absurd cc

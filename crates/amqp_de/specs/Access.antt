@@ -13,6 +13,7 @@ use Rattle.amqp_read.specs.Reading.{Reading, Takes, Steady}
 use Rattle.amqp_de.specs.Decoding.{Decoding, stands_under, ready}
 use Rattle.amqp_de.specs.Law.{Front, Excused, Spent, free, refused_free}
 use Rattle.amqp_de.specs.Parse.{Parsed, item_at}
+use Rattle.amqp_de.specs.Look.{looked_at}
 use Rattle.amqp_de.specs.Steps.{Rejects}
 
 -- an open access
@@ -90,6 +91,8 @@ pub record Opens (Has : Item → Items → Type 0) (old : Decoding) (l : Listing
       → (i : Item) × Wire lenient (stands_under old) (text ++ b) i × Has i is × (old.begun + items_under (stands_under old) i ≡ l.state.begun + items_of_all l.state.inherited is)
   pub only : (t rest : List ℕ) (i : Item) (is : Items) → Has i is → Wire lenient (stands_under old) t i → old.reading.to_come ≡ Some (t ++ rest)
       → (b : List ℕ) × Parts lenient l.state.inherited b is × (count is ≡ l.left) × Within l.limit (l.state.reading.taken + length b) × (l.state.reading.to_come ≡ Some (b ++ rest))
+  -- a byte that a look would show is the item's own
+  pub own : looked_at (stands_under old) ≤ length text
   pub answered : IsTrue old.answers
   pub outer : l.outer ≡ old.inherited
   pub described : l.state.described ≡ false

@@ -3,10 +3,12 @@ pub mod Parse
 pub mod Law
 pub mod Steps
 pub mod Places
+pub mod Look
 pub mod Access
 pub mod Seq
 pub mod ReadParts
 pub mod ReadPairs
-pub mod Look
+pub mod ReadFields
+pub mod Forms
 pub mod OneCode
 pub mod Decimals

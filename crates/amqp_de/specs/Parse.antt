@@ -148,3 +148,9 @@ unfoldable pub map_data : EncodingCodes → List ℕ → Parsed ℕ
 map_data Map8 s = pairs_at 1 s
 map_data Map32 s = pairs_at 4 s
 map_data _ s = Err InvalidFormatCode
+
+-- a list of just so many elements, or a map
+unfoldable pub struct_data : ℕ → EncodingCodes → List ℕ → Parsed ℕ
+struct_data len Map8 s = map_data Map8 s
+struct_data len Map32 s = map_data Map32 s
+struct_data len e s = tuple_data len e s

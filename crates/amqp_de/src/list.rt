@@ -12,6 +12,7 @@ ghost use Rattle.amqp_de.specs.Law.{Found, Missed};
 ghost use Rattle.amqp_de.specs.Parse.{list_data, tuple_data};
 ghost use Rattle.amqp_de.specs.Places.{constructor_of, limit_of};
 ghost use Rattle.amqp_de.specs.ReadParts.{Progress, HasRead, MoreRead, RefusesParts, RefusesTuple, open_list};
+ghost use Rattle.amqp_de.specs.ReadPairs.{broken_off};
 ghost use Rattle.amqp_de.specs.Seq.{listing};
 ghost use Rattle.amqp_de.specs.contracts.deserializer.Deserializer.{the_row};
 
@@ -140,7 +141,7 @@ impl<R: Read> Deserializer<R> {
 
     /// Begins a list of just so many parts.
     #[inline(always)]
-    fn open_tuple(&mut self, len: usize) -> Result<Opened, Error>
+    pub(crate) fn open_tuple(&mut self, len: usize) -> Result<Opened, Error>
         ensures ok { IfOk result (λ o. Opens HasParts self.old (record { state = self.new; left = o.left; answers = true; outer = constructor_of o.beyond.outer; limit = limit_of o.beyond.limit })) }
         ensures exact { IfOk result (λ o. OpensExactly (tuple_data len) self.old (record { state = self.new; left = o.left; answers = true; outer = constructor_of o.beyond.outer; limit = limit_of o.beyond.limit })) }
         ensures len { IfOk result (λ o. o.left ≡ len) }
@@ -236,6 +237,17 @@ pub struct Ended<'a, R: Read> {
 }
 
 impl<'a, R: Read> ListAccess<'a, R> {
+    /// A call of another form: the access is ended.
+    #[inline(always)]
+    pub(crate) fn refuse(&mut self) -> Error
+        ensures same_reference { self.new.de.ghost_name ≡ self.old.de.ghost_name }
+        ensures error { result ≡ Error.InvalidValue }
+        ensures broken { listing self.new ≡ broken_off (listing self.old) }
+    {
+        self.answers = false;
+        Error::InvalidValue
+    }
+
     #[inline(always)]
     pub(crate) fn closed(self) -> Result<Ended<'a, R>, Error>
         ensures* refused { sem 𝓛 (RestsIfErr (the_row R.row R.Read) self.entry.de (λ d. d.de.ghost_name) result (λ last. last ≡ shut (listing self.entry))) }
@@ -254,7 +266,7 @@ impl<'a, R: Read> ListAccess<'a, R> {
 }
 
 impl<R: Read> Deserializer<R> {
-    fn ended(&mut self, left: u32, answers: bool, beyond: Beyond) -> Result<Ended<'_, R>, Error>
+    pub(crate) fn ended(&mut self, left: u32, answers: bool, beyond: Beyond) -> Result<Ended<'_, R>, Error>
         ensures* refused { sem 𝓛 (RestsIfErr (the_row R.row R.Read) self.entry (λ d. d.de.ghost_name) result (λ last. last ≡ shut (record { state = self.old; left = left; answers = answers; outer = constructor_of beyond.outer; limit = limit_of beyond.limit }))) }
         ensures same_reference { IfOk result (λ d. d.de.ghost_name ≡ self.entry.ghost_name) }
         ensures ok { IfOk result (λ d. Ends (record { state = self.old; left = left; answers = answers; outer = constructor_of beyond.outer; limit = limit_of beyond.limit }) (Ok tt) d.de.now) }

@@ -4,17 +4,17 @@ ghost use Rattle.std.specs.Prelude.{◌≡◌, ◌%◌, Bool, true, false, ◌||
 ghost use Rattle.std.specs.Borrow.{sem, RestsIfErr};
 ghost use Rattle.amqp_base.specs.Item.{Item, Pairs, no_pairs, map};
 ghost use Rattle.amqp_base.specs.Maps.{is_map_of};
-ghost use Rattle.amqp_de.specs.Access.{Listing, HasPairs, Ends, Opens, OpensExactly, OpensNot};
+ghost use Rattle.amqp_de.specs.Access.{Listing, HasPairs, Ends, Opens, OpensExactly, OpensNot, shut};
 ghost use Rattle.amqp_de.specs.Decoding.{Decoding};
 ghost use Rattle.amqp_de.specs.Law.{Found, Missed};
 ghost use Rattle.amqp_de.specs.Parse.{map_data};
 ghost use Rattle.amqp_de.specs.Places.{constructor_of, limit_of};
-ghost use Rattle.amqp_de.specs.ReadPairs.{map_listing, open_map, KeyNext, ValueNext, NextKey, NextValue, NextEntry, PairsRead, KeyRead, MoreKey, MoreValue, MorePair, NoMap};
+ghost use Rattle.amqp_de.specs.ReadPairs.{map_listing, open_map, broken_off, KeyNext, ValueNext, NextKey, NextValue, NextEntry, PairsRead, KeyRead, MoreKey, MoreValue, MorePair, NoMap};
 ghost use Rattle.amqp_de.specs.contracts.deserializer.Deserializer.{the_row};
 
 use crate::constructor::Constructor;
 use crate::header::map_count;
-use crate::list::{Beyond, Opened};
+use crate::list::{Beyond, Ended, Opened};
 use crate::{Deserialize, Deserializer};
 use amqp_base::Error;
 use amqp_read::Read;
@@ -24,11 +24,11 @@ use std::mem;
 /// The keys and values of a map (part 1, section 1.6.23), one pair at a time. Its deserializer answers nothing until `end`
 /// succeeded; where the access is dropped before, the deserializer is ended.
 pub struct MapAccess<'a, R: Read, B = Beyond> {
-    de: &'a mut Deserializer<R>,
+    pub(crate) de: &'a mut Deserializer<R>,
     // keys and values: where their number is odd, the value of the last key comes next
-    left: u32,
-    answers: bool,
-    beyond: B,
+    pub(crate) left: u32,
+    pub(crate) answers: bool,
+    pub(crate) beyond: B,
 }
 
 impl<R: Read, B: Drop> Drop for MapAccess<'_, R, B> {
@@ -72,7 +72,7 @@ impl<R: Read> Deserializer<R> {
 
     /// Begins a map: its header is consumed.
     #[inline(always)]
-    fn open_pairs(&mut self) -> Result<Opened, Error>
+    pub(crate) fn open_pairs(&mut self) -> Result<Opened, Error>
         ensures ok { IfOk result (λ o. Opens HasPairs self.old (record { state = self.new; left = o.left; answers = true; outer = constructor_of o.beyond.outer; limit = limit_of o.beyond.limit })) }
         ensures exact { IfOk result (λ o. OpensExactly map_data self.old (record { state = self.new; left = o.left; answers = true; outer = constructor_of o.beyond.outer; limit = limit_of o.beyond.limit })) }
         ensures err { IfErr result (λ e. NoMap R.buffers self.old self.new e) }
@@ -246,5 +246,34 @@ impl<'a, R: Read> MapAccess<'a, R> {
             beyond,
         } = self;
         de.close(left, answers, beyond)
+    }
+}
+
+impl<'a, R: Read> MapAccess<'a, R> {
+    /// A call of another form: the access is ended.
+    #[inline(always)]
+    pub(crate) fn refuse(&mut self) -> Error
+        ensures same_reference { self.new.de.ghost_name ≡ self.old.de.ghost_name }
+        ensures error { result ≡ Error.InvalidValue }
+        ensures broken { map_listing self.new ≡ broken_off (map_listing self.old) }
+    {
+        self.answers = false;
+        Error::InvalidValue
+    }
+
+    #[inline(always)]
+    pub(crate) fn closed(self) -> Result<Ended<'a, R>, Error>
+        ensures* refused { sem 𝓛 (RestsIfErr (the_row R.row R.Read) self.entry.de (λ d. d.de.ghost_name) result (λ last. last ≡ shut (map_listing self.entry))) }
+        ensures same_reference { IfOk result (λ d. d.de.ghost_name ≡ self.entry.de.ghost_name) }
+        ensures ok { IfOk result (λ d. Ends (map_listing self.entry) (Ok tt) d.de.now) }
+        ensures err { IfErr result (λ e. Ends (map_listing self.entry) (Err e) (shut (map_listing self.entry))) }
+    {
+        let MapAccess {
+            de,
+            left,
+            answers,
+            beyond,
+        } = self;
+        de.ended(left, answers, beyond)
     }
 }

@@ -1,23 +1,28 @@
 -- What is read and written again.
-use Rattle.std.proofs.Common.{◌≡◌, ◌≢◌, ℕ, ◌≤◌, Bool, true, false, ◌||◌, IsTrue, ℤ, List, [], ◌∷◌, ◌++◌, length, take, drop, map, Option, Some, None, Result, Ok, Err, refl, sym, ap, ◌∙◌, arith, inl, inr, ◌⊎◌}
+use Rattle.std.proofs.Common.{◌≡◌, ◌≢◌, ℕ, ◌≤◌, String, Bool, true, false, ◌||◌, IsTrue, ℤ, List, [], ◌∷◌, ◌++◌, length, take, drop, map, fold, string_bytes, Option, Some, None, Result, Ok, Err, refl, sym, ap, ◌∙◌, arith, inl, inr, ◌⊎◌}
 use Rattle.std.proofs.lemmas.List.{length-append, take_at, take-append-drop}
 use Rattle.std.proofs.lemmas.Option.{same_Some}
 use Rattle.std.specs.Prelude.{IfOk}
 use Rattle.std.specs.Io.KnownBytes.{Consumes}
+use Rattle.std.specs.Global.{Global}
+use Rattle.std.specs.Str.{bytes_eq}
+use Rattle.indexmap.specs.IndexMap.{insert_entry}
 use Rattle.amqp_base.specs.declared.error.Error.{Error}
 use Rattle.amqp_base.specs.declared.error.Error.TheVariants.{OutOfMemory}
-use Rattle.amqp_base.specs.Item.{int, Item, scalar, list, map as map_item, array, described, Items, none, more, items_of}
+use Rattle.amqp_base.specs.Item.{int, uint, string, Item, scalar, list, map as map_item, array, described, Items, none, more, items_of, Pairs, no_pairs, pair}
 use Rattle.amqp_base.specs.Wire.{lenient, bare, Front}
 use Rattle.amqp_base.specs.Canon.{canon}
 use Rattle.amqp_base.specs.Typing.{all_mean, means_list}
-use Rattle.amqp_base.specs.Shapes.{whole}
+use Rattle.amqp_base.specs.Maps.{all_pairs_mean, means_map, pair_items}
+use Rattle.amqp_base.specs.Shapes.{whole, pairs_of}
 use Rattle.amqp_base.specs.declared.shape.Shape.{Shape}
 use Rattle.amqp_base.proofs.OneFront.{same_wire}
 use Rattle.amqp_read.specs.Reading.{Reading}
 use Rattle.amqp_de.specs.Decoding.{Decoding}
 use Rattle.amqp_de.specs.Law.{Found, Missed, Excused, no_memory, faulted, uncounted}
-use Rattle.amqp_probe.specs.Codec.{Decoded, Recodes, Recoded, IsRefused, takes}
+use Rattle.amqp_probe.specs.Codec.{Decoded, Recodes, Recoded, IsRefused, takes, kept, same_key, put_pair, put_pairs}
 use Rattle.amqp_probe.specs.declared.kind.Kind.{Kind}
+use Rattle.amqp_probe.specs.declared.kind.Kind.TheVariants.{MapStringU32}
 use Rattle.amqp_probe.specs.declared.codec.Outcome.{Outcome}
 use Rattle.amqp_probe.specs.declared.codec.Outcome.TheVariants.{Value, Refused}
 
@@ -65,9 +70,9 @@ read_none taken_by grows s e old new q d m i n f t =
     let k : Missed taken_by (grows || false) false (fresh s) new e = rw q at m in
     d (excused (grows || false) _ _ e (k.why refl i (take n s) (drop n s) f.spelled t (ap Some (sym (take-append-drop n s))) refl))
 
--- ---- for a type whose values are written as the items that mean them
+-- ---- for a type whose values are written as the items that mean them, or as what is kept of them
 
-pub decoded_as : {T : Type 0} (kind : Kind) (means : Item → T → Type 0) (written : T → Item) (s : List ℕ) (o : Outcome) → ((i : Item) (v : T) → means i v → written v ≡ i) → Recoded (takes kind) means written s o → Decoded kind s o
+pub decoded_as : {T : Type 0} (kind : Kind) (means : Item → T → Type 0) (written : T → Item) (s : List ℕ) (o : Outcome) → ((i : Item) (v : T) → means i v → written v ≡ kept kind i) → Recoded (takes kind) means written s o → Decoded kind s o
 decoded_as kind means written s (Value canonical rest) w (n, r, left) = record {
   item = r.item;
   consumed = n;
@@ -81,7 +86,7 @@ decoded_as kind means written s (Refused e) w (d, inr (n, r)) = (
   d,
   λ canonical rest h.
       let same = same_item s h.item r.item h.consumed n h.front r.front in
-      let none_is : canon h.item ≡ None = ap canon (same ∙ sym (w r.item r.value r.meant)) ∙ r.text in
+      let none_is : canon (kept kind h.item) ≡ None = ap canon (ap (kept kind) same ∙ sym (w r.item r.value r.meant)) ∙ r.text in
       absurd cc (none_is, h.text),
 )
 
@@ -100,7 +105,46 @@ int_list (map_item ps) vs m = absurd m
 int_list (array is) vs m = absurd m
 int_list (described d v) vs m = absurd m
 
-pub decoded_ok : {T : Type 0} (kind : Kind) (means : Item → T → Type 0) (written : T → Item) (s : List ℕ) (r : Result Outcome Error) → ((i : Item) (v : T) → means i v → written v ≡ i)
+-- ---- a map is written as what is kept of the map that means it
+
+abbrev text_of_key : String Global → Item
+text_of_key k = scalar (string (string_bytes k))
+
+abbrev number_of : ℕ → Item
+number_of n = scalar (uint n)
+
+abbrev entry_pairs : List (String Global × ℕ) → Pairs
+entry_pairs [] = no_pairs
+entry_pairs (e ∷ es) = pair (text_of_key e.0) (number_of e.1) (entry_pairs es)
+
+module _ (eq : String Global → String Global → Bool) (as_bytes : (a b : String Global) → eq a b ≡ bytes_eq (string_bytes a) (string_bytes b)) where
+  put_one : (es : List (String Global × ℕ)) (k : String Global) (v : ℕ) → entry_pairs (insert_entry eq es k v) ≡ put_pair (entry_pairs es) (text_of_key k) (number_of v)
+  put_one [] k v = refl
+  put_one (e ∷ es) k v = tell (bytes_eq (string_bytes k) (string_bytes e.0)) refl
+    where
+      tell : (b : Bool) → bytes_eq (string_bytes k) (string_bytes e.0) ≡ b → entry_pairs (insert_entry eq (e ∷ es) k v) ≡ put_pair (entry_pairs (e ∷ es)) (text_of_key k) (number_of v)
+      tell true h = rw (as_bytes k e.0, h) refl
+      tell false h = rw (as_bytes k e.0, h, put_one es k v) refl
+
+  put_many : (ps : Pairs) (rows es : List (String Global × ℕ)) → all_pairs_mean (λ i k. i ≡ text_of_key k) (λ i (n : ℕ). i ≡ number_of n) ps rows → entry_pairs (fold (λ (done : List (String Global × ℕ)) (r : String Global × ℕ). insert_entry eq done r.0 r.1) es rows) ≡ put_pairs (entry_pairs es) ps
+  put_many no_pairs [] es m = refl
+  put_many no_pairs (r ∷ rows) es m = absurd m
+  put_many (pair k v ps) [] es m = absurd m
+  put_many (pair k v ps) (r ∷ rows) es m = rw (m.0, m.1.0) (put_many ps rows (insert_entry eq es r.0 r.1) m.1.1 ∙ ap (λ (z : Pairs). put_pairs z ps) (put_one es r.0 r.1))
+
+  entry_items : (es : List (String Global × ℕ)) → pairs_of (pair_items text_of_key number_of es) ≡ entry_pairs es
+  entry_items [] = refl
+  entry_items (e ∷ es) = ap (pair (text_of_key e.0) (number_of e.1)) (entry_items es)
+
+  pub map_kept : (i : Item) (es : List (String Global × ℕ)) → means_map (λ i k. i ≡ text_of_key k) (λ i (n : ℕ). i ≡ number_of n) (insert_entry eq) i es → whole Shape.Map (pair_items text_of_key number_of es) ≡ kept MapStringU32 i
+  unfolding whole
+  map_kept (map_item ps) es m = ap map_item (entry_items es ∙ (ap entry_pairs m.placed ∙ put_many ps m.rows [] m.mean))
+  map_kept (list is) es m = absurd m
+  map_kept (scalar v) es m = absurd m
+  map_kept (array is) es m = absurd m
+  map_kept (described d v) es m = absurd m
+
+pub decoded_ok : {T : Type 0} (kind : Kind) (means : Item → T → Type 0) (written : T → Item) (s : List ℕ) (r : Result Outcome Error) → ((i : Item) (v : T) → means i v → written v ≡ kept kind i)
     → IfOk r (λ o. Recoded (takes kind) means written s o) → IfOk r (λ o. Decoded kind s o)
 decoded_ok kind means written s (Ok o) w d = decoded_as kind means written s o w d
 decoded_ok kind means written s (Err e) w d = tt

@@ -1,14 +1,16 @@
 -- What a type's codec makes of bytes.
-use Rattle.std.specs.Prelude.{◌≡◌, ◌≢◌, ◌⊎◌, ℕ, ◌-◌, Bool, true, IsTrue, List, length, Option, Some, None}
+use Rattle.std.specs.Prelude.{◌≡◌, ◌≢◌, ◌⊎◌, ℕ, ◌-◌, Bool, true, false, if◌then◌else◌, IsTrue, List, length, Option, Some, None}
+use Rattle.std.specs.Str.{bytes_eq}
 use Rattle.amqp_base.specs.declared.error.Error.{Error}
 use Rattle.amqp_base.specs.declared.error.Error.TheVariants.{OutOfMemory}
 use Rattle.amqp_base.specs.Codes.{Kind as ItemKind}
-use Rattle.amqp_base.specs.Item.{Item}
+use Rattle.amqp_base.specs.Item.{Item, scalar, map, string, Pairs, no_pairs, pair}
 use Rattle.amqp_base.specs.Wire.{lenient, bare, Front}
 use Rattle.amqp_base.specs.Canon.{canon}
+use Rattle.amqp_base.specs.Maps.{is_map_of}
 use Rattle.amqp_base.specs.Typing.{is_of, is_list_of}
 use Rattle.amqp_probe.specs.declared.kind.Kind.{Kind}
-use Rattle.amqp_probe.specs.declared.kind.Kind.TheVariants.{Bool as Boolean, I32, U32, U64, String, Symbol, ListI32}
+use Rattle.amqp_probe.specs.declared.kind.Kind.TheVariants.{Bool as Boolean, I32, U32, U64, String, Symbol, ListI32, MapStringU32}
 use Rattle.amqp_probe.specs.declared.codec.Outcome.{Outcome}
 use Rattle.amqp_probe.specs.declared.codec.Outcome.TheVariants.{Value, Refused}
 
@@ -21,14 +23,34 @@ takes U64 = is_of ItemKind.ulong
 takes String = is_of ItemKind.string
 takes Symbol = is_of ItemKind.symbol
 takes ListI32 = is_list_of (is_of ItemKind.int)
+takes MapStringU32 = is_map_of (is_of ItemKind.string) (is_of ItemKind.uint)
 
--- An item that the type takes is spelled at the front of the bytes, and has a canonical text. It is the item of its value.
+-- two keys are the same string
+abbrev pub same_key : Item → Item → Bool
+same_key (scalar (string a)) (scalar (string b)) = bytes_eq a b
+same_key i j = false
+
+-- the pairs and one more: a key that is there keeps its place and gets the value, and a new one goes last
+abbrev pub put_pair : Pairs → Item → Item → Pairs
+put_pair no_pairs k v = pair k v no_pairs
+put_pair (pair i w ps) k v = if same_key k i then pair i v ps else pair i w (put_pair ps k v)
+
+abbrev pub put_pairs : Pairs → Pairs → Pairs
+put_pairs done no_pairs = done
+put_pairs done (pair k v ps) = put_pairs (put_pair done k v) ps
+
+-- The item of the value that an item is read as: of a map, of equal keys the first with the last value.
+abbrev pub kept : Kind → Item → Item
+kept MapStringU32 (map ps) = map (put_pairs no_pairs ps)
+kept kind i = i
+
+-- An item that the type takes is spelled at the front of the bytes, and the item of its value has a canonical text.
 pub record HasText (kind : Kind) (bytes canonical : List ℕ) (rest : ℕ) : Type 0 where
   pub item : Item
   pub consumed : ℕ
   pub front : Front lenient bare bytes item consumed
   pub taken : takes kind item ≡ true
-  pub text : canon item ≡ Some canonical
+  pub text : canon (kept kind item) ≡ Some canonical
   pub left : rest ≡ length bytes - consumed
 
 -- a refusal says that there is no such item

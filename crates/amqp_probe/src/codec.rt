@@ -6,7 +6,9 @@ ghost use Rattle.amqp_base.specs.declared.shape.Setting.{Setting};
 ghost use Rattle.amqp_probe.specs.Codec.{Decoded, Recoded, IsRefused};
 
 use crate::kind::Kind;
-use serde_amqp::{Deserialize, Deserializer, Error, Read, Serialize, SliceReader, Symbol, to_vec};
+use serde_amqp::{
+    Deserialize, Deserializer, Error, OrderedMap, Read, Serialize, SliceReader, Symbol, to_vec,
+};
 use std::alloc::Global;
 
 /// What came of the bytes of a line.
@@ -31,6 +33,7 @@ pub fn decoded(alloc: Global, kind: Kind, bytes: &[u8]) -> Result<Outcome, Error
         Kind::String => recoded::<String>(alloc, bytes),
         Kind::Symbol => recoded::<Symbol>(alloc, bytes),
         Kind::ListI32 => recoded::<Vec<i32>>(alloc, bytes),
+        Kind::MapStringU32 => recoded::<OrderedMap<String, u32>>(alloc, bytes),
     }
 }
 

@@ -14,6 +14,7 @@ pub enum Kind {
     String,
     Symbol,
     ListI32,
+    MapStringU32,
 }
 
 /// The type of that name; None where no type has it.
@@ -28,6 +29,7 @@ pub fn kind_named(name: &[u8]) -> Option<Kind>
         b"string" => Some(Kind::String),
         b"symbol" => Some(Kind::Symbol),
         b"list-i32" => Some(Kind::ListI32),
+        b"map-string-u32" => Some(Kind::MapStringU32),
         _ => None,
     }
 }

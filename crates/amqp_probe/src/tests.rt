@@ -78,7 +78,7 @@ fn printed<S: Source>(alloc: Global, input: &mut S) -> Result<String, Fail> {
 }
 
 /// Lines of each form, and what is printed for them.
-const RUNS: [(&str, &str); 26] = [
+const RUNS: [(&str, &str); 28] = [
     ("", "true"),
     ("u32 70000000ff", "ok 52ff rest 0\ntrue"),
     ("u32 70000000fF0a\n", "ok 52ff rest 1\ntrue"),
@@ -113,6 +113,14 @@ const RUNS: [(&str, &str); 26] = [
     (
         "i32 71ffffff80\nu64 44\nsymbol a10161\nbool 5601",
         "ok 5480 rest 0\nok 44 rest 0\nrefused InvalidFormatCode\nok 41 rest 0\ntrue",
+    ),
+    (
+        "map-string-u32 c10b04a101625201a101615202ff\nmap-string-u32 c11006a101615201a101625202a101615203",
+        "ok c10b04a101625201a101615202 rest 1\nok c10b04a101615203a101625202 rest 0\ntrue",
+    ),
+    (
+        "map-string-u32 d10000000400000000\nmap-string-u32 c10503a1016143\nmap-string-u32 c10602a301615201\nmap-string-u32 45",
+        "ok c10100 rest 0\nrefused InvalidLength\nrefused InvalidFormatCode\nrefused InvalidFormatCode\ntrue",
     ),
 ];
 
@@ -229,6 +237,7 @@ fn answers_a_line(rt: HostRuntime) -> Result<(), Fail> {
     assert_eq!(rt; kind, Kind::String);
     assert_eq!(rt; bytes.as_slice(), [0xb1].as_slice());
     assert_eq!(rt; kind_named(b"list-i32"), Some(Kind::ListI32));
+    assert_eq!(rt; kind_named(b"map-string-u32"), Some(Kind::MapStringU32));
     assert_eq!(rt; find(b' ', b"u32 43 "), Some(3));
     let mut lines = Lines::new(alloc)?;
     let mut input: &[u8] = b"\nb";

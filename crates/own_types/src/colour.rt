@@ -1,6 +1,8 @@
 //! A tuple struct.
 
 use amqp_base::{Error, Sink, Typed};
+use amqp_de::{Deserialize, Deserializer};
+use amqp_read::Read;
 use amqp_ser::{Serialize, Serializer};
 use std::alloc::Global;
 
@@ -9,27 +11,26 @@ use std::alloc::Global;
 pub struct Colour(pub u8, pub u8, pub u8);
 
 impl Typed for Colour {
-    ghost use Rattle.std.specs.Prelude.{◌∷◌, [], true, refl};
+    ghost use Rattle.std.specs.Prelude.{◌∷◌, [], refl};
     ghost use Rattle.amqp_base.specs.Shapes.{whole};
-    ghost use Rattle.amqp_base.specs.Fields.{takes_fields, means_fields, field, one_fields, one_more, one_last};
     ghost use Rattle.amqp_base.specs.declared.shape.Shape.{Shape};
     ghost use Rattle.amqp_base.specs.declared.shape.Setting.TheVariants.{Plain};
 
     ghost item = { λ v _. whole Shape.List (⟦<u8 as Typed>⟧.item v.0 Plain ∷ ⟦<u8 as Typed>⟧.item v.1 Plain ∷ ⟦<u8 as Typed>⟧.item v.2 Plain ∷ []) };
 
-    ghost takes = { takes_fields (⟦<u8 as Typed>⟧.takes ∷ ⟦<u8 as Typed>⟧.takes ∷ ⟦<u8 as Typed>⟧.takes ∷ []) };
+    ghost takes = { ⟦<(u8, u8, u8) as Typed>⟧.takes };
 
-    ghost means = { λ i v. means_fields (field ⟦<u8 as Typed>⟧.means v.0 ∷ field ⟦<u8 as Typed>⟧.means v.1 ∷ field ⟦<u8 as Typed>⟧.means v.2 ∷ []) i };
+    ghost means = { λ i v. ⟦<(u8, u8, u8) as Typed>⟧.means i (v.0, v.1, v.2) };
 
-    ghost same = { λ v w. ⟦<u8 as Typed>⟧.same v.0 w.0 × (⟦<u8 as Typed>⟧.same v.1 w.1 × ⟦<u8 as Typed>⟧.same v.2 w.2) };
+    ghost same = { λ v w. ⟦<(u8, u8, u8) as Typed>⟧.same (v.0, v.1, v.2) (w.0, w.1, w.2) };
 
-    ghost grows = { true };
+    ghost grows = { ⟦<(u8, u8, u8) as Typed>⟧.grows };
 
     ghost in_described_list = { λ _. refl };
 
     ghost in_described_basic = { λ _. refl };
 
-    ghost one_value = { λ i v w. one_fields _ _ (one_more _ _ ⟦<u8 as Typed>⟧.one_value v.0 w.0 (one_more _ _ ⟦<u8 as Typed>⟧.one_value v.1 w.1 (one_last ⟦<u8 as Typed>⟧.one_value v.2 w.2))) i };
+    ghost one_value = { λ i v w. ⟦<(u8, u8, u8) as Typed>⟧.one_value i (v.0, v.1, v.2) (w.0, w.1, w.2) };
 }
 
 impl Serialize for Colour {
@@ -39,5 +40,12 @@ impl Serialize for Colour {
         colour.serialize_field(alloc, &self.1)?;
         colour.serialize_field(alloc, &self.2)?;
         colour.end()
+    }
+}
+
+impl<R: Read> Deserialize<R> for Colour {
+    fn deserialize(alloc: Global, de: &mut Deserializer<R>) -> Result<Colour, Error> {
+        let (red, green, blue) = <(u8, u8, u8)>::deserialize(alloc, de)?;
+        Ok(Colour(red, green, blue))
     }
 }

@@ -144,3 +144,67 @@ fn other_items_are_refused(rt: HostRuntime) -> Result<(), Fail> {
     assert_eq!(rt; outcome(alloc, b"\xc0\x06\x02\x52\x07\xa1\x01m"), "read");
     Ok(())
 }
+
+/// What comes of reading these bytes as a `Foo`.
+fn foo_of(alloc: Global, bytes: &[u8]) -> &'static str {
+    match read::<Foo>(alloc, bytes) {
+        Ok(Foo { bar: 13, is_fool: true }) => "13, true",
+        Ok(_) => "another",
+        Err(Error::Message(_)) => "message",
+        Err(Error::SequenceLengthMismatch) => "length",
+        Err(Error::InvalidFormatCode) => "code",
+        Err(Error::InvalidUtf8Encoding) => "text",
+        Err(_) => "another refusal",
+    }
+}
+
+#[test]
+fn structs_are_read_by_name_or_in_order(rt: HostRuntime) -> Result<(), Fail> {
+    let alloc = rt.alloc();
+    let list = b"\xc0\x04\x02\x52\x0d\x41";
+    assert_eq!(rt; foo_of(alloc, list), "13, true");
+    let turned = b"\xc1\x12\x04\xa1\x07is_fool\x41\xa1\x03bar\x52\x0d";
+    assert_eq!(rt; foo_of(alloc, turned), "13, true");
+    let wide = b"\xd1\0\0\0\x15\0\0\0\x04\xa1\x03bar\x52\x0d\xa1\x07is_fool\x41";
+    assert_eq!(rt; foo_of(alloc, wide), "13, true");
+    let note = read::<Note>(alloc, b"\xc1\x10\x04\xa1\x06number\x40\xa1\x04text\xa1\x01a")?;
+    assert_eq!(rt; note.text.as_str(), "a");
+    assert!(rt; note.number.is_none());
+    let colour = read::<Colour>(alloc, b"\xc0\x07\x03\x50\x01\x50\x02\x50\xff")?;
+    assert_eq!(rt; (colour.0, colour.1, colour.2), (1, 2, 255));
+    Ok(())
+}
+
+#[test]
+fn other_structs_are_refused(rt: HostRuntime) {
+    let alloc = rt.alloc();
+    // lists of one and of three, whatever their elements are
+    assert_eq!(rt; foo_of(alloc, b"\xc0\x03\x01\x52\x0d"), "length");
+    assert_eq!(rt; foo_of(alloc, b"\xc0\x04\x03\x41\x41\x41"), "length");
+    // a name that is a symbol, that is no text, and an unknown one whose value isn't there
+    assert_eq!(rt; foo_of(alloc, b"\xc1\x08\x02\xa3\x03bar\x52\x0d"), "code");
+    assert_eq!(rt; foo_of(alloc, b"\xc1\x06\x02\xa1\x01\xff\x52\x0d"), "text");
+    assert_eq!(rt; foo_of(alloc, b"\xc1\x06\x02\xa1\x01x"), "message");
+    // a repeated name, and a third one
+    assert_eq!(rt;
+        foo_of(
+            alloc,
+            b"\xc1\x0f\x04\xa1\x03bar\x52\x0d\xa1\x03bar\x52\x0d"
+        ),
+        "message"
+    );
+    assert_eq!(rt;
+        foo_of(
+            alloc,
+            b"\xc1\x16\x06\xa1\x07is_fool\x41\xa1\x03bar\x52\x0d\xa1\x01x\x41"
+        ),
+        "message"
+    );
+    // a missing one, and a value of another kind before it
+    assert_eq!(rt; foo_of(alloc, b"\xc1\x08\x02\xa1\x03bar\x52\x0d"), "message");
+    assert_eq!(rt; foo_of(alloc, b"\xc1\x07\x02\xa1\x03bar\x41"), "code");
+    assert_eq!(rt; foo_of(alloc, b"\xc1\x01\x00"), "message");
+    // other items
+    assert_eq!(rt; foo_of(alloc, b"\x40"), "code");
+    assert_eq!(rt; foo_of(alloc, b"\x00\x53\x13\xc0\x04\x02\x52\x0d\x41"), "code");
+}

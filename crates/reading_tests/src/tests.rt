@@ -2,6 +2,7 @@
 
 mod lists;
 mod looks;
+mod maps;
 mod options;
 mod primitives;
 mod refusals;

@@ -2,4 +2,6 @@
 
 pub use crate::from_slice;
 pub use amqp_base::{MAX_ARRAY_COUNT, NeverNull, RoundTrip};
-pub use amqp_de::{Deserialize, Deserializer, Ended, ListAccess, MapAccess, SeqAccess};
+pub use amqp_de::{
+    Deserialize, Deserializer, Ended, Field, Fields, ListAccess, MapAccess, SeqAccess, StructAccess,
+};

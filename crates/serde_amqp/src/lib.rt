@@ -23,7 +23,9 @@ pub use amqp_base::{
     OFFSET_LIST8, OFFSET_LIST32, OFFSET_MAP8, OFFSET_MAP32, RoundTrip, Sink, Source,
     StructEncoding, Typed, UNTAGGED_ENUM, UUID_WIDTH, VALUE, laws,
 };
-pub use amqp_de::{Deserialize, Deserializer, Ended, ListAccess, MapAccess, SeqAccess};
+pub use amqp_de::{
+    Deserialize, Deserializer, Ended, Field, Fields, ListAccess, MapAccess, SeqAccess, StructAccess,
+};
 pub use amqp_read::{Read, SliceReader, read_const_bytes};
 pub use amqp_ser::{
     MapSerializer, SeqSerializer, Serialize, Serializer, StructSerializer, TupleSerializer,

@@ -152,6 +152,32 @@ fn arrays(rt: HostRuntime) -> Result<(), Fail> {
 }
 
 #[test]
+fn many_at_once(rt: HostRuntime) -> Result<(), Fail> {
+    let alloc = rt.alloc();
+    let mut ser = Serializer::new(Vec::new(alloc));
+    let mut array = ser.serialize_array(alloc, None)?;
+    i32::serialize_each(&[1, 2], alloc, &mut array)?;
+    array.end()?;
+    let mut list = ser.serialize_seq(alloc, None)?;
+    i32::serialize_each(&[1, 300], alloc, &mut list)?;
+    u32::serialize_each(&[], alloc, &mut list)?;
+    u32::serialize_each(&[0, 2], alloc, &mut list)?;
+    list.end()?;
+    assert_eq!(rt;
+        ser.writer.as_slice(),
+        b"\xe0\x0a\x02\x71\x00\x00\x00\x01\x00\x00\x00\x02\xc0\x0b\x04\x54\x01\x71\x00\x00\x01\x2c\x43\x52\x02".as_slice()
+    );
+    // a refusal breaks the compound, also for no elements
+    let mut mixed = ser.serialize_array(alloc, None)?;
+    i32::serialize_each(&[1], alloc, &mut mixed)?;
+    assert!(rt; is_invalid_value(&u32::serialize_each(&[1], alloc, &mut mixed)));
+    assert!(rt; is_invalid_value(&u32::serialize_each(&[], alloc, &mut mixed)));
+    assert!(rt; is_invalid_value(&i32::serialize_each(&[], alloc, &mut mixed)));
+    assert!(rt; is_invalid_value(&mixed.end()));
+    Ok(())
+}
+
+#[test]
 fn dropped_without_end(rt: HostRuntime) -> Result<(), Fail> {
     let alloc = rt.alloc();
     let mut ser = Serializer::new(Vec::new(alloc));

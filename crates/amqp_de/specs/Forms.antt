@@ -1,0 +1,112 @@
+-- The forms of a struct that is read: a list of its fields, or a map from their names.
+use Rattle.std.specs.Prelude.{◌≡◌, ℕ, Bool, true, false, IsTrue, List, length, Option, Result, Err, IfErr}
+use Rattle.std.specs.Borrow.{MutBor}
+use Rattle.amqp_base.specs.declared.error.Error.{Error}
+use Rattle.amqp_base.specs.declared.error.Error.TheVariants.{InvalidValue}
+use Rattle.amqp_base.specs.Item.{Item, none, no_pairs}
+use Rattle.amqp_base.specs.NamedFields.{takes_struct}
+use Rattle.amqp_base.specs.Structs.{is_described_name}
+use Rattle.amqp_de.specs.Decoding.{Decoding, stands_under}
+use Rattle.amqp_de.specs.Law.{Missed}
+use Rattle.amqp_de.specs.Access.{Listing, HasParts, HasPairs, Opens, OpensExactly, Next}
+use Rattle.amqp_de.specs.Parse.{item_at, tuple_data, struct_data}
+use Rattle.amqp_de.specs.Places.{constructor_of, limit_of}
+use Rattle.amqp_de.specs.Seq.{listing}
+use Rattle.amqp_de.specs.Steps.{Rejects}
+use Rattle.amqp_de.specs.ReadParts.{Progress, NoTuple, open_list}
+use Rattle.amqp_de.specs.ReadPairs.{map_listing, open_map, PairsRead, NextKey, NextValue, NextEntry, broken_off}
+use Rattle.amqp_de.specs.declared.deserializer.Deserializer.{Deserializer}
+use Rattle.amqp_de.specs.declared.list.Opened.{Opened}
+use Rattle.amqp_de.specs.declared.structs.OpenedStruct.{OpenedStruct}
+use Rattle.amqp_de.specs.declared.structs.OpenedStruct.TheVariants as opened
+use Rattle.amqp_de.specs.declared.structs.StructAccess.{StructAccess}
+use Rattle.amqp_de.specs.declared.structs.StructAccess.TheVariants as form
+
+abbrev pub struct_listing : {X : Type 0} → StructAccess X → Listing
+struct_listing (form.List a) = listing a
+struct_listing (form.Map a) = map_listing a
+
+-- the deserializer that the access borrows
+abbrev pub struct_lender : {X : Type 0} → StructAccess X → MutBor (Deserializer X)
+struct_lender (form.List a) = a.de
+struct_lender (form.Map a) = a.de
+
+-- a list of just so many fields was opened
+pub record RowOpened (len : ℕ) (old : Decoding) (l : Listing) : Type 0 where
+  pub opens : Opens HasParts old l
+  pub exact : OpensExactly (struct_data len) old l
+  pub left : l.left ≡ len
+  pub progress : (all : List (Item → Bool)) → Progress old all all none l
+
+-- the same of a tuple struct, which is a list alone
+pub record TupleOpened (len : ℕ) (old : Decoding) (l : Listing) : Type 0 where
+  pub opens : Opens HasParts old l
+  pub exact : OpensExactly (tuple_data len) old l
+  pub left : l.left ≡ len
+
+abbrev pub IsRow : {X : Type 0} → StructAccess X → Type 0
+IsRow (form.List a) = Unit {0}
+IsRow (form.Map a) = ⊥
+
+-- a map was opened
+pub record MapOpened (len : ℕ) (old : Decoding) (l : Listing) : Type 0 where
+  pub opens : Opens HasPairs old l
+  pub exact : OpensExactly (struct_data len) old l
+  pub pairs : (key value : Item → Bool) → PairsRead old key value no_pairs l
+
+abbrev pub of_opened : Decoding → Opened → Listing
+of_opened new o = record { state = new; left = o.left; answers = true; outer = constructor_of o.beyond.outer; limit = limit_of o.beyond.limit }
+
+abbrev pub FormOpened : ℕ → Decoding → Decoding → OpenedStruct → Type 0
+FormOpened len old new (opened.Row o) = RowOpened len old (of_opened new o)
+FormOpened len old new (opened.Pairs o) = MapOpened len old (of_opened new o)
+
+abbrev pub StructOpened : {X : Type 0} → ℕ → Decoding → StructAccess X → Type 0
+StructOpened len old (form.List a) = RowOpened len old (open_list a)
+StructOpened len old (form.Map a) = MapOpened len old (open_map a)
+
+-- no struct was opened: so one of as many fields is missed, and want of memory is no excuse
+pub record NoStruct (len : ℕ) (buffers : Bool) (old last : Decoding) (e : Error) : Type 0 where
+  -- a call that isn't answered changes nothing
+  pub unanswered : old.answers ≡ false → (e ≡ InvalidValue) × (last ≡ old)
+  pub rejects : IsTrue old.answers → Rejects buffers buffers (item_at (struct_data len) (stands_under old)) old.reading last.reading e
+  pub closed : last.answers ≡ false
+  pub missed : (names : List (List ℕ)) (fields : List (Item → Bool)) → length fields ≡ len → Missed (takes_struct names fields) buffers buffers old last e
+
+-- the same of a call's answer, under a plain name
+pub record RefusesStruct {A : Type 0} (name : List ℕ) (len : ℕ) (buffers : Bool) (old : Decoding) (r : Result A Error) (last : Decoding) : Type 0 where
+  pub unopened : is_described_name name ≡ false → IfErr r (λ e. NoStruct len buffers old last e)
+  pub closed : IfErr r (λ e. last.answers ≡ false)
+
+-- no tuple struct was opened, under a plain name
+pub record RefusesRow {A : Type 0} (name : List ℕ) (len : ℕ) (buffers : Bool) (old : Decoding) (r : Result A Error) (last : Decoding) : Type 0 where
+  pub unopened : is_described_name name ≡ false → IfErr r (λ e. NoTuple len buffers old last e)
+  pub closed : IfErr r (λ e. last.answers ≡ false)
+
+-- a call of another form
+abbrev pub WrongForm : {A : Type 0} → Listing → Result A Error → Listing → Type 0
+WrongForm old r new = (r ≡ Err InvalidValue) × (new ≡ broken_off old)
+
+abbrev pub FormElement : {X T : Type 0} → (Item → Bool) → (Item → T → Type 0) → Bool → Bool → StructAccess X → Result (Option T) Error → StructAccess X → Type 0
+FormElement takes means grows buffers (form.List a) r (form.List b) = Next takes means grows buffers (listing a) r (listing b)
+FormElement takes means grows buffers (form.Map a) r (form.Map b) = WrongForm (map_listing a) r (map_listing b)
+FormElement takes means grows buffers (form.List a) r (form.Map b) = ⊥
+FormElement takes means grows buffers (form.Map a) r (form.List b) = ⊥
+
+abbrev pub FormKey : {X K : Type 0} → (Item → Bool) → (Item → K → Type 0) → Bool → Bool → StructAccess X → Result (Option K) Error → StructAccess X → Type 0
+FormKey takes means grows buffers (form.Map a) r (form.Map b) = NextKey takes means grows buffers (map_listing a) r (map_listing b)
+FormKey takes means grows buffers (form.List a) r (form.List b) = WrongForm (listing a) r (listing b)
+FormKey takes means grows buffers (form.List a) r (form.Map b) = ⊥
+FormKey takes means grows buffers (form.Map a) r (form.List b) = ⊥
+
+abbrev pub FormValue : {X V : Type 0} → (Item → Bool) → (Item → V → Type 0) → Bool → Bool → StructAccess X → Result V Error → StructAccess X → Type 0
+FormValue takes means grows buffers (form.Map a) r (form.Map b) = NextValue takes means grows buffers (map_listing a) r (map_listing b)
+FormValue takes means grows buffers (form.List a) r (form.List b) = WrongForm (listing a) r (listing b)
+FormValue takes means grows buffers (form.List a) r (form.Map b) = ⊥
+FormValue takes means grows buffers (form.Map a) r (form.List b) = ⊥
+
+abbrev pub FormEntry : {X K V : Type 0} → (Item → Bool) → (Item → Bool) → (Item → K → Type 0) → (Item → V → Type 0) → Bool → Bool → Bool → StructAccess X → Result (Option (K × V)) Error → StructAccess X → Type 0
+FormEntry key value means_key means_value grows_key grows_value buffers (form.Map a) r (form.Map b) = NextEntry key value means_key means_value grows_key grows_value buffers (map_listing a) r (map_listing b)
+FormEntry key value means_key means_value grows_key grows_value buffers (form.List a) r (form.List b) = WrongForm (listing a) r (listing b)
+FormEntry key value means_key means_value grows_key grows_value buffers (form.List a) r (form.Map b) = ⊥
+FormEntry key value means_key means_value grows_key grows_value buffers (form.Map a) r (form.List b) = ⊥

@@ -1,0 +1,216 @@
+//! The fields of a struct, read by their names or in order.
+
+ghost use Rattle.std.specs.Prelude.{◌≡◌, Bool, true, false, IsTrue, Option, Some, None, List, ◌++◌, length, IfErr, OnOk};
+ghost use Rattle.amqp_base.specs.Item.{Item, Items};
+ghost use Rattle.amqp_base.specs.Fields.{takes_fields};
+ghost use Rattle.amqp_de.specs.Decoding.{Decoding};
+ghost use Rattle.amqp_de.specs.Law.{Missed};
+ghost use Rattle.amqp_de.specs.Places.{constructor_of, limit_of};
+ghost use Rattle.amqp_de.specs.ReadParts.{Progress, HasRead, open_list};
+ghost use Rattle.amqp_de.specs.ReadPairs.{map_listing};
+ghost use Rattle.amqp_de.specs.ReadFields.{Slots, no_slots, slot, awaits, all_read, HaveValues, FieldRead, NoField, RowRead};
+
+use crate::{Deserialize, ListAccess, MapAccess};
+use amqp_base::Error;
+use amqp_read::Read;
+use std::alloc::Global;
+
+/// The fields of a struct while it is read: a `Field` and the fields behind it, and `()` behind the last.
+pub trait Fields<R: Read>: Drop {
+    ghost use Rattle.amqp_de.specs.ReadFields.{Slots};
+
+    /// Their values: that of the first field and those of the fields behind it, and `()` behind the last.
+    type Values: Drop;
+
+    /// The fields that have no value yet.
+    ghost slots: { Self → Slots Self.Values };
+
+    /// Whether so many fields have no value yet.
+    fn are(&self, count: u32) -> bool
+        ensures yes { IsTrue result → length (slots self.now).kinds ≡ count }
+        ensures no { result ≡ false → length (slots self.now).kinds ≡ count → ⊥ };
+
+    /// Reads the next value of a map as that of the field under a name.
+    ///
+    /// A `Message` where no field without a value has this name, and then the value isn't looked at; else the refusals of the
+    /// field's type. Each of them ends the access and its deserializer once the access is dropped.
+    fn read_field(
+        &mut self,
+        alloc: Global,
+        name: &str,
+        map: &mut MapAccess<'_, R>,
+    ) -> Result<(), Error>
+        ensures same_reference { map.new.de.ghost_name ≡ map.old.de.ghost_name }
+        ensures kept_outer { constructor_of map.new.beyond.outer ≡ constructor_of map.old.beyond.outer }
+        ensures kept_limit { limit_of map.new.beyond.limit ≡ limit_of map.old.beyond.limit }
+        ensures closed { map.old.de.now.answers ≡ false → map.new.de.now.answers ≡ false }
+        ensures read { OnOk result (FieldRead name.now (slots self.old) (slots self.new) (map_listing map.old) (map_listing map.new)) }
+        ensures refused { IfErr result (λ e. NoField name.now (slots self.old) R.buffers (map_listing map.old) (map_listing map.new) e) };
+
+    /// Reads the next elements of a list as the fields without a value, in order.
+    ///
+    /// The refusals are those of the fields' types, and `SequenceLengthMismatch` where there are fewer elements. Each of them
+    /// ends the access and its deserializer once the access is dropped.
+    fn read_elements(&mut self, alloc: Global, list: &mut ListAccess<'_, R>) -> Result<(), Error>
+        ensures same_reference { list.new.de.ghost_name ≡ list.old.de.ghost_name }
+        ensures closed { list.old.de.now.answers ≡ false → list.new.de.now.answers ≡ false }
+        ensures read { OnOk result ((old : Decoding) (all rest : List (Item → Bool)) (parts : Items) → Progress old all ((slots self.old).kinds ++ rest) parts (open_list list.old) →
+            RowRead old all rest parts (slots self.old) (slots self.new) (open_list list.new)) }
+        ensures refused { IfErr result (λ e. (old : Decoding) (all rest : List (Item → Bool)) → HasRead old all ((slots self.old).kinds ++ rest) (open_list list.old) →
+            Missed (takes_fields all) true R.buffers old list.new.de.now e) };
+
+    /// The values, where every field has one.
+    fn into_values(self) -> Option<Self::Values>
+        ensures some { (vs : Self.Values) → result ≡ Some vs → HaveValues (slots self) vs }
+        ensures none { result ≡ None → all_read (slots self) ≡ false };
+}
+
+impl<R: Read> Fields<R> for () {
+    type Values = ();
+
+    ghost slots = { λ _. no_slots };
+
+    #[inline(always)]
+    fn are(&self, count: u32) -> bool {
+        count == 0
+    }
+
+    fn read_field(
+        &mut self,
+        alloc: Global,
+        name: &str,
+        map: &mut MapAccess<'_, R>,
+    ) -> Result<(), Error> {
+        let _ = name;
+        let _ = map;
+        Err(Error::custom(alloc, "unknown or repeated field"))
+    }
+
+    #[inline(always)]
+    fn read_elements(&mut self, alloc: Global, list: &mut ListAccess<'_, R>) -> Result<(), Error> {
+        let _ = alloc;
+        let _ = list;
+        Ok(())
+    }
+
+    #[inline(always)]
+    fn into_values(self) -> Option<()> {
+        Some(())
+    }
+}
+
+/// A field under its name, and the fields behind it: `Field::new("bar", Field::new("is_fool", ()))`.
+#[derive(Drop)]
+pub struct Field<'n, T, Rest> {
+    name: &'n str,
+    value: Option<T>,
+    rest: Rest,
+}
+
+impl<'n, T: Drop, Rest: Drop> Field<'n, T, Rest> {
+    /// A field under its name, without a value, and the fields behind it.
+    pub fn new(name: &'n str, rest: Rest) -> Field<'n, T, Rest>
+        ensures named { result.name.now ≡ name.now }
+        ensures no_value { result.value ≡ None }
+        ensures before { result.rest ≡ rest }
+    {
+        Field {
+            name,
+            value: None,
+            rest,
+        }
+    }
+
+    #[inline(always)]
+    fn put(&mut self, value: T)
+        ensures named { self.new.name ≡ self.old.name }
+        ensures value { self.new.value ≡ Some value }
+        ensures before { self.new.rest ≡ self.old.rest }
+    {
+        self.value = Some(value);
+    }
+
+    /// Whether a value under a name is this field's, and it has none yet.
+    #[inline(always)]
+    fn awaits(&self, name: &str) -> bool
+        ensures { result ≡ awaits self.now.name.now self.now.value name.now }
+    {
+        match &self.value {
+            Some(_) => false,
+            None => self.name == name,
+        }
+    }
+}
+
+impl<'n, R: Read, T: Deserialize<R>, Rest: Fields<R>> Fields<R> for Field<'n, T, Rest> {
+    type Values = (T, Rest::Values);
+
+    ghost slots = { λ f. slot f.name.now T.takes T.means f.value (Rest.slots f.rest) };
+
+    #[inline(always)]
+    fn are(&self, count: u32) -> bool {
+        match &self.value {
+            Some(_) => self.rest.are(count),
+            None => count > 0 && self.rest.are(count - 1),
+        }
+    }
+
+    #[inline(always)]
+    fn read_field(
+        &mut self,
+        alloc: Global,
+        name: &str,
+        map: &mut MapAccess<'_, R>,
+    ) -> Result<(), Error> {
+        if !self.awaits(name) {
+            return match self.rest.read_field(alloc, name, map) {
+                Ok(()) => Ok(()),
+                Err(e) => Err(e),
+            };
+        }
+        match map.next_value::<T>(alloc) {
+            Ok(value) => {
+                self.put(value);
+                Ok(())
+            }
+            Err(e) => Err(e),
+        }
+    }
+
+    #[inline(always)]
+    fn read_elements(&mut self, alloc: Global, list: &mut ListAccess<'_, R>) -> Result<(), Error> {
+        match &self.value {
+            Some(_) => match self.rest.read_elements(alloc, list) {
+                Ok(()) => Ok(()),
+                Err(e) => Err(e),
+            },
+            None => match list.next_element::<T>(alloc) {
+                Ok(Some(value)) => {
+                    self.put(value);
+                    match self.rest.read_elements(alloc, list) {
+                        Ok(()) => Ok(()),
+                        Err(e) => Err(e),
+                    }
+                }
+                Ok(None) => Err(Error::SequenceLengthMismatch),
+                Err(e) => Err(e),
+            },
+        }
+    }
+
+    #[inline(always)]
+    fn into_values(self) -> Option<(T, Rest::Values)> {
+        let Field {
+            name: _,
+            value,
+            rest,
+        } = self;
+        match value {
+            Some(value) => match rest.into_values() {
+                Some(others) => Some((value, others)),
+                None => None,
+            },
+            None => None,
+        }
+    }
+}

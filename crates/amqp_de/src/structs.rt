@@ -1,0 +1,244 @@
+//! Structs by their form: a list of the fields, or a map from their names.
+
+ghost use Rattle.std.specs.Prelude.{◌≡◌, Bool, true, false, ◌||◌, Ok, Err, IfOk, IfErr, IsTrue};
+ghost use Rattle.std.specs.Borrow.{sem, RestsIfErr};
+ghost use Rattle.amqp_base.specs.Codes.{Kind, row};
+ghost use Rattle.amqp_base.specs.Structs.{is_described_name};
+ghost use Rattle.amqp_de.specs.Access.{Ends, shut};
+ghost use Rattle.amqp_de.specs.Forms.{struct_listing, struct_lender, of_opened, FormOpened, StructOpened, TupleOpened, IsRow, NoStruct, RefusesStruct, RefusesRow, FormElement, FormKey, FormValue, FormEntry};
+ghost use Rattle.amqp_de.specs.contracts.deserializer.Deserializer.{the_row};
+
+use crate::list::{Ended, Opened};
+use crate::{Deserialize, Deserializer, ListAccess, MapAccess};
+use amqp_base::{DESCRIBED_BASIC, DESCRIBED_LIST, DESCRIBED_MAP, EncodingCodes, Error};
+use amqp_read::Read;
+use std::alloc::Global;
+
+/// The fields of a struct, in the form that the item has. Its deserializer answers nothing until `end` succeeded; where the
+/// access is dropped before, the deserializer is ended.
+#[derive(Drop)]
+pub enum StructAccess<'a, R: Read> {
+    /// The item is a list of the fields, in order.
+    List(ListAccess<'a, R>),
+    /// The item is a map from names to fields.
+    Map(MapAccess<'a, R>),
+}
+
+/// What was opened: a list of the fields, or a map from their names.
+#[derive(Drop)]
+pub(crate) enum OpenedStruct {
+    Row(Opened),
+    Pairs(Opened),
+}
+
+/// Whether a descriptor stands before the fields of a struct of this name.
+#[inline(always)]
+fn is_described(name: &'static str) -> bool
+    ensures { result ≡ is_described_name name.now }
+{
+    name == DESCRIBED_LIST || name == DESCRIBED_MAP || name == DESCRIBED_BASIC
+}
+
+/// Whether a code is a map's.
+#[inline(always)]
+pub(crate) fn is_map(code: EncodingCodes) -> bool
+    ensures yes { IsTrue result → (row code).kind ≡ Kind.map }
+    ensures no { result ≡ false → (row code).kind ≡ Kind.map → ⊥ }
+{
+    match code {
+        EncodingCodes::Map8 => true,
+        EncodingCodes::Map32 => true,
+        _ => false,
+    }
+}
+
+impl<R: Read> Deserializer<R> {
+    /// Begins a list of just so many fields, or a map.
+    fn open_form(&mut self, len: usize) -> Result<OpenedStruct, Error>
+        ensures ok { IfOk result (λ o. FormOpened len self.old self.new o) }
+        ensures err { IfErr result (λ e. NoStruct len R.buffers self.old self.new e) }
+    {
+        match self.deserialize_any() {
+            Ok(code) => {
+                if is_map(code) {
+                    match self.open_pairs() {
+                        Ok(pairs) => Ok(OpenedStruct::Pairs(pairs)),
+                        Err(e) => Err(e),
+                    }
+                } else {
+                    match self.open_tuple(len) {
+                        Ok(row) => Ok(OpenedStruct::Row(row)),
+                        Err(e) => Err(e),
+                    }
+                }
+            }
+            Err(e) => Err(e),
+        }
+    }
+
+    /// The same, under a plain name.
+    fn open_struct(&mut self, name: &'static str, len: usize) -> Result<OpenedStruct, Error>
+        ensures ok { IfOk result (λ o. FormOpened len self.old self.new o) }
+        ensures err { RefusesStruct name.now len R.buffers self.old result self.new }
+        ensures described { is_described_name name.now ≡ true → result ≡ Err Error.InvalidValue }
+    {
+        if is_described(name) {
+            self.answers = false;
+            return Err(Error::InvalidValue);
+        }
+        self.open_form(len)
+    }
+
+    /// The elements of a tuple struct, under a plain name.
+    fn open_row(&mut self, name: &'static str, len: usize) -> Result<Opened, Error>
+        ensures ok { IfOk result (λ o. TupleOpened len self.old (of_opened self.new o)) }
+        ensures err { RefusesRow name.now len R.buffers self.old result self.new }
+        ensures described { is_described_name name.now ≡ true → result ≡ Err Error.InvalidValue }
+    {
+        if is_described(name) {
+            self.answers = false;
+            return Err(Error::InvalidValue);
+        }
+        self.open_tuple(len)
+    }
+
+    /// Opens a struct: a list of `len` fields (part 1, section 1.6.22), or a map from names to fields (section 1.6.23), whose
+    /// number of pairs isn't looked at. Its code, size and count are consumed. The size is not compared with the bytes that
+    /// are there.
+    ///
+    /// In this order: `InvalidValue` where `name` is one of those of described structs, `Io(UnexpectedEof)` where there is no
+    /// byte, `InvalidFormatCode` where it is no list's or map's code, and then the refusals of `deserialize_tuple` and
+    /// `deserialize_map`. A refusal ends the deserializer.
+    pub fn deserialize_struct(
+        &mut self,
+        alloc: Global,
+        name: &'static str,
+        len: usize,
+    ) -> Result<StructAccess<'_, R>, Error>
+        ensures* refused { sem 𝓛 (RestsIfErr (the_row R.row R.Read) self.entry (λ a. (struct_lender a).ghost_name) result (λ last. RefusesStruct name.now len R.buffers self.old result last)) }
+        ensures same_reference { IfOk result (λ a. (struct_lender a).ghost_name ≡ self.entry.ghost_name) }
+        ensures opened { IfOk result (λ a. StructOpened len self.old a) }
+        ensures described { is_described_name name.now ≡ true → result ≡ Err Error.InvalidValue }
+    {
+        let _ = alloc;
+        match self.open_struct(name, len) {
+            Ok(OpenedStruct::Row(row)) => Ok(StructAccess::List(ListAccess {
+                de: self,
+                left: row.left,
+                answers: true,
+                beyond: row.beyond,
+            })),
+            Ok(OpenedStruct::Pairs(pairs)) => Ok(StructAccess::Map(MapAccess {
+                de: self,
+                left: pairs.left,
+                answers: true,
+                beyond: pairs.beyond,
+            })),
+            Err(e) => Err(e),
+        }
+    }
+
+    /// Opens a tuple struct: a list of `len` fields (part 1, section 1.6.22). Its code, size and count are consumed.
+    ///
+    /// `InvalidValue` where `name` is one of those of described structs, else the refusals of `deserialize_tuple`. A refusal
+    /// ends the deserializer.
+    pub fn deserialize_tuple_struct(
+        &mut self,
+        alloc: Global,
+        name: &'static str,
+        len: usize,
+    ) -> Result<StructAccess<'_, R>, Error>
+        ensures* refused { sem 𝓛 (RestsIfErr (the_row R.row R.Read) self.entry (λ a. (struct_lender a).ghost_name) result (λ last. RefusesRow name.now len R.buffers self.old result last)) }
+        ensures same_reference { IfOk result (λ a. (struct_lender a).ghost_name ≡ self.entry.ghost_name) }
+        ensures opened { IfOk result (λ a. IsRow a × TupleOpened len self.old (struct_listing a)) }
+        ensures described { is_described_name name.now ≡ true → result ≡ Err Error.InvalidValue }
+    {
+        let _ = alloc;
+        match self.open_row(name, len) {
+            Ok(row) => Ok(StructAccess::List(ListAccess {
+                de: self,
+                left: row.left,
+                answers: true,
+                beyond: row.beyond,
+            })),
+            Err(e) => Err(e),
+        }
+    }
+}
+
+impl<'a, R: Read> StructAccess<'a, R> {
+    /// The next field of a list; `None` where all were read, and then nothing is consumed.
+    ///
+    /// The refusals are those of `ListAccess::next_element`, and `InvalidValue` where the item is a map. Each of them ends
+    /// the access and its deserializer.
+    pub fn next_element<T: Deserialize<R>>(&mut self, alloc: Global) -> Result<Option<T>, Error>
+        ensures same_reference { (struct_lender self.new).ghost_name ≡ (struct_lender self.old).ghost_name }
+        ensures next { FormElement T.takes T.means (T.grows || R.buffers) R.buffers self.old result self.new }
+    {
+        match self {
+            StructAccess::List(list) => list.next_element(alloc),
+            StructAccess::Map(map) => Err(map.refuse()),
+        }
+    }
+
+    /// The next name of a map; `None` where all pairs were read, and then nothing is consumed.
+    ///
+    /// The refusals are those of `MapAccess::next_key`, and `InvalidValue` where the item is a list. Each of them ends the
+    /// access and its deserializer.
+    pub fn next_key<K: Deserialize<R>>(&mut self, alloc: Global) -> Result<Option<K>, Error>
+        ensures same_reference { (struct_lender self.new).ghost_name ≡ (struct_lender self.old).ghost_name }
+        ensures next { FormKey K.takes K.means (K.grows || R.buffers) R.buffers self.old result self.new }
+    {
+        match self {
+            StructAccess::List(list) => Err(list.refuse()),
+            StructAccess::Map(map) => map.next_key(alloc),
+        }
+    }
+
+    /// The value of the last name of a map.
+    ///
+    /// The refusals are those of `MapAccess::next_value`, and `InvalidValue` where the item is a list. Each of them ends the
+    /// access and its deserializer.
+    pub fn next_value<V: Deserialize<R>>(&mut self, alloc: Global) -> Result<V, Error>
+        ensures same_reference { (struct_lender self.new).ghost_name ≡ (struct_lender self.old).ghost_name }
+        ensures next { FormValue V.takes V.means (V.grows || R.buffers) R.buffers self.old result self.new }
+    {
+        match self {
+            StructAccess::List(list) => Err(list.refuse()),
+            StructAccess::Map(map) => map.next_value(alloc),
+        }
+    }
+
+    /// The next name of a map and its value; `None` where all pairs were read.
+    ///
+    /// The refusals are those of `MapAccess::next_entry`, and `InvalidValue` where the item is a list. Each of them ends the
+    /// access and its deserializer.
+    pub fn next_entry<K: Deserialize<R>, V: Deserialize<R>>(
+        &mut self,
+        alloc: Global,
+    ) -> Result<Option<(K, V)>, Error>
+        ensures same_reference { (struct_lender self.new).ghost_name ≡ (struct_lender self.old).ghost_name }
+        ensures next { FormEntry K.takes V.takes K.means V.means (K.grows || R.buffers) (V.grows || R.buffers) R.buffers self.old result self.new }
+    {
+        match self {
+            StructAccess::List(list) => Err(list.refuse()),
+            StructAccess::Map(map) => map.next_entry(alloc),
+        }
+    }
+
+    /// Ends the access where all fields were read: the deserializer answers again. Nothing is consumed.
+    ///
+    /// `SequenceLengthMismatch` where something was left unread, `InvalidValue` after a refusal; the deserializer is ended
+    /// then.
+    pub fn end(self) -> Result<Ended<'a, R>, Error>
+        ensures* refused { sem 𝓛 (RestsIfErr (the_row R.row R.Read) (struct_lender self.entry) (λ d. d.de.ghost_name) result (λ last. last ≡ shut (struct_listing self.entry))) }
+        ensures same_reference { IfOk result (λ d. d.de.ghost_name ≡ (struct_lender self.entry).ghost_name) }
+        ensures ok { IfOk result (λ d. Ends (struct_listing self.entry) (Ok tt) d.de.now) }
+        ensures err { IfErr result (λ e. Ends (struct_listing self.entry) (Err e) (shut (struct_listing self.entry))) }
+    {
+        match self {
+            StructAccess::List(list) => list.closed(),
+            StructAccess::Map(map) => map.closed(),
+        }
+    }
+}
