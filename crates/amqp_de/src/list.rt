@@ -266,7 +266,12 @@ impl<'a, R: Read> ListAccess<'a, R> {
 }
 
 impl<R: Read> Deserializer<R> {
-    pub(crate) fn ended(&mut self, left: u32, answers: bool, beyond: Beyond) -> Result<Ended<'_, R>, Error>
+    pub(crate) fn ended(
+        &mut self,
+        left: u32,
+        answers: bool,
+        beyond: Beyond,
+    ) -> Result<Ended<'_, R>, Error>
         ensures* refused { sem 𝓛 (RestsIfErr (the_row R.row R.Read) self.entry (λ d. d.de.ghost_name) result (λ last. last ≡ shut (record { state = self.old; left = left; answers = answers; outer = constructor_of beyond.outer; limit = limit_of beyond.limit }))) }
         ensures same_reference { IfOk result (λ d. d.de.ghost_name ≡ self.entry.ghost_name) }
         ensures ok { IfOk result (λ d. Ends (record { state = self.old; left = left; answers = answers; outer = constructor_of beyond.outer; limit = limit_of beyond.limit }) (Ok tt) d.de.now) }

@@ -118,13 +118,14 @@ entry_pairs [] = no_pairs
 entry_pairs (e ∷ es) = pair (text_of_key e.0) (number_of e.1) (entry_pairs es)
 
 module _ (eq : String Global → String Global → Bool) (as_bytes : (a b : String Global) → eq a b ≡ bytes_eq (string_bytes a) (string_bytes b)) where
+  by_key : (e : String Global × ℕ) (es : List (String Global × ℕ)) (k : String Global) (v : ℕ) → entry_pairs (insert_entry eq es k v) ≡ put_pair (entry_pairs es) (text_of_key k) (number_of v) → (b : Bool) → bytes_eq (string_bytes k) (string_bytes e.0) ≡ b
+      → entry_pairs (insert_entry eq (e ∷ es) k v) ≡ put_pair (entry_pairs (e ∷ es)) (text_of_key k) (number_of v)
+  by_key e es k v behind true h = rw (as_bytes k e.0, h) refl
+  by_key e es k v behind false h = rw (as_bytes k e.0, h, behind) refl
+
   put_one : (es : List (String Global × ℕ)) (k : String Global) (v : ℕ) → entry_pairs (insert_entry eq es k v) ≡ put_pair (entry_pairs es) (text_of_key k) (number_of v)
   put_one [] k v = refl
-  put_one (e ∷ es) k v = tell (bytes_eq (string_bytes k) (string_bytes e.0)) refl
-    where
-      tell : (b : Bool) → bytes_eq (string_bytes k) (string_bytes e.0) ≡ b → entry_pairs (insert_entry eq (e ∷ es) k v) ≡ put_pair (entry_pairs (e ∷ es)) (text_of_key k) (number_of v)
-      tell true h = rw (as_bytes k e.0, h) refl
-      tell false h = rw (as_bytes k e.0, h, put_one es k v) refl
+  put_one (e ∷ es) k v = by_key e es k v (put_one es k v) (bytes_eq (string_bytes k) (string_bytes e.0)) refl
 
   put_many : (ps : Pairs) (rows es : List (String Global × ℕ)) → all_pairs_mean (λ i k. i ≡ text_of_key k) (λ i (n : ℕ). i ≡ number_of n) ps rows → entry_pairs (fold (λ (done : List (String Global × ℕ)) (r : String Global × ℕ). insert_entry eq done r.0 r.1) es rows) ≡ put_pairs (entry_pairs es) ps
   put_many no_pairs [] es m = refl

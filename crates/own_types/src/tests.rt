@@ -148,7 +148,12 @@ fn other_items_are_refused(rt: HostRuntime) -> Result<(), Fail> {
 /// What comes of reading these bytes as a `Foo`.
 fn foo_of(alloc: Global, bytes: &[u8]) -> &'static str {
     match read::<Foo>(alloc, bytes) {
-        Ok(Foo { bar: 13, is_fool: true }) => "13, true",
+        Ok(
+            Foo {
+                bar: 13,
+                is_fool: true,
+            },
+        ) => "13, true",
         Ok(_) => "another",
         Err(Error::Message(_)) => "message",
         Err(Error::SequenceLengthMismatch) => "length",
@@ -167,7 +172,10 @@ fn structs_are_read_by_name_or_in_order(rt: HostRuntime) -> Result<(), Fail> {
     assert_eq!(rt; foo_of(alloc, turned), "13, true");
     let wide = b"\xd1\0\0\0\x15\0\0\0\x04\xa1\x03bar\x52\x0d\xa1\x07is_fool\x41";
     assert_eq!(rt; foo_of(alloc, wide), "13, true");
-    let note = read::<Note>(alloc, b"\xc1\x10\x04\xa1\x06number\x40\xa1\x04text\xa1\x01a")?;
+    let note = read::<Note>(
+        alloc,
+        b"\xc1\x10\x04\xa1\x06number\x40\xa1\x04text\xa1\x01a",
+    )?;
     assert_eq!(rt; note.text.as_str(), "a");
     assert!(rt; note.number.is_none());
     let colour = read::<Colour>(alloc, b"\xc0\x07\x03\x50\x01\x50\x02\x50\xff")?;
@@ -187,10 +195,7 @@ fn other_structs_are_refused(rt: HostRuntime) {
     assert_eq!(rt; foo_of(alloc, b"\xc1\x06\x02\xa1\x01x"), "message");
     // a repeated name, and a third one
     assert_eq!(rt;
-        foo_of(
-            alloc,
-            b"\xc1\x0f\x04\xa1\x03bar\x52\x0d\xa1\x03bar\x52\x0d"
-        ),
+        foo_of(alloc, b"\xc1\x0f\x04\xa1\x03bar\x52\x0d\xa1\x03bar\x52\x0d"),
         "message"
     );
     assert_eq!(rt;
@@ -201,10 +206,16 @@ fn other_structs_are_refused(rt: HostRuntime) {
         "message"
     );
     // a missing one, and a value of another kind before it
-    assert_eq!(rt; foo_of(alloc, b"\xc1\x08\x02\xa1\x03bar\x52\x0d"), "message");
+    assert_eq!(rt;
+        foo_of(alloc, b"\xc1\x08\x02\xa1\x03bar\x52\x0d"),
+        "message"
+    );
     assert_eq!(rt; foo_of(alloc, b"\xc1\x07\x02\xa1\x03bar\x41"), "code");
     assert_eq!(rt; foo_of(alloc, b"\xc1\x01\x00"), "message");
     // other items
     assert_eq!(rt; foo_of(alloc, b"\x40"), "code");
-    assert_eq!(rt; foo_of(alloc, b"\x00\x53\x13\xc0\x04\x02\x52\x0d\x41"), "code");
+    assert_eq!(rt;
+        foo_of(alloc, b"\x00\x53\x13\xc0\x04\x02\x52\x0d\x41"),
+        "code"
+    );
 }

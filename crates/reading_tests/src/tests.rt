@@ -7,6 +7,7 @@ mod options;
 mod primitives;
 mod refusals;
 mod scalars;
+mod structs;
 mod tuples;
 
 use amqp_base::Error;

@@ -78,8 +78,14 @@ fn repeated_keys(rt: HostRuntime) -> Result<(), Fail> {
         ([7, 5, 6, 6], [7, 0, 5, 1, 6, 3], [5, 1, 6, 3, 7, 0]),
     ] {
         let bytes = places(alloc, &keys)?;
-        assert_eq!(rt; ordered(alloc, bytes.as_slice())?.as_slice(), by_place.as_slice());
-        assert_eq!(rt; sorted(alloc, bytes.as_slice())?.as_slice(), by_key.as_slice());
+        assert_eq!(rt;
+            ordered(alloc, bytes.as_slice())?.as_slice(),
+            by_place.as_slice()
+        );
+        assert_eq!(rt;
+            sorted(alloc, bytes.as_slice())?.as_slice(),
+            by_key.as_slice()
+        );
     }
     Ok(())
 }

@@ -1,4 +1,5 @@
-use Rattle.std.proofs.Common.{sym}
+use Rattle.std.proofs.Common.{sym, refl}
+use Rattle.std.specs.Prelude.{string_eq}
 use Rattle.amqp_probe.proofs.Recoding.{decoded_ok, int_list, map_kept}
 use Rattle.amqp_probe.specs.declared.kind.Kind.TheVariants.{Bool, I32, U32, U64, String, Symbol, ListI32, MapStringU32}
 use Rattle.amqp_probe.proofs.codec.decoded.Goals as goal
@@ -25,4 +26,4 @@ pub returns-in-ListI32-clause-ok : goal.returns-in-ListI32-clause-ok
 returns-in-ListI32-clause-ok c = rw c.in-ListI32.is (decoded_ok ListI32 _ _ c.args.bytes.now c.recoded-in-ListI32.result (λ i v m. int_list i v.items m) c.recoded-in-ListI32.ensures.ok)
 
 pub returns-in-MapStringU32-clause-ok : goal.returns-in-MapStringU32-clause-ok
-returns-in-MapStringU32-clause-ok c = rw c.in-MapStringU32.is (decoded_ok MapStringU32 _ _ c.args.bytes.now c.recoded-in-MapStringU32.result (λ i v m. map_kept _ (λ a b. refl) i v m) c.recoded-in-MapStringU32.ensures.ok)
+returns-in-MapStringU32-clause-ok c = rw c.in-MapStringU32.is (decoded_ok MapStringU32 _ _ c.args.bytes.now c.recoded-in-MapStringU32.result (λ i v m. map_kept string_eq (λ a b. refl) i v m) c.recoded-in-MapStringU32.ensures.ok)

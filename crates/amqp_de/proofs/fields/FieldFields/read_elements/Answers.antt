@@ -15,8 +15,8 @@ pub returns-in-Ok-read_elements-clause-read : goal.returns-in-Ok-read_elements-c
 returns-in-Ok-read_elements-clause-read g c =
     let behind = rw c.put.ensures.before at c.in-Ok-read_elements.ensures.read in
     rw (c.in-None.is, c.put.ensures.named, c.put.ensures.value) (λ old all rest parts p.
-        let more = c.in-Ok-Some.ensures.part _ c.in-Ok-Some.field-0-is old all _ parts p in
-        row_more c.args.self.now.name.now g.T.Typed.takes g.T.Typed.means _ _ _ old all rest _ parts _ _ more (behind old all rest _ more.more))
+    let more = c.in-Ok-Some.ensures.part _ c.in-Ok-Some.field-0-is old all _ parts p in
+    row_more c.args.self.now.name.now g.T.Typed.takes g.T.Typed.means _ _ _ old all rest _ parts _ _ more (behind old all rest _ more.more))
 
 pub returns-in-Err-read_elements-clause-refused : goal.returns-in-Err-read_elements-clause-refused
 returns-in-Err-read_elements-clause-refused g c =
