@@ -33,7 +33,7 @@ pub trait Fields<R: Read>: Drop {
     /// Reads the next value of a map as that of the field under a name.
     ///
     /// A `Message` where no field without a value has this name, and then the value isn't looked at; else the refusals of the
-    /// field's type. Each of them ends the access and its deserializer once the access is dropped.
+    /// field's type. Drop the access behind a refusal: its deserializer is ended then.
     fn read_field(
         &mut self,
         alloc: Global,
@@ -49,8 +49,8 @@ pub trait Fields<R: Read>: Drop {
 
     /// Reads the next elements of a list as the fields without a value, in order.
     ///
-    /// The refusals are those of the fields' types, and `SequenceLengthMismatch` where there are fewer elements. Each of them
-    /// ends the access and its deserializer once the access is dropped.
+    /// The refusals are those of the fields' types, and `SequenceLengthMismatch` where there are fewer elements. Drop the access
+    /// behind a refusal: its deserializer is ended then.
     fn read_elements(&mut self, alloc: Global, list: &mut ListAccess<'_, R>) -> Result<(), Error>
         ensures same_reference { list.new.de.ghost_name ≡ list.old.de.ghost_name }
         ensures closed { list.old.de.now.answers ≡ false → list.new.de.now.answers ≡ false }
