@@ -1,5 +1,6 @@
 pub mod Received
 pub mod Readings
+pub mod Weaker
 pub mod Begun
 pub mod Data
 pub mod Answered
@@ -14,6 +15,7 @@ pub mod Opening
 pub mod PartsRead
 pub mod Sequence
 pub mod ReadParts
+pub mod Turns
 pub mod Pairs
 pub mod JustSoMany
 pub mod Looking

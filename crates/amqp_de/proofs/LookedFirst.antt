@@ -90,25 +90,6 @@ pub missed_behind : (takes some : Item → Bool) (more grows buffers : Bool) (ol
     → Missed some grows buffers old new e
 missed_behind takes some more grows buffers old mid new x e g h l m = missed_of_kind takes some more grows buffers old mid new x e g (λ i k q. h i q) l m
 
--- less is taken
-pub found_as : (takes some : Item → Bool) (means same : Item → Type 0) (old new : Decoding) → ((i : Item) → IsTrue (takes i) → means i → IsTrue (some i) × same i) → Found takes means old new → Found some same old new
-found_as takes some means same old new h f = record {
-  front = λ a. let o = f.front a in let p = h o.item o.taken o.value in record {
-    item = o.item;
-    text = o.text;
-    spelled = o.spelled;
-    taken = p.0;
-    value = p.1;
-    step = o.step;
-    answers = o.answers;
-    inherited = o.inherited;
-    described = o.described;
-    begun = o.begun;
-  };
-  spent = f.spent;
-  steady = f.steady;
-}
-
 kind_is : (k : Kind) (i : Item) → IsTrue (is_of k i) → item_kind i ≡ k
 kind_is k i q = let p = of_kind_is k i q in ap item_kind p.1 ∙ p.2
 

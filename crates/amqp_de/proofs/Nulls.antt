@@ -10,10 +10,11 @@ use Rattle.amqp_base.specs.Typing.{is_of, is_null}
 use Rattle.amqp_base.specs.SameKind.{same_kind, place}
 use Rattle.amqp_base.specs.Wire.{Wire, lenient}
 use Rattle.amqp_de.specs.Decoding.{Decoding, stands_under}
-use Rattle.amqp_de.specs.Law.{Found, Missed}
+use Rattle.amqp_de.specs.Law.{Front, Found, Missed}
 use Rattle.amqp_de.specs.Look.{item_kind, Looks, LooksNot}
 use Rattle.amqp_de.proofs.Received.{may_taken}
-use Rattle.amqp_de.proofs.LookedFirst.{same_place, found_behind, found_as, missed_of_kind, missed_unseen}
+use Rattle.amqp_de.proofs.LookedFirst.{same_place, found_behind, missed_of_kind, missed_unseen}
+use Rattle.amqp_de.proofs.Weaker.{found_as, found_of}
 use Rattle.amqp_de.proofs.ReadParts.{or_right}
 
 pub null_code : (e : EncodingCodes) → (row e).kind ≡ Kind.null → e ≡ Null
@@ -48,25 +49,12 @@ none_found takes means old mid new x l f = found_as (is_of Kind.null) (takes_opt
 -- a value behind another code than null's isn't null
 some_here : {T : Type 0} (takes : Item → Bool) (means : Item → T → Type 0) (v : T) (old mid new : Decoding) (x : EncodingCodes) → (x ≡ Null → ⊥) → Looks old mid x → Found takes (λ i. means i v) mid new
     → Found (takes_option takes) (λ i. means_option means i (Some v)) mid new
-some_here takes means v old mid new x n l f = record {
-  front = λ a.
-      let o = f.front a in
-      let w : Wire lenient (stands_under old) o.text o.item = rw (same_place old mid x l) at (o.spelled) in
-      record {
-        item = o.item;
-        text = o.text;
-        spelled = o.spelled;
-        taken = or_right (is_null o.item) (takes o.item) o.taken;
-        value = (other_kind x o.item n (l.kind o.item o.text w (may_taken mid.reading new.reading o.text o.step)), o.value);
-        step = o.step;
-        answers = o.answers;
-        inherited = o.inherited;
-        described = o.described;
-        begun = o.begun;
-      };
-  spent = f.spent;
-  steady = f.steady;
-}
+some_here takes means v old mid new x n l f = found_of takes (takes_option takes) (λ i. means i v) (λ i. means_option means i (Some v)) mid new here f
+  where
+    here : (o : Front takes (λ i. means i v) mid new) → IsTrue (takes_option takes o.item) × means_option means o.item (Some v)
+    here o =
+        let w : Wire lenient (stands_under old) o.text o.item = rw (same_place old mid x l) at (o.spelled) in
+        (or_right (is_null o.item) (takes o.item) o.taken, (other_kind x o.item n (l.kind o.item o.text w (may_taken mid.reading new.reading o.text o.step)), o.value))
 
 pub some_found : {T : Type 0} (takes : Item → Bool) (means : Item → T → Type 0) (v : T) (old mid new : Decoding) (x : EncodingCodes) → (x ≡ Null → ⊥) → Looks old mid x → Found takes (λ i. means i v) mid new
     → Found (takes_option takes) (λ i. means_option means i (Some v)) old new

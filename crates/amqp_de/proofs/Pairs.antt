@@ -11,25 +11,11 @@ use Rattle.amqp_de.specs.Parse.{map_data}
 use Rattle.amqp_de.specs.Access.{Listing, HasPairs, Opens, OpensNot, Part, NoPart, Ends, ended}
 use Rattle.amqp_de.specs.ReadParts.{and_last, joined}
 use Rattle.amqp_de.specs.ReadPairs.{KeyNext, ValueNext, broken_off, OutOfTurn, NextKey, NextValue, NextPair, NextEntry, no_key, no_value, and_pair, PairsRead, KeyRead, MoreKey, MoreValue, MorePair, NoMap}
+use Rattle.amqp_de.proofs.Weaker.{found_as}
+use Rattle.amqp_de.proofs.Turns.{and_pairs, pair_turn, one_turn, key_and_value, own_value}
 use Rattle.amqp_de.proofs.PartsRead as read
 use Rattle.amqp_de.proofs.PartsRead.{both, left_of, right_of, missed_more}
 use Rattle.amqp_de.proofs.ReadParts.{or_left, or_right, or_more}
-
--- ---- pairs, and keys and values in turn
-
-pub pair_turn : (ps : Pairs) (k v : Item) → in_turn (and_pair ps k v) ≡ and_last (and_last (in_turn ps) k) v
-pair_turn no_pairs k v = refl
-pair_turn (pair i j ps) k v = ap (λ (x : Items). more i (more j x)) (pair_turn ps k v)
-
-pub one_turn : (ps qs : Pairs) → in_turn ps ≡ in_turn qs → ps ≡ qs
-one_turn no_pairs no_pairs h = refl
-one_turn no_pairs (pair k l qs) h = absurd cc
-one_turn (pair i j ps) no_pairs h = absurd cc
-one_turn (pair i j ps) (pair k l qs) h =
-    let t : in_turn ps ≡ in_turn qs = cc in
-    let a : i ≡ k = cc in
-    let b : j ≡ l = cc in
-    rw (a, b, one_turn ps qs t) refl
 
 module _ (key value : Item → Bool) where
   taken_pair : (ps : Pairs) (k v : Item) → IsTrue (all_pairs_taken key value ps) → IsTrue (key k) → IsTrue (value v) → IsTrue (all_pairs_taken key value (and_pair ps k v))
@@ -47,19 +33,17 @@ module _ (key value : Item → Bool) where
   sorts (scalar v) t = absurd cc
   sorts (described d v) t = absurd cc
 
+  taken_behind : (qs : Pairs) (j v : Item) (ps : Pairs) → IsTrue (all_pairs_taken key value (and_pairs qs (pair j v ps))) → IsTrue (key j) × IsTrue (value v)
+  taken_behind no_pairs j v ps t = let p = left_of (key j && value v) _ t in (left_of (key j) (value v) p, right_of (key j) (value v) p)
+  taken_behind (pair k l qs) j v ps t = taken_behind qs j v ps (right_of (key k && value l) _ t)
+
   -- what stands behind pairs is a key
   key_behind : (qs ps : Pairs) (j : Item) (js : Items) → in_turn ps ≡ joined (in_turn qs) (more j js) → IsTrue (all_pairs_taken key value ps) → IsTrue (key j)
-  key_behind no_pairs no_pairs j js e t = absurd cc
-  key_behind no_pairs (pair k v ps) j js e t = let a : j ≡ k = cc in rw a (left_of (key k) (value v) (left_of (key k && value v) _ t))
-  key_behind (pair i l qs) no_pairs j js e t = absurd cc
-  key_behind (pair i l qs) (pair k v ps) j js e t = let r : in_turn ps ≡ joined (in_turn qs) (more j js) = cc in key_behind qs ps j js r (right_of (key k && value v) _ t)
+  key_behind qs ps j js e t = let k = key_and_value qs ps j js e in (taken_behind qs j k.0 k.1 (rw k.2 at t)).0
 
   -- what stands behind pairs and a key is a value
   value_behind : (qs ps : Pairs) (i j : Item) (js : Items) → in_turn ps ≡ joined (and_last (in_turn qs) i) (more j js) → IsTrue (all_pairs_taken key value ps) → IsTrue (value j)
-  value_behind no_pairs no_pairs i j js e t = absurd cc
-  value_behind no_pairs (pair k v ps) i j js e t = let a : j ≡ v = cc in rw a (right_of (key k) (value v) (left_of (key k && value v) _ t))
-  value_behind (pair x l qs) no_pairs i j js e t = absurd cc
-  value_behind (pair x l qs) (pair k v ps) i j js e t = let r : in_turn ps ≡ joined (and_last (in_turn qs) i) (more j js) = cc in value_behind qs ps i j js r (right_of (key k && value v) _ t)
+  value_behind qs ps i j js e t = let k = own_value qs ps i j js e in (taken_behind qs i j k.0 (rw k.1 at t)).1
 
   -- an item of these pairs is taken
   pairs_item : (pairs : Pairs) → IsTrue (all_pairs_taken key value pairs) → (i : Item) → HasPairs i (in_turn pairs) → IsTrue (is_map_of key value i) × (i ≡ map pairs)
@@ -239,19 +223,4 @@ module _ {K V : Type 0} (key : Item → K → Type 0) (value : Item → V → Ty
 
   -- the map that was read means its entries
   pub entries_found : (takes : Item → Bool) (ps : Pairs) (entries : List (K × V)) (old new : Decoding) → Found takes (λ i. i ≡ map ps) old new → MeansPairs key value put ps entries → Found takes (λ i. means_map key value put i entries) old new
-  entries_found takes ps entries old new f m = record {
-    front = λ a. let x = f.front a in record {
-      item = x.item;
-      text = x.text;
-      spelled = x.spelled;
-      taken = x.taken;
-      value = rw x.value m;
-      step = x.step;
-      answers = x.answers;
-      inherited = x.inherited;
-      described = x.described;
-      begun = x.begun;
-    };
-    spent = f.spent;
-    steady = f.steady;
-  }
+  entries_found takes ps entries old new f m = found_as takes takes (λ i. i ≡ map ps) (λ i. means_map key value put i entries) old new (λ i t h. (t, rw h m)) f

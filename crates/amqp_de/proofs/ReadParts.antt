@@ -10,6 +10,7 @@ use Rattle.amqp_de.specs.Parse.{item_at, list_data}
 use Rattle.amqp_de.specs.Access.{Listing, HasParts, Opens, OpensNot, Part, NoPart, Next, Ends, ended}
 use Rattle.amqp_de.specs.ReadParts.{Progress, HasRead, MoreRead, RefusesParts, and_last, joined}
 use Rattle.amqp_de.proofs.Readings.{excused_more, rejects_more}
+use Rattle.amqp_de.proofs.Weaker.{found_as}
 use Rattle.amqp_de.proofs.PartsRead as read
 use Rattle.amqp_de.proofs.PartsRead.{left_of, missed_more}
 
@@ -113,22 +114,7 @@ module _ (old : Decoding) (all others : List (Item → Bool)) (parts : Items) (n
 
 -- the parts mean the fields
 pub found_meant : (fields : List (Item → Bool)) (ms : List {1} (Item → Type 0)) (parts : Items) (old new : Decoding) → Found (takes_fields fields) (λ i. HasParts i parts) old new → all_meanings ms parts → Found (takes_fields fields) (λ i. means_fields ms i) old new
-found_meant fields ms parts old new f m = record {
-  front = λ a. let x = f.front a in record {
-    item = x.item;
-    text = x.text;
-    spelled = x.spelled;
-    taken = x.taken;
-    value = meant_fields ms x.item parts x.value m;
-    step = x.step;
-    answers = x.answers;
-    inherited = x.inherited;
-    described = x.described;
-    begun = x.begun;
-  };
-  spent = f.spent;
-  steady = f.steady;
-}
+found_meant fields ms parts old new f m = found_as (takes_fields fields) (takes_fields fields) (λ i. HasParts i parts) (λ i. means_fields ms i) old new (λ i t h. (t, meant_fields ms i parts h m)) f
 
 -- ---- the calls
 

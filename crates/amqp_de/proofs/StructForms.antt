@@ -14,7 +14,8 @@ use Rattle.amqp_de.specs.Law.{Found, Missed}
 use Rattle.amqp_de.specs.Look.{item_kind, Looks, LooksNot}
 use Rattle.amqp_de.specs.Access.{Listing, HasParts, Opens}
 use Rattle.amqp_de.specs.ReadParts.{Progress}
-use Rattle.amqp_de.proofs.LookedFirst.{found_behind, found_as, missed_of_kind, missed_unseen}
+use Rattle.amqp_de.proofs.LookedFirst.{found_behind, missed_of_kind, missed_unseen}
+use Rattle.amqp_de.proofs.Weaker.{found_as}
 use Rattle.amqp_de.proofs.JustSoMany.{count_fields}
 use Rattle.amqp_de.proofs.MapHeaders.{map_codes}
 use Rattle.amqp_de.proofs.ReadParts.{progress_start, not_taken}

@@ -17,48 +17,7 @@ use Rattle.amqp_de.specs.ReadPairs.{KeyNext, ValueNext, OutOfTurn, and_pair, Pai
 use Rattle.amqp_de.specs.ReadFields.{Slots, all_read, HaveValues, under_name, FieldRead, NoField, unknown, refused}
 use Rattle.amqp_de.proofs.PartsRead as read
 use Rattle.amqp_de.proofs.PartsRead.{left_of, right_of, missed_more}
-use Rattle.amqp_de.proofs.Pairs.{pair_turn, one_turn}
-
--- ---- pairs behind pairs
-
-abbrev and_pairs : Pairs → Pairs → Pairs
-and_pairs no_pairs qs = qs
-and_pairs (pair k v ps) qs = pair k v (and_pairs ps qs)
-
-pairs_last : (ps : Pairs) (k v : Item) (qs : Pairs) → and_pairs (and_pair ps k v) qs ≡ and_pairs ps (pair k v qs)
-pairs_last no_pairs k v qs = refl
-pairs_last (pair i j ps) k v qs = ap (pair i j) (pairs_last ps k v qs)
-
-pairs_none : (ps : Pairs) → and_pairs ps no_pairs ≡ ps
-pairs_none no_pairs = refl
-pairs_none (pair k v ps) = ap (pair k v) (pairs_none ps)
-
-same_pair : {k i v l : Item} {ps qs : Pairs} → k ≡ i → v ≡ l → ps ≡ qs → pair k v ps ≡ pair i l qs
-same_pair {i = i} {v = v} {l = l} {ps = ps} a b c = ap (λ (x : Item). pair x v ps) a ∙ (ap (λ (x : Item). pair i x ps) b ∙ ap (pair i l) c)
-
--- what stands behind pairs is a key and its value
-key_and_value : (qs ps : Pairs) (j : Item) (js : Items) → in_turn ps ≡ joined (in_turn qs) (more j js) → (v : Item) × (rs : Pairs) × (ps ≡ and_pairs qs (pair j v rs))
-key_and_value no_pairs no_pairs j js e = absurd cc
-key_and_value no_pairs (pair k v ps) j js e = let a : k ≡ j = cc in (v, ps, rw a refl)
-key_and_value (pair i l qs) no_pairs j js e = absurd cc
-key_and_value (pair i l qs) (pair k v ps) j js e =
-    let a : k ≡ i = cc in
-    let b : v ≡ l = cc in
-    let r : in_turn ps ≡ joined (in_turn qs) (more j js) = cc in
-    let t = key_and_value qs ps j js r in
-    (t.0, t.1, same_pair a b t.2)
-
--- what stands behind pairs and a key is its value
-value_behind : (qs ps : Pairs) (i j : Item) (js : Items) → in_turn ps ≡ joined (and_last (in_turn qs) i) (more j js) → (rs : Pairs) × (ps ≡ and_pairs qs (pair i j rs))
-value_behind no_pairs no_pairs i j js e = absurd cc
-value_behind no_pairs (pair k v ps) i j js e = let a : k ≡ i = cc in let b : v ≡ j = cc in (ps, rw (a, b) refl)
-value_behind (pair x l qs) no_pairs i j js e = absurd cc
-value_behind (pair x l qs) (pair k v ps) i j js e =
-    let a : k ≡ x = cc in
-    let b : v ≡ l = cc in
-    let r : in_turn ps ≡ joined (and_last (in_turn qs) i) (more j js) = cc in
-    let t = value_behind qs ps i j js r in
-    (t.0, same_pair a b t.1)
+use Rattle.amqp_de.proofs.Turns.{and_pairs, pairs_last, pairs_none, pair_turn, one_turn, key_and_value, own_value}
 
 -- ---- names
 
@@ -190,7 +149,7 @@ module _ {V : Type 0} (old : Decoding) (all s : Slots V) (now : Listing) where
     where
       heads : (j : Item) (js : Items) → Taken all.names all.kinds (joined (and_last (in_turn r.pairs) (scalar (string name))) (more j js)) → IsTrue (kind j)
       heads j js t =
-          let k = value_behind r.pairs t.0 (scalar (string name)) j js t.1 in
+          let k = own_value r.pairs t.0 (scalar (string name)) j js t.1 in
           let v : IsTrue (takes_named all.names all.kinds (and_pairs r.pairs (under_name name j k.0))) = rw k.1 at t.2 in
           u j k.0 (sym (r.picked (under_name name j k.0)) ∙ v)
   field_missed name r next buffers e (unknown same calm absent) = rw same (read.not_taken old r.from (and_last (in_turn r.pairs) (scalar (string name))) now r.opened r.reads (takes_map all.names all.kinds) (Taken all.names all.kinds) (sorts all.names all.kinds) true buffers now.state e calm refl refl nobody)
@@ -198,7 +157,7 @@ module _ {V : Type 0} (old : Decoding) (all s : Slots V) (now : Listing) where
       nobody : (js : Items) → count js ≡ now.left → Taken all.names all.kinds (joined (and_last (in_turn r.pairs) (scalar (string name))) js) → ⊥
       nobody none c t = let k = r.turn in absurd (omega (arith, c, k))
       nobody (more j js) c t =
-          let k = value_behind r.pairs t.0 (scalar (string name)) j js t.1 in
+          let k = own_value r.pairs t.0 (scalar (string name)) j js t.1 in
           let v : IsTrue (takes_named all.names all.kinds (and_pairs r.pairs (under_name name j k.0))) = rw k.1 at t.2 in
           let a = absent j k.0 in
           let b = r.picked (under_name name j k.0) in

@@ -28,3 +28,7 @@ stands_under d = behind_descriptor d.inherited d.described
 -- the same, where calls are answered
 abbrev pub ready : Decoding → Decoding
 ready d = record { reading = d.reading; answers = true; inherited = d.inherited; described = d.described; begun = d.begun }
+
+-- the same, where no call is answered any more
+abbrev pub silenced : Decoding → Decoding
+silenced d = record { reading = d.reading; answers = false; inherited = d.inherited; described = d.described; begun = d.begun }

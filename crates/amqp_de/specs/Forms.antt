@@ -6,7 +6,7 @@ use Rattle.amqp_base.specs.declared.error.Error.TheVariants.{InvalidValue}
 use Rattle.amqp_base.specs.Item.{Item, none, no_pairs}
 use Rattle.amqp_base.specs.NamedFields.{takes_struct}
 use Rattle.amqp_base.specs.Structs.{is_described_name}
-use Rattle.amqp_de.specs.Decoding.{Decoding, stands_under}
+use Rattle.amqp_de.specs.Decoding.{Decoding, stands_under, silenced}
 use Rattle.amqp_de.specs.Law.{Missed}
 use Rattle.amqp_de.specs.Access.{Listing, HasParts, HasPairs, Opens, OpensExactly, Next}
 use Rattle.amqp_de.specs.Parse.{item_at, tuple_data, struct_data}
@@ -73,15 +73,16 @@ pub record NoStruct (len : ℕ) (buffers : Bool) (old last : Decoding) (e : Erro
   pub closed : last.answers ≡ false
   pub missed : (names : List (List ℕ)) (fields : List (Item → Bool)) → length fields ≡ len → Missed (takes_struct names fields) buffers buffers old last e
 
--- the same of a call's answer, under a plain name
+-- what a refused call leaves, by the struct's name
 pub record RefusesStruct {A : Type 0} (name : List ℕ) (len : ℕ) (buffers : Bool) (old : Decoding) (r : Result A Error) (last : Decoding) : Type 0 where
   pub unopened : is_described_name name ≡ false → IfErr r (λ e. NoStruct len buffers old last e)
-  pub closed : IfErr r (λ e. last.answers ≡ false)
+  -- under the name of a described struct nothing was read
+  pub unread : is_described_name name ≡ true → last ≡ silenced old
 
--- no tuple struct was opened, under a plain name
+-- the same of a tuple struct
 pub record RefusesRow {A : Type 0} (name : List ℕ) (len : ℕ) (buffers : Bool) (old : Decoding) (r : Result A Error) (last : Decoding) : Type 0 where
   pub unopened : is_described_name name ≡ false → IfErr r (λ e. NoTuple len buffers old last e)
-  pub closed : IfErr r (λ e. last.answers ≡ false)
+  pub unread : is_described_name name ≡ true → last ≡ silenced old
 
 -- a call of another form
 abbrev pub WrongForm : {A : Type 0} → Listing → Result A Error → Listing → Type 0
