@@ -21,17 +21,26 @@ fn codes_ahead(rt: HostRuntime) -> Result<(), Fail> {
         assert_eq!(rt; de.deserialize_any()?, want, "a look changes nothing");
         assert_eq!(rt; de.into_reader().bytes_consumed(), 0);
     }
+    Ok(())
+}
+
+#[test]
+fn a_look_before_an_item(rt: HostRuntime) -> Result<(), Fail> {
     let mut de = Deserializer::new(SliceReader::new(b"\x54\x05"));
     assert_eq!(rt; de.deserialize_any()?, EncodingCodes::SmallInt);
     assert_eq!(rt; de.deserialize_i32()?, 5, "the item is still there");
     assert_eq!(rt; outcome(&de.deserialize_any()), Answer::UnexpectedEof);
     assert_eq!(rt; outcome(&de.deserialize_any()), Answer::InvalidValue);
     assert_eq!(rt; de.into_reader().bytes_consumed(), 2);
+    Ok(())
+}
+
+#[test]
+fn a_look_at_no_code(rt: HostRuntime) {
     let mut de = Deserializer::new(SliceReader::new(b"\x57"));
     assert_eq!(rt; outcome(&de.deserialize_any()), Answer::InvalidFormatCode);
     assert_eq!(rt; outcome(&de.deserialize_any()), Answer::InvalidValue);
     assert_eq!(rt; de.into_reader().bytes_consumed(), 0);
-    Ok(())
 }
 
 #[test]

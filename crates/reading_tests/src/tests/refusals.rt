@@ -35,15 +35,31 @@ fn after_a_refusal(rt: HostRuntime) -> Result<(), Fail> {
     assert_eq!(rt; de.deserialize_u32()?, 0);
     assert_eq!(rt; outcome(&de.deserialize_u32()), Answer::InvalidFormatCode);
     is_ended(&rt, alloc, de, 2);
-    let mut de = Deserializer::new(SliceReader::new(bytes));
+    Ok(())
+}
+
+#[test]
+fn after_a_refused_number(rt: HostRuntime) {
+    let alloc = rt.alloc();
+    let mut de = Deserializer::new(SliceReader::new(b"\x43\x57\x43\x43"));
     assert_eq!(rt; outcome(&de.deserialize_i32()), Answer::InvalidFormatCode);
     is_ended(&rt, alloc, de, 1);
+}
+
+#[test]
+fn after_a_refused_string(rt: HostRuntime) {
+    let alloc = rt.alloc();
     let mut de = Deserializer::new(SliceReader::new(b"\xa1\x01\xff\x43"));
     assert_eq!(rt;
         outcome(&de.deserialize_string(alloc)),
         Answer::InvalidUtf8Encoding
     );
     is_ended(&rt, alloc, de, 3);
+}
+
+#[test]
+fn after_a_refused_look_or_list(rt: HostRuntime) {
+    let alloc = rt.alloc();
     let mut de = Deserializer::new(SliceReader::new(b"\x57\x43"));
     assert_eq!(rt; outcome(&de.deserialize_any()), Answer::InvalidFormatCode);
     is_ended(&rt, alloc, de, 0);
@@ -53,7 +69,6 @@ fn after_a_refusal(rt: HostRuntime) -> Result<(), Fail> {
         Answer::InvalidLength
     );
     is_ended(&rt, alloc, de, 3);
-    Ok(())
 }
 
 #[test]

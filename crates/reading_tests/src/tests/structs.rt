@@ -20,13 +20,23 @@ fn rows_of_fields(rt: HostRuntime) -> Result<(), Fail> {
     assert!(rt; matches!(&foo.next_element::<bool>(alloc), Ok(Some(true))));
     assert!(rt; matches!(&foo.next_element::<bool>(alloc), Ok(None)));
     assert!(rt; foo.end().is_ok());
-    // a name of a list
+    Ok(())
+}
+
+#[test]
+fn a_name_of_a_row(rt: HostRuntime) -> Result<(), Fail> {
+    let alloc = rt.alloc();
     let mut de = Deserializer::new(SliceReader::new(&ROW));
     let mut foo = de.deserialize_struct(alloc, "Foo", 2)?;
     assert!(rt; matches!(&foo.next_key::<u32>(alloc), Err(Error::InvalidValue)));
     assert!(rt; matches!(&foo.next_element::<u32>(alloc), Err(Error::InvalidValue)));
     assert!(rt; matches!(&foo.end(), Err(Error::InvalidValue)));
-    // an element once, and no more
+    Ok(())
+}
+
+#[test]
+fn an_unread_field(rt: HostRuntime) -> Result<(), Fail> {
+    let alloc = rt.alloc();
     let mut de = Deserializer::new(SliceReader::new(&ROW));
     let mut foo = de.deserialize_tuple_struct(alloc, "Foo", 2)?;
     assert!(rt; matches!(&foo.next_element::<u32>(alloc), Ok(Some(13))));
@@ -45,11 +55,22 @@ fn maps_of_fields(rt: HostRuntime) -> Result<(), Fail> {
     assert!(rt; matches!(&foo.next_value::<u32>(alloc), Ok(13)));
     assert!(rt; matches!(&foo.next_key::<String>(alloc), Ok(None)));
     assert!(rt; foo.end().is_ok());
+    Ok(())
+}
+
+#[test]
+fn entries_of_fields(rt: HostRuntime) -> Result<(), Fail> {
+    let alloc = rt.alloc();
     let mut de = Deserializer::new(SliceReader::new(&NAMED));
     let mut foo = de.deserialize_struct(alloc, "Foo", 2)?;
     assert!(rt; matches!(&foo.next_entry::<String, u32>(alloc), Ok(Some((_, 13)))));
     assert!(rt; foo.end().is_ok());
-    // an element of a map
+    Ok(())
+}
+
+#[test]
+fn an_element_of_a_map(rt: HostRuntime) -> Result<(), Fail> {
+    let alloc = rt.alloc();
     let mut de = Deserializer::new(SliceReader::new(&NAMED));
     let mut foo = de.deserialize_struct(alloc, "Foo", 2)?;
     assert!(rt; matches!(&foo.next_element::<u32>(alloc), Err(Error::InvalidValue)));

@@ -4,7 +4,7 @@ use super::{Answer, front, outcome};
 use std::test::Fail;
 
 #[test]
-fn tuples(rt: HostRuntime) -> Result<(), Fail> {
+fn small_tuples(rt: HostRuntime) -> Result<(), Fail> {
     let alloc = rt.alloc();
     let (value, taken) = front::<(u32,)>(alloc, b"\xc0\x02\x01\x43\x40")?;
     assert_eq!(rt; value.0, 0);
@@ -13,12 +13,24 @@ fn tuples(rt: HostRuntime) -> Result<(), Fail> {
     assert_eq!(rt; value.0, 13);
     assert!(rt; value.1);
     assert_eq!(rt; taken, 6);
+    Ok(())
+}
+
+#[test]
+fn triples(rt: HostRuntime) -> Result<(), Fail> {
+    let alloc = rt.alloc();
     let bytes = b"\xd0\x00\x00\x00\x0b\x00\x00\x00\x03\x54\xff\xa1\x02hi\x42";
     let (value, taken) = front::<(i32, String, bool)>(alloc, bytes)?;
     assert_eq!(rt; value.0, -1);
     assert_eq!(rt; value.1.as_str(), "hi");
     assert!(rt; !value.2);
     assert_eq!(rt; taken, bytes.len());
+    Ok(())
+}
+
+#[test]
+fn tuples_of_four(rt: HostRuntime) -> Result<(), Fail> {
+    let alloc = rt.alloc();
     let bytes = b"\xc0\x08\x04\x50\x01\x50\x02\xc0\x01\x00\x40";
     let (value, taken) = front::<(u8, u8, Vec<u32>, ())>(alloc, bytes)?;
     assert_eq!(rt; value.0, 1);
