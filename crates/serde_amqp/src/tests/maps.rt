@@ -5,18 +5,27 @@ use std::collections::BTreeMap;
 use std::io::ErrorKind;
 use std::test::Fail;
 
+// from b to 1, from a to 2, from b to 3
+const REPEATED: [u8; 18] = [
+    0xc1, 0x10, 6, 0xa1, 1, 0x62, 0x52, 1, 0xa1, 1, 0x61, 0x52, 2, 0xa1, 1, 0x62, 0x52, 3,
+];
+
 #[test]
-fn a_repeated_key_keeps_its_place_and_gets_the_last_value(rt: HostRuntime) -> Result<(), Fail> {
+fn a_repeated_key_gets_the_last_value(rt: HostRuntime) -> Result<(), Fail> {
     let alloc = rt.alloc();
-    let bytes = [
-        0xc1, 0x10, 6, 0xa1, 1, 0x62, 0x52, 1, 0xa1, 1, 0x61, 0x52, 2, 0xa1, 1, 0x62, 0x52, 3,
-    ];
     let a = String::from_str(alloc, "a")?;
     let b = String::from_str(alloc, "b")?;
-    let ordered: OrderedMap<String, u32> = from_slice(alloc, &bytes)?;
+    let ordered: OrderedMap<String, u32> = from_slice(alloc, &REPEATED)?;
     assert_eq!(rt; ordered.len(), 2);
     assert!(rt; ordered.get(&b) == Some(&3));
     assert!(rt; ordered.get(&a) == Some(&2));
+    Ok(())
+}
+
+#[test]
+fn a_repeated_key_keeps_its_place(rt: HostRuntime) -> Result<(), Fail> {
+    let alloc = rt.alloc();
+    let ordered: OrderedMap<String, u32> = from_slice(alloc, &REPEATED)?;
     let mut first = String::new(alloc);
     for (key, _) in ordered.iter() {
         if first.is_empty() {
@@ -24,7 +33,14 @@ fn a_repeated_key_keeps_its_place_and_gets_the_last_value(rt: HostRuntime) -> Re
         }
     }
     assert_eq!(rt; first.as_str(), "b");
-    let sorted: BTreeMap<String, u32> = from_slice(alloc, &bytes)?;
+    Ok(())
+}
+
+#[test]
+fn a_repeated_key_of_a_sorted_map(rt: HostRuntime) -> Result<(), Fail> {
+    let alloc = rt.alloc();
+    let b = String::from_str(alloc, "b")?;
+    let sorted: BTreeMap<String, u32> = from_slice(alloc, &REPEATED)?;
     assert_eq!(rt; sorted.len(), 2);
     assert!(rt; sorted.get(&b) == Some(&3));
     Ok(())
@@ -66,30 +82,46 @@ fn refusals_of_maps(rt: HostRuntime) {
     );
 }
 
+const ONE_PAIR: [u8; 5] = [0xc1, 3, 2, 0x43, 0x41];
+
 #[test]
 fn keys_and_values_come_in_turn(rt: HostRuntime) -> Result<(), Fail> {
     let alloc = rt.alloc();
-    let bytes = [0xc1, 3, 2, 0x43, 0x41];
-    let mut de = Deserializer::new(SliceReader::new(&bytes));
+    let mut de = Deserializer::new(SliceReader::new(&ONE_PAIR));
     let mut pairs = de.deserialize_map()?;
     assert!(rt; matches!(&pairs.next_key::<u32>(alloc), Ok(Some(0))));
     assert!(rt; matches!(&pairs.next_value::<bool>(alloc), Ok(true)));
     assert!(rt; matches!(&pairs.next_key::<u32>(alloc), Ok(None)));
     assert!(rt; pairs.end().is_ok());
-    // a second key
-    let mut de = Deserializer::new(SliceReader::new(&bytes));
+    Ok(())
+}
+
+#[test]
+fn a_second_key(rt: HostRuntime) -> Result<(), Fail> {
+    let alloc = rt.alloc();
+    let mut de = Deserializer::new(SliceReader::new(&ONE_PAIR));
     let mut pairs = de.deserialize_map()?;
     assert!(rt; pairs.next_key::<u32>(alloc).is_ok());
     assert!(rt; matches!(&pairs.next_key::<u32>(alloc), Err(Error::InvalidValue)));
     assert!(rt; matches!(&pairs.end(), Err(Error::InvalidValue)));
-    // a value without a key
-    let mut de = Deserializer::new(SliceReader::new(&bytes));
+    Ok(())
+}
+
+#[test]
+fn a_value_without_a_key(rt: HostRuntime) -> Result<(), Fail> {
+    let alloc = rt.alloc();
+    let mut de = Deserializer::new(SliceReader::new(&ONE_PAIR));
     let mut pairs = de.deserialize_map()?;
     assert!(rt; matches!(&pairs.next_value::<u32>(alloc), Err(Error::InvalidValue)));
     assert!(rt; matches!(&pairs.next_key::<u32>(alloc), Err(Error::InvalidValue)));
     assert!(rt; matches!(&pairs.end(), Err(Error::InvalidValue)));
-    // a key whose value isn't read
-    let mut de = Deserializer::new(SliceReader::new(&bytes));
+    Ok(())
+}
+
+#[test]
+fn an_unread_value(rt: HostRuntime) -> Result<(), Fail> {
+    let alloc = rt.alloc();
+    let mut de = Deserializer::new(SliceReader::new(&ONE_PAIR));
     let mut pairs = de.deserialize_map()?;
     assert!(rt; pairs.next_key::<u32>(alloc).is_ok());
     assert!(rt; matches!(&pairs.end(), Err(Error::SequenceLengthMismatch)));

@@ -5,7 +5,7 @@ use std::collections::BTreeMap;
 use std::test::Fail;
 
 #[test]
-fn writes_ordered_maps_in_their_order(rt: HostRuntime) -> Result<(), Fail> {
+fn writes_ordered_maps(rt: HostRuntime) -> Result<(), Fail> {
     let alloc = rt.alloc();
     let mut times = OrderedMap::new(alloc);
     assert_eq!(rt; to_vec(alloc, &times)?.as_slice(), [0xc1, 1, 0].as_slice());
@@ -18,7 +18,12 @@ fn writes_ordered_maps_in_their_order(rt: HostRuntime) -> Result<(), Fail> {
         to_vec(alloc, &times)?.as_slice(),
         [0xc1, 0x0d, 2, 0x83, 0, 0, 0, 0, 0, 0, 0, 0, 0xa1, 1, 0x78].as_slice()
     );
+    Ok(())
+}
 
+#[test]
+fn writes_a_repeated_key_in_its_first_place(rt: HostRuntime) -> Result<(), Fail> {
+    let alloc = rt.alloc();
     let mut turned = OrderedMap::new(alloc);
     assert!(rt; matches!(&turned.insert(2u8, true), Ok(None)));
     assert!(rt; matches!(&turned.insert(1u8, true), Ok(None)));
