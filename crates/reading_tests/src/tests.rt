@@ -1,5 +1,6 @@
 //! What reading answers, with ample memory.
 
+mod input;
 mod lists;
 mod looks;
 mod maps;
@@ -53,5 +54,22 @@ fn outcome<T>(answer: &Result<T, Error>) -> Answer {
         Err(Error::SequenceLengthMismatch) => Answer::SequenceLengthMismatch,
         Err(Error::InvalidLength) => Answer::InvalidLength,
         Err(Error::OutOfMemory) => Answer::OutOfMemory,
+    }
+}
+
+/// What a type answers to the bytes.
+fn answer_to<'s, T: Deserialize<SliceReader<'s>>>(alloc: Global, bytes: &'s [u8]) -> Answer {
+    outcome(&front::<T>(alloc, bytes))
+}
+
+/// That the bytes, all of them, are read as the value.
+fn is_read_as<'s, T: Deserialize<SliceReader<'s>> + PartialEq>(
+    alloc: Global,
+    bytes: &'s [u8],
+    want: &T,
+) -> bool {
+    match front::<T>(alloc, bytes) {
+        Ok((value, taken)) => value == *want && taken == bytes.len(),
+        Err(_e) => false,
     }
 }

@@ -4,30 +4,43 @@ mod compounds;
 mod forms;
 mod maps;
 mod maps_written;
-mod options;
 mod refusals;
 mod structs;
 mod texts;
 
-use crate::{Deserializer, Error, Read, SliceReader, from_slice, to_vec};
+use crate::{Deserialize, Deserializer, Error, Read, Serialize, SliceReader, from_slice, to_vec};
+use std::alloc::Global;
 use std::io::ErrorKind;
 use std::test::Fail;
+
+/// `to_vec` without its contract, which a test's proof would carry along: a test compares what it answers.
+fn written<T: Serialize>(alloc: Global, value: &T) -> Result<Vec<u8>, Error> {
+    to_vec(alloc, value)
+}
+
+/// `from_slice` without its contract.
+fn read<'s, T: Deserialize<SliceReader<'s>>>(alloc: Global, bytes: &'s [u8]) -> Result<T, Error> {
+    from_slice(alloc, bytes)
+}
 
 #[test]
 fn writes_numbers_in_their_shortest_form(rt: HostRuntime) -> Result<(), Fail> {
     let alloc = rt.alloc();
-    assert_eq!(rt; to_vec(alloc, &0u32)?.as_slice(), [0x43].as_slice());
-    assert_eq!(rt; to_vec(alloc, &255u32)?.as_slice(), [0x52, 0xff].as_slice());
+    assert_eq!(rt; written(alloc, &0u32)?.as_slice(), [0x43].as_slice());
     assert_eq!(rt;
-        to_vec(alloc, &256u32)?.as_slice(),
+        written(alloc, &255u32)?.as_slice(),
+        [0x52, 0xff].as_slice()
+    );
+    assert_eq!(rt;
+        written(alloc, &256u32)?.as_slice(),
         [0x70, 0, 0, 1, 0].as_slice()
     );
     assert_eq!(rt;
-        to_vec(alloc, &-128i32)?.as_slice(),
+        written(alloc, &-128i32)?.as_slice(),
         [0x54, 0x80].as_slice()
     );
     assert_eq!(rt;
-        to_vec(alloc, &128i32)?.as_slice(),
+        written(alloc, &128i32)?.as_slice(),
         [0x71, 0, 0, 0, 0x80].as_slice()
     );
     Ok(())
@@ -37,10 +50,10 @@ fn writes_numbers_in_their_shortest_form(rt: HostRuntime) -> Result<(), Fail> {
 fn writes_lists(rt: HostRuntime) -> Result<(), Fail> {
     let alloc = rt.alloc();
     let none: Vec<i32> = Vec::new(alloc);
-    assert_eq!(rt; to_vec(alloc, &none)?.as_slice(), [0x45].as_slice());
+    assert_eq!(rt; written(alloc, &none)?.as_slice(), [0x45].as_slice());
     let two = vec![in alloc; 1i32, 2]?;
     assert_eq!(rt;
-        to_vec(alloc, &two)?.as_slice(),
+        written(alloc, &two)?.as_slice(),
         [0xc0, 5, 2, 0x54, 1, 0x54, 2].as_slice()
     );
     Ok(())
@@ -53,18 +66,18 @@ fn writes_list8_up_to_254_bytes_of_elements(rt: HostRuntime) -> Result<(), Fail>
     for n in 0..127i32 {
         numbers.push(n)?;
     }
-    let text = to_vec(alloc, &numbers)?;
+    let text = written(alloc, &numbers)?;
     assert_eq!(rt; text.len(), 257);
     assert!(rt; text.as_slice().starts_with(&[0xc0, 0xff, 0x7f]));
     numbers.push(127)?;
-    let text = to_vec(alloc, &numbers)?;
+    let text = written(alloc, &numbers)?;
     assert_eq!(rt; text.len(), 265);
     assert!(rt;
         text.as_slice()
             .starts_with(&[0xd0, 0, 0, 1, 4, 0, 0, 0, 0x80])
     );
     assert_eq!(rt;
-        from_slice::<Vec<i32>>(alloc, text.as_slice())?.as_slice(),
+        read::<Vec<i32>>(alloc, text.as_slice())?.as_slice(),
         numbers.as_slice()
     );
     Ok(())
@@ -73,14 +86,11 @@ fn writes_list8_up_to_254_bytes_of_elements(rt: HostRuntime) -> Result<(), Fail>
 #[test]
 fn reads_forms_that_are_not_canonical(rt: HostRuntime) -> Result<(), Fail> {
     let alloc = rt.alloc();
-    assert_eq!(rt; from_slice::<u32>(alloc, &[0x70, 0, 0, 0, 0xff])?, 255);
+    assert_eq!(rt; read::<u32>(alloc, &[0x70, 0, 0, 0, 0xff])?, 255);
     let list = [0xc0, 2, 1, 0x71, 0, 0, 0, 5];
-    assert_eq!(rt;
-        from_slice::<Vec<i32>>(alloc, &list)?.as_slice(),
-        [5].as_slice()
-    );
+    assert_eq!(rt; read::<Vec<i32>>(alloc, &list)?.as_slice(), [5].as_slice());
     let text = [0xb1, 0, 0, 0, 4, 0x61, 0x6d, 0x71, 0x70];
-    assert_eq!(rt; from_slice::<String>(alloc, &text)?.as_str(), "amqp");
+    assert_eq!(rt; read::<String>(alloc, &text)?.as_str(), "amqp");
     Ok(())
 }
 
@@ -89,37 +99,14 @@ fn reads_what_it_writes_at_every_nesting(rt: HostRuntime) -> Result<(), Fail> {
     let alloc = rt.alloc();
     let inner = vec![in alloc; String::from_str(alloc, "a")?, String::new(alloc)]?;
     let nested = vec![in alloc; inner, Vec::new(alloc)]?;
-    let text = to_vec(alloc, &nested)?;
-    let again = from_slice::<Vec<Vec<String>>>(alloc, text.as_slice())?;
+    let text = written(alloc, &nested)?;
+    let again = read::<Vec<Vec<String>>>(alloc, text.as_slice())?;
     assert_eq!(rt; again.len(), 2);
     assert_eq!(rt; again[0].len(), 2);
     assert_eq!(rt; again[0][0].as_str(), "a");
     assert_eq!(rt; again[0][1].as_str(), "");
     assert!(rt; again[1].is_empty());
     Ok(())
-}
-
-#[test]
-fn refuses_lists_by_the_rule_of_their_header(rt: HostRuntime) {
-    let alloc = rt.alloc();
-    assert!(rt;
-        matches!(
-            &from_slice::<Vec<i32>>(alloc, &[0xc0, 0, 0]),
-            Err(Error::InvalidLength)
-        )
-    );
-    assert!(rt;
-        matches!(
-            &from_slice::<Vec<i32>>(alloc, &[0xc0, 0]),
-            Err(Error::Io(ErrorKind::UnexpectedEof))
-        )
-    );
-    assert!(rt;
-        matches!(
-            &from_slice::<Vec<i32>>(alloc, &[0xd0, 0, 0, 0, 4, 0, 1, 0, 1]),
-            Err(Error::InvalidValue)
-        )
-    );
 }
 
 #[test]

@@ -1,8 +1,10 @@
 //! The bytes of values by the standard's own rules, and what follows a refusal.
 
 mod compounds;
+mod output;
 mod values;
 
+use self::output::{Output, each, element};
 use amqp_base::{Counted, Error};
 use amqp_ser::{Serialize, Serializer};
 use std::alloc::Global;
@@ -36,35 +38,31 @@ fn is_invalid_value(r: &Result<(), Error>) -> bool {
     matches!(r, Err(Error::InvalidValue))
 }
 
+/// The value is written as the bytes.
+fn is_written_as<T: Serialize>(alloc: Global, value: &T, bytes: &[u8]) -> bool {
+    match written(alloc, value) {
+        Ok(text) => text.as_slice() == bytes,
+        Err(_e) => false,
+    }
+}
+
 #[test]
 fn scalars(rt: HostRuntime) -> Result<(), Fail> {
     let alloc = rt.alloc();
-    assert_eq!(rt; written(alloc, &0u32)?.as_slice(), b"\x43".as_slice());
-    assert_eq!(rt; written(alloc, &255u32)?.as_slice(), b"\x52\xff".as_slice());
-    assert_eq!(rt;
-        written(alloc, &256u32)?.as_slice(),
-        b"\x70\x00\x00\x01\x00".as_slice()
-    );
-    assert_eq!(rt;
-        written(alloc, &-128i32)?.as_slice(),
-        b"\x54\x80".as_slice()
-    );
-    assert_eq!(rt; written(alloc, &127i32)?.as_slice(), b"\x54\x7f".as_slice());
-    assert_eq!(rt;
-        written(alloc, &128i32)?.as_slice(),
-        b"\x71\x00\x00\x00\x80".as_slice()
-    );
-    assert_eq!(rt;
-        written(alloc, &-129i32)?.as_slice(),
-        b"\x71\xff\xff\xff\x7f".as_slice()
-    );
-    let mut ser = Serializer::from(Vec::new(alloc));
+    assert!(rt; is_written_as(alloc, &0u32, b"\x43"));
+    assert!(rt; is_written_as(alloc, &255u32, b"\x52\xff"));
+    assert!(rt; is_written_as(alloc, &256u32, b"\x70\x00\x00\x01\x00"));
+    assert!(rt; is_written_as(alloc, &-128i32, b"\x54\x80"));
+    assert!(rt; is_written_as(alloc, &127i32, b"\x54\x7f"));
+    assert!(rt; is_written_as(alloc, &128i32, b"\x71\x00\x00\x00\x80"));
+    assert!(rt; is_written_as(alloc, &-129i32, b"\x71\xff\xff\xff\x7f"));
+    let mut ser = Output(Serializer::from(Vec::new(alloc)));
     assert!(rt; !ser.is_human_readable());
-    ser.serialize_u32(alloc, 1)?;
-    ser.serialize_i32(alloc, -1)?;
-    ser.serialize_some(alloc, &2u32)?;
-    ser.serialize_newtype_struct(alloc, "Celsius", &-2i32)?;
-    let bytes = ser.into_inner();
+    ser.u32(alloc, 1)?;
+    ser.i32(alloc, -1)?;
+    ser.some(alloc, &2u32)?;
+    ser.newtype(alloc, &-2i32)?;
+    let bytes = ser.bytes();
     assert_eq!(rt;
         bytes.as_slice(),
         b"\x52\x01\x54\xff\x52\x02\x54\xfe".as_slice()
@@ -84,25 +82,19 @@ fn texts(rt: HostRuntime) -> Result<(), Fail> {
         long.as_slice()
             .starts_with(b"\xb1\x00\x00\x00\xffa".as_slice())
     );
-    let mut ser = Serializer::symbol(Vec::new(alloc));
-    ser.serialize_str(alloc, "a")?;
-    String::from_str(alloc, "a")?.serialize(alloc, &mut ser)?;
-    assert_eq!(rt; ser.writer.as_slice(), b"\xa3\x01a\xa3\x01a".as_slice());
+    let mut ser = Output(Serializer::symbol(Vec::new(alloc)));
+    ser.str(alloc, "a")?;
+    ser.value(alloc, &String::from_str(alloc, "a")?)?;
+    assert_eq!(rt; ser.0.writer.as_slice(), b"\xa3\x01a\xa3\x01a".as_slice());
     Ok(())
 }
 
 #[test]
 fn lists(rt: HostRuntime) -> Result<(), Fail> {
     let alloc = rt.alloc();
-    assert_eq!(rt;
-        written(alloc, &numbers(alloc, 0)?)?.as_slice(),
-        b"\x45".as_slice()
-    );
+    assert!(rt; is_written_as(alloc, &numbers(alloc, 0)?, b"\x45"));
     let two = vec![in alloc; 1i32, 2]?;
-    assert_eq!(rt;
-        written(alloc, &two)?.as_slice(),
-        b"\xc0\x05\x02\x54\x01\x54\x02".as_slice()
-    );
+    assert!(rt; is_written_as(alloc, &two, b"\xc0\x05\x02\x54\x01\x54\x02"));
     let narrow = written(alloc, &numbers(alloc, 127)?)?;
     assert_eq!(rt; narrow.len(), 257);
     assert!(rt;
@@ -120,9 +112,12 @@ fn lists(rt: HostRuntime) -> Result<(), Fail> {
         vec![in alloc; vec![in alloc; 0u32, 1]?, vec![in alloc]?]?,
         vec![in alloc]?,
     ]?;
-    assert_eq!(rt;
-        written(alloc, &nested)?.as_slice(),
-        b"\xc0\x0c\x02\xc0\x08\x02\xc0\x04\x02\x43\x52\x01\x45\x45".as_slice()
+    assert!(rt;
+        is_written_as(
+            alloc,
+            &nested,
+            b"\xc0\x0c\x02\xc0\x08\x02\xc0\x04\x02\x43\x52\x01\x45\x45"
+        )
     );
     Ok(())
 }
@@ -130,23 +125,23 @@ fn lists(rt: HostRuntime) -> Result<(), Fail> {
 #[test]
 fn arrays(rt: HostRuntime) -> Result<(), Fail> {
     let alloc = rt.alloc();
-    let mut ser = Serializer::new(Vec::new(alloc));
-    let mut array = ser.serialize_array(alloc, None)?;
-    array.serialize_element(alloc, &1u32)?;
-    array.serialize_element(alloc, &2u32)?;
+    let mut ser = Output::new(alloc);
+    let mut array = ser.array(alloc, None)?;
+    element(&mut array, alloc, &1u32)?;
+    element(&mut array, alloc, &2u32)?;
     array.end()?;
-    let mut array = ser.serialize_array(alloc, Some(2))?;
-    array.serialize_element(alloc, &vec![in alloc; -1i32]?)?;
-    array.serialize_element(alloc, &numbers(alloc, 0)?)?;
+    let mut array = ser.array(alloc, Some(2))?;
+    element(&mut array, alloc, &vec![in alloc; -1i32]?)?;
+    element(&mut array, alloc, &numbers(alloc, 0)?)?;
     array.end()?;
     assert_eq!(rt;
-        ser.writer.as_slice(),
+        ser.0.writer.as_slice(),
         b"\xe0\x0a\x02\x70\x00\x00\x00\x01\x00\x00\x00\x02\xe0\x14\x02\xd0\x00\x00\x00\x06\x00\x00\x00\x01\x54\xff\x00\x00\x00\x04\x00\x00\x00\x00".as_slice()
     );
-    let mut mixed = ser.serialize_array(alloc, None)?;
-    mixed.serialize_element(alloc, &1u32)?;
-    assert!(rt; is_invalid_value(&mixed.serialize_element(alloc, &1i32)));
-    assert!(rt; is_invalid_value(&mixed.serialize_element(alloc, &1u32)));
+    let mut mixed = ser.array(alloc, None)?;
+    element(&mut mixed, alloc, &1u32)?;
+    assert!(rt; is_invalid_value(&element(&mut mixed, alloc, &1i32)));
+    assert!(rt; is_invalid_value(&element(&mut mixed, alloc, &1u32)));
     assert!(rt; is_invalid_value(&mixed.end()));
     Ok(())
 }
@@ -154,25 +149,25 @@ fn arrays(rt: HostRuntime) -> Result<(), Fail> {
 #[test]
 fn many_at_once(rt: HostRuntime) -> Result<(), Fail> {
     let alloc = rt.alloc();
-    let mut ser = Serializer::new(Vec::new(alloc));
-    let mut array = ser.serialize_array(alloc, None)?;
-    i32::serialize_each(&[1, 2], alloc, &mut array)?;
+    let mut ser = Output::new(alloc);
+    let mut array = ser.array(alloc, None)?;
+    each::<i32>(&mut array, alloc, &[1, 2])?;
     array.end()?;
-    let mut list = ser.serialize_seq(alloc, None)?;
-    i32::serialize_each(&[1, 300], alloc, &mut list)?;
-    u32::serialize_each(&[], alloc, &mut list)?;
-    u32::serialize_each(&[0, 2], alloc, &mut list)?;
+    let mut list = ser.seq(alloc, None)?;
+    each::<i32>(&mut list, alloc, &[1, 300])?;
+    each::<u32>(&mut list, alloc, &[])?;
+    each::<u32>(&mut list, alloc, &[0, 2])?;
     list.end()?;
     assert_eq!(rt;
-        ser.writer.as_slice(),
+        ser.0.writer.as_slice(),
         b"\xe0\x0a\x02\x71\x00\x00\x00\x01\x00\x00\x00\x02\xc0\x0b\x04\x54\x01\x71\x00\x00\x01\x2c\x43\x52\x02".as_slice()
     );
     // a refusal breaks the compound, also for no elements
-    let mut mixed = ser.serialize_array(alloc, None)?;
-    i32::serialize_each(&[1], alloc, &mut mixed)?;
-    assert!(rt; is_invalid_value(&u32::serialize_each(&[1], alloc, &mut mixed)));
-    assert!(rt; is_invalid_value(&u32::serialize_each(&[], alloc, &mut mixed)));
-    assert!(rt; is_invalid_value(&i32::serialize_each(&[], alloc, &mut mixed)));
+    let mut mixed = ser.array(alloc, None)?;
+    each::<i32>(&mut mixed, alloc, &[1])?;
+    assert!(rt; is_invalid_value(&each::<u32>(&mut mixed, alloc, &[1])));
+    assert!(rt; is_invalid_value(&each::<u32>(&mut mixed, alloc, &[])));
+    assert!(rt; is_invalid_value(&each::<i32>(&mut mixed, alloc, &[])));
     assert!(rt; is_invalid_value(&mixed.end()));
     Ok(())
 }
@@ -180,21 +175,21 @@ fn many_at_once(rt: HostRuntime) -> Result<(), Fail> {
 #[test]
 fn dropped_without_end(rt: HostRuntime) -> Result<(), Fail> {
     let alloc = rt.alloc();
-    let mut ser = Serializer::new(Vec::new(alloc));
-    ser.serialize_u32(alloc, 7)?;
-    let mut list = ser.serialize_seq(alloc, Some(1))?;
-    list.serialize_element(alloc, &1u32)?;
+    let mut ser = Output::new(alloc);
+    ser.u32(alloc, 7)?;
+    let mut list = ser.seq(alloc, Some(1))?;
+    element(&mut list, alloc, &1u32)?;
     drop(list);
-    assert!(rt; is_invalid_value(&ser.serialize_u32(alloc, 1)));
-    assert!(rt; is_invalid_value(&ser.serialize_i32(alloc, 1)));
-    assert!(rt; is_invalid_value(&ser.serialize_str(alloc, "a")));
-    assert!(rt; is_invalid_value(&ser.serialize_some(alloc, &1u32)));
-    assert!(rt; is_invalid_value(&ser.serialize_newtype_struct(alloc, "N", &1u32)));
-    assert!(rt; matches!(ser.serialize_seq(alloc, None), Err(Error::InvalidValue)));
-    assert!(rt; matches!(ser.serialize_array(alloc, None), Err(Error::InvalidValue)));
-    assert!(rt; is_invalid_value(&numbers(alloc, 1)?.serialize(alloc, &mut ser)));
+    assert!(rt; is_invalid_value(&ser.u32(alloc, 1)));
+    assert!(rt; is_invalid_value(&ser.i32(alloc, 1)));
+    assert!(rt; is_invalid_value(&ser.str(alloc, "a")));
+    assert!(rt; is_invalid_value(&ser.some(alloc, &1u32)));
+    assert!(rt; is_invalid_value(&ser.newtype(alloc, &1u32)));
+    assert!(rt; matches!(ser.seq(alloc, None), Err(Error::InvalidValue)));
+    assert!(rt; matches!(ser.array(alloc, None), Err(Error::InvalidValue)));
+    assert!(rt; is_invalid_value(&ser.value(alloc, &numbers(alloc, 1)?)));
     assert!(rt; !ser.is_human_readable());
-    assert_eq!(rt; ser.into_inner().as_slice(), b"\x52\x07".as_slice());
+    assert_eq!(rt; ser.bytes().as_slice(), b"\x52\x07".as_slice());
     Ok(())
 }
 

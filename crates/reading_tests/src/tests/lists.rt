@@ -1,8 +1,7 @@
 //! Lists, and what their headers are refused for.
 
-use super::{Answer, front, outcome};
-use amqp_de::Deserializer;
-use amqp_read::{Read, SliceReader};
+use super::input::{Input, element, part};
+use super::{Answer, answer_to, front};
 use std::alloc::Global;
 use std::test::Fail;
 
@@ -45,18 +44,19 @@ fn nested_lists(rt: HostRuntime) -> Result<(), Fail> {
 }
 
 #[test]
-fn nested_lists_cut_short(rt: HostRuntime) -> Result<(), Fail> {
+fn nested_lists_cut_short_or_of_another_type(rt: HostRuntime) -> Result<(), Fail> {
     let alloc = rt.alloc();
     for n in 0..NESTED.len() {
-        let answer = front::<Vec<Vec<u32>>>(alloc, &NESTED[..n]);
         assert_eq!(rt;
-            outcome(&answer),
+            answer_to::<Vec<Vec<u32>>>(alloc, &NESTED[..n]),
             Answer::UnexpectedEof,
             "the first {n} bytes"
         );
     }
-    let answer = front::<Vec<Vec<i32>>>(alloc, NESTED);
-    assert_eq!(rt; outcome(&answer), Answer::InvalidFormatCode);
+    assert_eq!(rt;
+        answer_to::<Vec<Vec<i32>>>(alloc, NESTED),
+        Answer::InvalidFormatCode
+    );
     Ok(())
 }
 
@@ -96,8 +96,7 @@ fn refused_lists(rt: HostRuntime) -> Result<(), Fail> {
         (b"\xc0\x02\x02\x54\x05\x57", Answer::InvalidFormatCode),
     ];
     for (bytes, want) in cases {
-        let answer = front::<Vec<i32>>(rt.alloc(), bytes);
-        assert_eq!(rt; outcome(&answer), want, "{bytes:?}");
+        assert_eq!(rt; answer_to::<Vec<i32>>(rt.alloc(), bytes), want, "{bytes:?}");
     }
     Ok(())
 }
@@ -120,45 +119,42 @@ fn most_elements(rt: HostRuntime) -> Result<(), Fail> {
     assert!(rt; value.iter().all(|n| *n == 0));
     assert_eq!(rt; taken, bytes.len());
     let bytes = zeros(alloc, b"\xd0\x00\x01\x00\x05\x00\x01\x00\x01", 65_537)?;
-    assert_eq!(rt;
-        outcome(&front::<Vec<u32>>(alloc, &bytes)),
-        Answer::InvalidValue
-    );
+    assert_eq!(rt; answer_to::<Vec<u32>>(alloc, &bytes), Answer::InvalidValue);
     Ok(())
 }
 
 #[test]
 fn parts_of_a_list(rt: HostRuntime) -> Result<(), Fail> {
     let alloc = rt.alloc();
-    let mut de = Deserializer::new(SliceReader::new(b"\xc0\x08\x03\x43\x54\xfe\xa1\x02hi\x43"));
-    let mut access = de.deserialize_seq(alloc)?;
-    let first = access.next_element::<u32>(alloc);
-    let second = access.next_element::<i32>(alloc);
-    let third = access.next_element::<String>(alloc);
-    let behind = access.next_element::<u32>(alloc);
-    let again = access.next_element::<u32>(alloc);
+    let mut input = Input::new(b"\xc0\x08\x03\x43\x54\xfe\xa1\x02hi\x43");
+    let mut access = input.seq(alloc)?;
+    let first = part::<u32>(&mut access, alloc);
+    let second = part::<i32>(&mut access, alloc);
+    let third = part::<String>(&mut access, alloc);
+    let behind = part::<u32>(&mut access, alloc);
+    let again = part::<u32>(&mut access, alloc);
     access.end()?;
     assert_eq!(rt; first?, Some(0));
     assert_eq!(rt; second?, Some(-2));
     assert_eq!(rt; third?.ok_or("no third part")?.as_str(), "hi");
     assert_eq!(rt; behind?, None);
     assert_eq!(rt; again?, None);
-    assert_eq!(rt; de.deserialize_u32()?, 0, "the deserializer answers again");
-    assert_eq!(rt; de.into_reader().bytes_consumed(), 11);
+    assert_eq!(rt; input.u32()?, 0, "the deserializer answers again");
+    assert_eq!(rt; input.taken(), 11);
     Ok(())
 }
 
 #[test]
 fn elements_of_a_list(rt: HostRuntime) -> Result<(), Fail> {
     let alloc = rt.alloc();
-    let mut de = Deserializer::new(SliceReader::new(b"\xc0\x03\x01\x52\x09\x43"));
-    let mut elements = de.deserialize_seq(alloc)?.into_elements();
-    let only = elements.next_element::<u32>(alloc);
-    let behind = elements.next_element::<u32>(alloc);
+    let mut input = Input::new(b"\xc0\x03\x01\x52\x09\x43");
+    let mut elements = input.seq(alloc)?.into_elements();
+    let only = element::<u32>(&mut elements, alloc);
+    let behind = element::<u32>(&mut elements, alloc);
     elements.end()?;
     assert_eq!(rt; only?, Some(9));
     assert_eq!(rt; behind?, None);
-    assert_eq!(rt; de.deserialize_u32()?, 0, "the deserializer answers again");
-    assert_eq!(rt; de.into_reader().bytes_consumed(), 6);
+    assert_eq!(rt; input.u32()?, 0, "the deserializer answers again");
+    assert_eq!(rt; input.taken(), 6);
     Ok(())
 }

@@ -1,6 +1,6 @@
 //! Maps with many pairs, and with repeated keys.
 
-use super::{Answer, front, outcome};
+use super::{Answer, answer_to, front};
 use amqp_types::OrderedMap;
 use std::alloc::Global;
 use std::collections::BTreeMap;
@@ -30,10 +30,10 @@ fn most_pairs(rt: HostRuntime) -> Result<(), Fail> {
     let (sorted, _) = front::<BTreeMap<u32, ()>>(alloc, most.as_slice())?;
     assert_eq!(rt; sorted.len(), 32_768);
     let more = wide(alloc, 32_769)?;
-    let ordered = front::<OrderedMap<u32, ()>>(alloc, more.as_slice());
-    assert_eq!(rt; outcome(&ordered), Answer::InvalidValue);
-    let sorted = front::<BTreeMap<u32, ()>>(alloc, more.as_slice());
-    assert_eq!(rt; outcome(&sorted), Answer::InvalidValue);
+    let ordered = answer_to::<OrderedMap<u32, ()>>(alloc, more.as_slice());
+    assert_eq!(rt; ordered, Answer::InvalidValue);
+    let sorted = answer_to::<BTreeMap<u32, ()>>(alloc, more.as_slice());
+    assert_eq!(rt; sorted, Answer::InvalidValue);
     Ok(())
 }
 

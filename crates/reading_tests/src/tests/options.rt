@@ -1,22 +1,18 @@
 //! Values that may be missing.
 
+use super::input::Input;
 use super::{Answer, outcome};
-use amqp_de::Deserializer;
-use amqp_read::SliceReader;
 use std::test::Fail;
 
 #[test]
 fn options(rt: HostRuntime) -> Result<(), Fail> {
     let alloc = rt.alloc();
-    let mut de = Deserializer::new(SliceReader::new(b"\x40\x54\x01\x40\x45\x40"));
-    assert_eq!(rt; de.deserialize_option::<i32>(alloc)?, None);
-    assert_eq!(rt; de.deserialize_option::<i32>(alloc)?, Some(1));
-    assert!(rt; de.deserialize_option::<()>(alloc)?.is_none());
-    assert!(rt;
-        de.deserialize_option::<Vec<u32>>(alloc)?
-            .is_some_and(|list| list.is_empty())
-    );
-    assert!(rt; de.deserialize_option::<(u32, bool)>(alloc)?.is_none());
+    let mut input = Input::new(b"\x40\x54\x01\x40\x45\x40");
+    assert_eq!(rt; input.option::<i32>(alloc)?, None);
+    assert_eq!(rt; input.option::<i32>(alloc)?, Some(1));
+    assert!(rt; input.option::<()>(alloc)?.is_none());
+    assert!(rt; matches!(input.option::<Vec<u32>>(alloc)?, Some(list) if list.is_empty()));
+    assert!(rt; input.option::<(u32, bool)>(alloc)?.is_none());
     Ok(())
 }
 
@@ -29,10 +25,10 @@ fn refused_options(rt: HostRuntime) -> Result<(), Fail> {
         (b"\x54", Answer::UnexpectedEof),
     ];
     for (bytes, want) in cases {
-        let mut de = Deserializer::new(SliceReader::new(bytes));
-        let answer = de.deserialize_option::<i32>(rt.alloc());
+        let mut input = Input::new(bytes);
+        let answer = input.option::<i32>(rt.alloc());
         assert_eq!(rt; outcome(&answer), want, "{bytes:?}");
-        let again = de.deserialize_option::<i32>(rt.alloc());
+        let again = input.option::<i32>(rt.alloc());
         assert_eq!(rt; outcome(&again), Answer::InvalidValue, "{bytes:?}");
     }
     Ok(())

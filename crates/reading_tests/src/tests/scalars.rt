@@ -1,45 +1,8 @@
 //! Numbers and strings.
 
-use super::{Answer, front, outcome};
-use amqp_de::Deserializer;
-use amqp_read::{Read, SliceReader};
+use super::input::Input;
+use super::{Answer, answer_to, is_read_as};
 use std::test::Fail;
-
-#[test]
-fn uints(rt: HostRuntime) -> Result<(), Fail> {
-    let cases: [(&[u8], u32); 6] = [
-        (b"\x43", 0),
-        (b"\x52\x00", 0),
-        (b"\x52\xff", 255),
-        (b"\x70\x00\x00\x00\x00", 0),
-        (b"\x70\x00\x00\x00\xff", 255),
-        (b"\x70\xff\xff\xff\xff", u32::MAX),
-    ];
-    for (bytes, want) in cases {
-        let (value, taken) = front::<u32>(rt.alloc(), bytes)?;
-        assert_eq!(rt; value, want, "{bytes:?}");
-        assert_eq!(rt; taken, bytes.len(), "{bytes:?}");
-    }
-    Ok(())
-}
-
-#[test]
-fn ints(rt: HostRuntime) -> Result<(), Fail> {
-    let cases: [(&[u8], i32); 6] = [
-        (b"\x54\x80", -128),
-        (b"\x54\xff", -1),
-        (b"\x54\x7f", 127),
-        (b"\x71\x00\x00\x00\xff", 255),
-        (b"\x71\xff\xff\xff\xff", -1),
-        (b"\x71\x80\x00\x00\x00", i32::MIN),
-    ];
-    for (bytes, want) in cases {
-        let (value, taken) = front::<i32>(rt.alloc(), bytes)?;
-        assert_eq!(rt; value, want, "{bytes:?}");
-        assert_eq!(rt; taken, bytes.len(), "{bytes:?}");
-    }
-    Ok(())
-}
 
 #[test]
 fn strings(rt: HostRuntime) -> Result<(), Fail> {
@@ -51,9 +14,8 @@ fn strings(rt: HostRuntime) -> Result<(), Fail> {
         (b"\xb1\x00\x00\x00\x04amqp", "amqp"),
     ];
     for (bytes, want) in cases {
-        let (value, taken) = front::<String>(rt.alloc(), bytes)?;
-        assert_eq!(rt; value.as_str(), want, "{bytes:?}");
-        assert_eq!(rt; taken, bytes.len(), "{bytes:?}");
+        let want = String::from_str(rt.alloc(), want)?;
+        assert!(rt; is_read_as(rt.alloc(), bytes, &want), "{bytes:?}");
     }
     Ok(())
 }
@@ -67,25 +29,19 @@ fn long_string(rt: HostRuntime) -> Result<(), Fail> {
     assert_eq!(rt; bytes.len(), 257);
     bytes[0] = 0xa1;
     bytes[1] = 0xff;
-    let (value, taken) = front::<String>(rt.alloc(), &bytes)?;
-    assert_eq!(rt; taken, 257);
-    assert!(rt; value == want);
+    assert!(rt; is_read_as(rt.alloc(), &bytes, &want));
     Ok(())
 }
 
 #[test]
 fn one_after_the_other(rt: HostRuntime) -> Result<(), Fail> {
-    let mut de = Deserializer::new(SliceReader::new(
-        b"\x70\x00\x00\x00\xff\x54\xff\xa1\x02hi\x43\x40",
-    ));
-    assert!(rt; !de.is_human_readable());
-    assert_eq!(rt; de.deserialize_u32()?, 255);
-    assert_eq!(rt; de.deserialize_i32()?, -1);
-    assert_eq!(rt; de.deserialize_string(rt.alloc())?.as_str(), "hi");
-    assert_eq!(rt; de.deserialize_u32()?, 0);
-    let mut reader = de.into_reader();
-    assert_eq!(rt; reader.bytes_consumed(), 12);
-    assert_eq!(rt; reader.next()?, Some(0x40), "bytes behind the items stay");
+    let mut input = Input::new(b"\x70\x00\x00\x00\xff\x54\xff\xa1\x02hi\x43\x40");
+    assert!(rt; !input.is_human_readable());
+    assert_eq!(rt; input.u32()?, 255);
+    assert_eq!(rt; input.i32()?, -1);
+    assert_eq!(rt; input.string(rt.alloc())?.as_str(), "hi");
+    assert_eq!(rt; input.u32()?, 0);
+    assert_eq!(rt; input.behind()?, Some(0x40), "bytes behind the items stay");
     Ok(())
 }
 
@@ -107,16 +63,22 @@ fn refused_numbers(rt: HostRuntime) -> Result<(), Fail> {
     ];
     for (bytes, want) in cases {
         let alloc = rt.alloc();
-        assert_eq!(rt; outcome(&front::<u32>(alloc, bytes)), want, "{bytes:?}");
-        assert_eq!(rt; outcome(&front::<i32>(alloc, bytes)), want, "{bytes:?}");
+        assert_eq!(rt; answer_to::<u32>(alloc, bytes), want, "{bytes:?}");
+        assert_eq!(rt; answer_to::<i32>(alloc, bytes), want, "{bytes:?}");
     }
     for bytes in [b"\x70\x00\x00\x00".as_slice(), b"\x52".as_slice()] {
-        let answer = front::<u32>(rt.alloc(), bytes);
-        assert_eq!(rt; outcome(&answer), Answer::UnexpectedEof, "{bytes:?}");
+        assert_eq!(rt;
+            answer_to::<u32>(rt.alloc(), bytes),
+            Answer::UnexpectedEof,
+            "{bytes:?}"
+        );
     }
     for bytes in [b"\x71\x00\x00\x00".as_slice(), b"\x54".as_slice()] {
-        let answer = front::<i32>(rt.alloc(), bytes);
-        assert_eq!(rt; outcome(&answer), Answer::UnexpectedEof, "{bytes:?}");
+        assert_eq!(rt;
+            answer_to::<i32>(rt.alloc(), bytes),
+            Answer::UnexpectedEof,
+            "{bytes:?}"
+        );
     }
     Ok(())
 }
@@ -139,8 +101,7 @@ fn refused_strings(rt: HostRuntime) -> Result<(), Fail> {
         (b"\xa1\x03\xed\xa0\x80", Answer::InvalidUtf8Encoding),
     ];
     for (bytes, want) in cases {
-        let answer = front::<String>(rt.alloc(), bytes);
-        assert_eq!(rt; outcome(&answer), want, "{bytes:?}");
+        assert_eq!(rt; answer_to::<String>(rt.alloc(), bytes), want, "{bytes:?}");
     }
     Ok(())
 }

@@ -1,8 +1,7 @@
 //! Structs and tuple structs, opened by their form.
 
+use super::input::{Input, field, key, value};
 use amqp_base::{DESCRIBED_LIST, Error};
-use amqp_de::Deserializer;
-use amqp_read::SliceReader;
 use std::alloc::Global;
 use std::io::ErrorKind;
 use std::test::Fail;
@@ -14,11 +13,11 @@ const NAMED: [u8; 10] = [0xc1, 8, 2, 0xa1, 3, 98, 97, 114, 0x52, 13];
 #[test]
 fn rows_of_fields(rt: HostRuntime) -> Result<(), Fail> {
     let alloc = rt.alloc();
-    let mut de = Deserializer::new(SliceReader::new(&ROW));
-    let mut foo = de.deserialize_struct(alloc, "Foo", 2)?;
-    assert!(rt; matches!(&foo.next_element::<u32>(alloc), Ok(Some(13))));
-    assert!(rt; matches!(&foo.next_element::<bool>(alloc), Ok(Some(true))));
-    assert!(rt; matches!(&foo.next_element::<bool>(alloc), Ok(None)));
+    let mut input = Input::new(&ROW);
+    let mut foo = input.structure(alloc, "Foo")?;
+    assert!(rt; matches!(field::<u32>(&mut foo, alloc), Ok(Some(13))));
+    assert!(rt; matches!(field::<bool>(&mut foo, alloc), Ok(Some(true))));
+    assert!(rt; matches!(field::<bool>(&mut foo, alloc), Ok(None)));
     assert!(rt; foo.end().is_ok());
     Ok(())
 }
@@ -26,10 +25,10 @@ fn rows_of_fields(rt: HostRuntime) -> Result<(), Fail> {
 #[test]
 fn a_name_of_a_row(rt: HostRuntime) -> Result<(), Fail> {
     let alloc = rt.alloc();
-    let mut de = Deserializer::new(SliceReader::new(&ROW));
-    let mut foo = de.deserialize_struct(alloc, "Foo", 2)?;
-    assert!(rt; matches!(&foo.next_key::<u32>(alloc), Err(Error::InvalidValue)));
-    assert!(rt; matches!(&foo.next_element::<u32>(alloc), Err(Error::InvalidValue)));
+    let mut input = Input::new(&ROW);
+    let mut foo = input.structure(alloc, "Foo")?;
+    assert!(rt; matches!(key::<u32>(&mut foo, alloc), Err(Error::InvalidValue)));
+    assert!(rt; matches!(field::<u32>(&mut foo, alloc), Err(Error::InvalidValue)));
     assert!(rt; matches!(&foo.end(), Err(Error::InvalidValue)));
     Ok(())
 }
@@ -37,23 +36,22 @@ fn a_name_of_a_row(rt: HostRuntime) -> Result<(), Fail> {
 #[test]
 fn an_unread_field(rt: HostRuntime) -> Result<(), Fail> {
     let alloc = rt.alloc();
-    let mut de = Deserializer::new(SliceReader::new(&ROW));
-    let mut foo = de.deserialize_tuple_struct(alloc, "Foo", 2)?;
-    assert!(rt; matches!(&foo.next_element::<u32>(alloc), Ok(Some(13))));
+    let mut input = Input::new(&ROW);
+    let mut foo = input.tuple_struct(alloc)?;
+    assert!(rt; matches!(field::<u32>(&mut foo, alloc), Ok(Some(13))));
     assert!(rt; matches!(&foo.end(), Err(Error::SequenceLengthMismatch)));
-    assert!(rt; matches!(&de.deserialize_bool(), Err(Error::InvalidValue)));
+    assert!(rt; matches!(&input.bool(), Err(Error::InvalidValue)));
     Ok(())
 }
 
 #[test]
 fn maps_of_fields(rt: HostRuntime) -> Result<(), Fail> {
     let alloc = rt.alloc();
-    let mut de = Deserializer::new(SliceReader::new(&NAMED));
-    let mut foo = de.deserialize_struct(alloc, "Foo", 2)?;
-    let key = foo.next_key::<String>(alloc);
-    assert!(rt; matches!(&key, Ok(Some(_))));
-    assert!(rt; matches!(&foo.next_value::<u32>(alloc), Ok(13)));
-    assert!(rt; matches!(&foo.next_key::<String>(alloc), Ok(None)));
+    let mut input = Input::new(&NAMED);
+    let mut foo = input.structure(alloc, "Foo")?;
+    assert!(rt; matches!(key::<String>(&mut foo, alloc), Ok(Some(_))));
+    assert!(rt; matches!(value::<u32>(&mut foo, alloc), Ok(13)));
+    assert!(rt; matches!(key::<String>(&mut foo, alloc), Ok(None)));
     assert!(rt; foo.end().is_ok());
     Ok(())
 }
@@ -61,8 +59,8 @@ fn maps_of_fields(rt: HostRuntime) -> Result<(), Fail> {
 #[test]
 fn entries_of_fields(rt: HostRuntime) -> Result<(), Fail> {
     let alloc = rt.alloc();
-    let mut de = Deserializer::new(SliceReader::new(&NAMED));
-    let mut foo = de.deserialize_struct(alloc, "Foo", 2)?;
+    let mut input = Input::new(&NAMED);
+    let mut foo = input.structure(alloc, "Foo")?;
     assert!(rt; matches!(&foo.next_entry::<String, u32>(alloc), Ok(Some((_, 13)))));
     assert!(rt; foo.end().is_ok());
     Ok(())
@@ -71,17 +69,17 @@ fn entries_of_fields(rt: HostRuntime) -> Result<(), Fail> {
 #[test]
 fn an_element_of_a_map(rt: HostRuntime) -> Result<(), Fail> {
     let alloc = rt.alloc();
-    let mut de = Deserializer::new(SliceReader::new(&NAMED));
-    let mut foo = de.deserialize_struct(alloc, "Foo", 2)?;
-    assert!(rt; matches!(&foo.next_element::<u32>(alloc), Err(Error::InvalidValue)));
+    let mut input = Input::new(&NAMED);
+    let mut foo = input.structure(alloc, "Foo")?;
+    assert!(rt; matches!(field::<u32>(&mut foo, alloc), Err(Error::InvalidValue)));
     assert!(rt; matches!(&foo.end(), Err(Error::InvalidValue)));
     Ok(())
 }
 
 /// Why a struct of two fields isn't opened or, where none of them is read, ended.
 fn refusal(alloc: Global, name: &'static str, bytes: &[u8]) -> Option<Error> {
-    let mut de = Deserializer::new(SliceReader::new(bytes));
-    match de.deserialize_struct(alloc, name, 2) {
+    let mut input = Input::new(bytes);
+    match input.structure(alloc, name) {
         Ok(access) => access.end().err(),
         Err(e) => Some(e),
     }

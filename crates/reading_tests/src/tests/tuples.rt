@@ -1,42 +1,15 @@
 //! Tuples, and what is no tuple of their length.
 
-use super::{Answer, front, outcome};
+use super::{Answer, answer_to, front, is_read_as};
 use std::test::Fail;
 
 #[test]
 fn small_tuples(rt: HostRuntime) -> Result<(), Fail> {
     let alloc = rt.alloc();
-    let (value, taken) = front::<(u32,)>(alloc, b"\xc0\x02\x01\x43\x40")?;
-    assert_eq!(rt; value.0, 0);
+    let (one, taken) = front::<(u32,)>(alloc, b"\xc0\x02\x01\x43\x40")?;
+    assert_eq!(rt; one.0, 0);
     assert_eq!(rt; taken, 4);
-    let (value, taken) = front::<(u32, bool)>(alloc, b"\xc0\x04\x02\x52\x0d\x41")?;
-    assert_eq!(rt; value.0, 13);
-    assert!(rt; value.1);
-    assert_eq!(rt; taken, 6);
-    Ok(())
-}
-
-#[test]
-fn triples(rt: HostRuntime) -> Result<(), Fail> {
-    let alloc = rt.alloc();
-    let bytes = b"\xd0\x00\x00\x00\x0b\x00\x00\x00\x03\x54\xff\xa1\x02hi\x42";
-    let (value, taken) = front::<(i32, String, bool)>(alloc, bytes)?;
-    assert_eq!(rt; value.0, -1);
-    assert_eq!(rt; value.1.as_str(), "hi");
-    assert!(rt; !value.2);
-    assert_eq!(rt; taken, bytes.len());
-    Ok(())
-}
-
-#[test]
-fn tuples_of_four(rt: HostRuntime) -> Result<(), Fail> {
-    let alloc = rt.alloc();
-    let bytes = b"\xc0\x08\x04\x50\x01\x50\x02\xc0\x01\x00\x40";
-    let (value, taken) = front::<(u8, u8, Vec<u32>, ())>(alloc, bytes)?;
-    assert_eq!(rt; value.0, 1);
-    assert_eq!(rt; value.1, 2);
-    assert!(rt; value.2.is_empty());
-    assert_eq!(rt; taken, bytes.len());
+    assert!(rt; is_read_as(alloc, b"\xc0\x04\x02\x52\x0d\x41", &(13u32, true)));
     Ok(())
 }
 
@@ -61,8 +34,11 @@ fn refused_tuples(rt: HostRuntime) -> Result<(), Fail> {
         (b"\xc0\x04\x02\x52\x0d\x56\x02", Answer::InvalidValue),
     ];
     for (bytes, want) in cases {
-        let answer = front::<(u32, bool)>(rt.alloc(), bytes);
-        assert_eq!(rt; outcome(&answer), want, "{bytes:?}");
+        assert_eq!(rt;
+            answer_to::<(u32, bool)>(rt.alloc(), bytes),
+            want,
+            "{bytes:?}"
+        );
     }
     Ok(())
 }

@@ -1,8 +1,9 @@
 //! Each kind by each of its codes, with its first and its last value.
 
+use super::{read, written};
 use crate::{
     Binary, Dec32, Dec64, Dec128, Deserialize, Double, Error, Float, Serialize, SliceReader,
-    Symbol, Timestamp, Uuid, from_slice, to_vec,
+    Symbol, Timestamp, Uuid,
 };
 use std::alloc::Global;
 use std::io::ErrorKind;
@@ -16,22 +17,22 @@ fn is_form<'s, T: Deserialize<SliceReader<'s>> + PartialEq>(
 ) -> Result<bool, Fail> {
     let cut = match bytes.split_last() {
         Some((_, front)) => matches!(
-            &from_slice::<T>(alloc, front),
+            &read::<T>(alloc, front),
             Err(Error::Io(ErrorKind::UnexpectedEof))
         ),
         None => false,
     };
-    Ok(cut && from_slice::<T>(alloc, bytes)? == *value)
+    Ok(cut && read::<T>(alloc, bytes)? == *value)
 }
 
 /// The value is written as the bytes, which are read as the value.
-fn is_text<'s, T: Serialize + Deserialize<SliceReader<'s>> + PartialEq>(
+pub(crate) fn is_text<'s, T: Serialize + Deserialize<SliceReader<'s>> + PartialEq>(
     alloc: Global,
     value: &T,
     bytes: &'s [u8],
 ) -> Result<bool, Fail> {
-    let written = to_vec(alloc, value)?;
-    Ok(written.as_slice() == bytes && from_slice::<T>(alloc, bytes)? == *value)
+    let text = written(alloc, value)?;
+    Ok(text.as_slice() == bytes && read::<T>(alloc, bytes)? == *value)
 }
 
 #[test]

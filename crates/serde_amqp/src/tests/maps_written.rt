@@ -1,6 +1,7 @@
 //! Maps are written as their pairs in order, keys and values in turn.
 
-use crate::{OrderedMap, Timestamp, to_vec};
+use super::written;
+use crate::{OrderedMap, Timestamp};
 use std::collections::BTreeMap;
 use std::test::Fail;
 
@@ -8,14 +9,14 @@ use std::test::Fail;
 fn writes_ordered_maps(rt: HostRuntime) -> Result<(), Fail> {
     let alloc = rt.alloc();
     let mut times = OrderedMap::new(alloc);
-    assert_eq!(rt; to_vec(alloc, &times)?.as_slice(), [0xc1, 1, 0].as_slice());
+    assert_eq!(rt; written(alloc, &times)?.as_slice(), [0xc1, 1, 0].as_slice());
     let first = times.insert(
         Timestamp::from_milliseconds(0),
         String::from_str(alloc, "x")?,
     );
     assert!(rt; matches!(&first, Ok(None)));
     assert_eq!(rt;
-        to_vec(alloc, &times)?.as_slice(),
+        written(alloc, &times)?.as_slice(),
         [0xc1, 0x0d, 2, 0x83, 0, 0, 0, 0, 0, 0, 0, 0, 0xa1, 1, 0x78].as_slice()
     );
     Ok(())
@@ -29,7 +30,7 @@ fn writes_a_repeated_key_in_its_first_place(rt: HostRuntime) -> Result<(), Fail>
     assert!(rt; matches!(&turned.insert(1u8, true), Ok(None)));
     assert!(rt; matches!(&turned.insert(2u8, false), Ok(Some(true))));
     assert_eq!(rt;
-        to_vec(alloc, &turned)?.as_slice(),
+        written(alloc, &turned)?.as_slice(),
         [0xc1, 7, 4, 0x50, 2, 0x42, 0x50, 1, 0x41].as_slice()
     );
     Ok(())
@@ -39,12 +40,12 @@ fn writes_a_repeated_key_in_its_first_place(rt: HostRuntime) -> Result<(), Fail>
 fn writes_btree_maps_by_ascending_keys(rt: HostRuntime) -> Result<(), Fail> {
     let alloc = rt.alloc();
     let mut map = BTreeMap::new(alloc);
-    assert_eq!(rt; to_vec(alloc, &map)?.as_slice(), [0xc1, 1, 0].as_slice());
+    assert_eq!(rt; written(alloc, &map)?.as_slice(), [0xc1, 1, 0].as_slice());
     map.insert(2u8, true)?;
     map.insert(1u8, true)?;
     map.insert(2u8, false)?;
     assert_eq!(rt;
-        to_vec(alloc, &map)?.as_slice(),
+        written(alloc, &map)?.as_slice(),
         [0xc1, 7, 4, 0x50, 1, 0x41, 0x50, 2, 0x42].as_slice()
     );
     Ok(())

@@ -1,15 +1,16 @@
 //! Refusals of values without parts, by the first rule that is broken.
 
+use super::read;
 use crate::{
     Binary, Dec32, Dec64, Dec128, Deserialize, Double, Error, Float, SliceReader, Symbol,
-    Timestamp, Uuid, from_slice,
+    Timestamp, Uuid,
 };
 use std::alloc::Global;
 use std::io::ErrorKind;
 
 /// What the bytes are refused as by a type.
 fn refusal<'s, T: Deserialize<SliceReader<'s>>>(alloc: Global, bytes: &'s [u8]) -> Option<Error> {
-    match from_slice::<T>(alloc, bytes) {
+    match read::<T>(alloc, bytes) {
         Ok(_) => None,
         Err(e) => Some(e),
     }

@@ -1,6 +1,7 @@
 //! Texts: their lengths, and bytes that are no UTF-8.
 
-use crate::{Binary, Error, Serializer, Symbol, from_slice, to_vec};
+use super::{read, written};
+use crate::{Binary, Error, Serializer, Symbol};
 use std::alloc::Global;
 use std::io::ErrorKind;
 use std::test::Fail;
@@ -16,52 +17,52 @@ fn letters(alloc: Global, count: usize) -> Result<String, Fail> {
 #[test]
 fn strings_of_254_to_256_bytes(rt: HostRuntime) -> Result<(), Fail> {
     let alloc = rt.alloc();
-    let short = to_vec(alloc, &letters(alloc, 254)?)?;
+    let short = written(alloc, &letters(alloc, 254)?)?;
     assert_eq!(rt; short.len(), 256);
     assert!(rt; short.as_slice().starts_with(&[0xa1, 0xfe, 0x61]));
-    let full = to_vec(alloc, &letters(alloc, 255)?)?;
+    let full = written(alloc, &letters(alloc, 255)?)?;
     assert_eq!(rt; full.len(), 260);
     assert!(rt; full.as_slice().starts_with(&[0xb1, 0, 0, 0, 0xff, 0x61]));
-    let long = to_vec(alloc, &letters(alloc, 256)?)?;
+    let long = written(alloc, &letters(alloc, 256)?)?;
     assert!(rt; long.as_slice().starts_with(&[0xb1, 0, 0, 1, 0, 0x61]));
-    assert!(rt; from_slice::<String>(alloc, short.as_slice())? == letters(alloc, 254)?);
-    assert!(rt; from_slice::<String>(alloc, full.as_slice())? == letters(alloc, 255)?);
-    assert!(rt; from_slice::<String>(alloc, long.as_slice())? == letters(alloc, 256)?);
+    assert!(rt; read::<String>(alloc, short.as_slice())? == letters(alloc, 254)?);
+    assert!(rt; read::<String>(alloc, full.as_slice())? == letters(alloc, 255)?);
+    assert!(rt; read::<String>(alloc, long.as_slice())? == letters(alloc, 256)?);
     Ok(())
 }
 
 #[test]
 fn symbols_of_254_to_256_bytes(rt: HostRuntime) -> Result<(), Fail> {
     let alloc = rt.alloc();
-    let short = to_vec(alloc, &Symbol(letters(alloc, 254)?))?;
+    let short = written(alloc, &Symbol(letters(alloc, 254)?))?;
     assert!(rt; short.as_slice().starts_with(&[0xa3, 0xfe, 0x61]));
-    let full = to_vec(alloc, &Symbol(letters(alloc, 255)?))?;
+    let full = written(alloc, &Symbol(letters(alloc, 255)?))?;
     assert!(rt; full.as_slice().starts_with(&[0xb3, 0, 0, 0, 0xff, 0x61]));
-    let long = to_vec(alloc, &Symbol(letters(alloc, 256)?))?;
+    let long = written(alloc, &Symbol(letters(alloc, 256)?))?;
     assert!(rt; long.as_slice().starts_with(&[0xb3, 0, 0, 1, 0, 0x61]));
-    assert!(rt; from_slice::<Symbol>(alloc, short.as_slice())? == Symbol(letters(alloc, 254)?));
-    assert!(rt; from_slice::<Symbol>(alloc, full.as_slice())? == Symbol(letters(alloc, 255)?));
-    assert!(rt; from_slice::<Symbol>(alloc, long.as_slice())? == Symbol(letters(alloc, 256)?));
+    assert!(rt; read::<Symbol>(alloc, short.as_slice())? == Symbol(letters(alloc, 254)?));
+    assert!(rt; read::<Symbol>(alloc, full.as_slice())? == Symbol(letters(alloc, 255)?));
+    assert!(rt; read::<Symbol>(alloc, long.as_slice())? == Symbol(letters(alloc, 256)?));
     Ok(())
 }
 
 #[test]
 fn binaries_of_254_to_256_bytes(rt: HostRuntime) -> Result<(), Fail> {
     let alloc = rt.alloc();
-    let two = to_vec(alloc, &Binary(vec![in alloc; 1, 2]?))?;
+    let two = written(alloc, &Binary(vec![in alloc; 1, 2]?))?;
     assert_eq!(rt; two.as_slice(), [0xa0, 2, 1, 2].as_slice());
     let short = Binary(vec![in alloc; 7; 254]?);
-    let text = to_vec(alloc, &short)?;
+    let text = written(alloc, &short)?;
     assert!(rt; text.as_slice().starts_with(&[0xa0, 0xfe, 7]));
-    assert!(rt; from_slice::<Binary>(alloc, text.as_slice())? == short);
+    assert!(rt; read::<Binary>(alloc, text.as_slice())? == short);
     let full = Binary(vec![in alloc; 7; 255]?);
-    let text = to_vec(alloc, &full)?;
+    let text = written(alloc, &full)?;
     assert!(rt; text.as_slice().starts_with(&[0xb0, 0, 0, 0, 0xff, 7]));
-    assert!(rt; from_slice::<Binary>(alloc, text.as_slice())? == full);
+    assert!(rt; read::<Binary>(alloc, text.as_slice())? == full);
     let long = Binary(vec![in alloc; 7; 256]?);
-    let text = to_vec(alloc, &long)?;
+    let text = written(alloc, &long)?;
     assert!(rt; text.as_slice().starts_with(&[0xb0, 0, 0, 1, 0, 7]));
-    assert!(rt; from_slice::<Binary>(alloc, text.as_slice())? == long);
+    assert!(rt; read::<Binary>(alloc, text.as_slice())? == long);
     Ok(())
 }
 
@@ -71,35 +72,35 @@ fn bytes_that_are_no_text(rt: HostRuntime) {
     let first = [0xa1, 1, 0xff];
     assert!(rt;
         matches!(
-            &from_slice::<String>(alloc, &first),
+            &read::<String>(alloc, &first),
             Err(Error::InvalidUtf8Encoding)
         )
     );
     let behind = [0xa1, 4, 0x61, 0x62, 0xc3, 0x28];
     assert!(rt;
         matches!(
-            &from_slice::<String>(alloc, &behind),
+            &read::<String>(alloc, &behind),
             Err(Error::InvalidUtf8Encoding)
         )
     );
     let cut = [0xb1, 0, 0, 0, 2, 0x61, 0xc3];
     assert!(rt;
         matches!(
-            &from_slice::<String>(alloc, &cut),
+            &read::<String>(alloc, &cut),
             Err(Error::InvalidUtf8Encoding)
         )
     );
     let first = [0xa3, 1, 0x80];
     assert!(rt;
         matches!(
-            &from_slice::<Symbol>(alloc, &first),
+            &read::<Symbol>(alloc, &first),
             Err(Error::InvalidUtf8Encoding)
         )
     );
     let behind = [0xa3, 4, 0x61, 0x62, 0xed, 0xa0];
     assert!(rt;
         matches!(
-            &from_slice::<Symbol>(alloc, &behind),
+            &read::<Symbol>(alloc, &behind),
             Err(Error::InvalidUtf8Encoding)
         )
     );
@@ -111,7 +112,7 @@ fn texts_whose_bytes_are_missing(rt: HostRuntime) {
     let text = [0xa1, 5, 0x61];
     assert!(rt;
         matches!(
-            &from_slice::<String>(alloc, &text),
+            &read::<String>(alloc, &text),
             Err(Error::Io(ErrorKind::UnexpectedEof))
         )
     );
@@ -119,14 +120,14 @@ fn texts_whose_bytes_are_missing(rt: HostRuntime) {
     let bad = [0xa1, 5, 0xff];
     assert!(rt;
         matches!(
-            &from_slice::<String>(alloc, &bad),
+            &read::<String>(alloc, &bad),
             Err(Error::Io(ErrorKind::UnexpectedEof))
         )
     );
     let symbol = [0xb3, 0, 0, 0, 2, 0x61];
     assert!(rt;
         matches!(
-            &from_slice::<Symbol>(alloc, &symbol),
+            &read::<Symbol>(alloc, &symbol),
             Err(Error::Io(ErrorKind::UnexpectedEof))
         )
     );

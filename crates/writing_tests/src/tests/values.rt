@@ -1,6 +1,7 @@
 //! The bytes of values without parts.
 
-use super::{is_invalid_value, written};
+use super::output::{Output, element};
+use super::{is_invalid_value, is_written_as, written};
 use amqp_ser::Serializer;
 use amqp_types::{
     Binary, BinaryRef, Dec32, Dec64, Dec128, Double, Float, Symbol, SymbolRef, Timestamp, Uuid,
@@ -10,39 +11,27 @@ use std::test::Fail;
 #[test]
 fn unsigned(rt: HostRuntime) -> Result<(), Fail> {
     let alloc = rt.alloc();
-    assert_eq!(rt; written(alloc, &255u8)?.as_slice(), b"\x50\xff".as_slice());
-    assert_eq!(rt;
-        written(alloc, &258u16)?.as_slice(),
-        b"\x60\x01\x02".as_slice()
-    );
-    assert_eq!(rt; written(alloc, &0u64)?.as_slice(), b"\x44".as_slice());
-    assert_eq!(rt; written(alloc, &255u64)?.as_slice(), b"\x53\xff".as_slice());
-    assert_eq!(rt;
-        written(alloc, &256u64)?.as_slice(),
-        b"\x80\x00\x00\x00\x00\x00\x00\x01\x00".as_slice()
-    );
+    assert!(rt; is_written_as(alloc, &255u8, b"\x50\xff"));
+    assert!(rt; is_written_as(alloc, &258u16, b"\x60\x01\x02"));
+    assert!(rt; is_written_as(alloc, &0u64, b"\x44"));
+    assert!(rt; is_written_as(alloc, &255u64, b"\x53\xff"));
+    assert!(rt; is_written_as(alloc, &256u64, b"\x80\x00\x00\x00\x00\x00\x00\x01\x00"));
     Ok(())
 }
 
 #[test]
 fn signed(rt: HostRuntime) -> Result<(), Fail> {
     let alloc = rt.alloc();
-    assert_eq!(rt; written(alloc, &-1i8)?.as_slice(), b"\x51\xff".as_slice());
-    assert_eq!(rt;
-        written(alloc, &-2i16)?.as_slice(),
-        b"\x61\xff\xfe".as_slice()
-    );
-    assert_eq!(rt;
-        written(alloc, &-128i64)?.as_slice(),
-        b"\x55\x80".as_slice()
-    );
-    assert_eq!(rt;
-        written(alloc, &128i64)?.as_slice(),
-        b"\x81\x00\x00\x00\x00\x00\x00\x00\x80".as_slice()
-    );
-    assert_eq!(rt;
-        written(alloc, &Timestamp::from(-1))?.as_slice(),
-        b"\x83\xff\xff\xff\xff\xff\xff\xff\xff".as_slice()
+    assert!(rt; is_written_as(alloc, &-1i8, b"\x51\xff"));
+    assert!(rt; is_written_as(alloc, &-2i16, b"\x61\xff\xfe"));
+    assert!(rt; is_written_as(alloc, &-128i64, b"\x55\x80"));
+    assert!(rt; is_written_as(alloc, &128i64, b"\x81\x00\x00\x00\x00\x00\x00\x00\x80"));
+    assert!(rt;
+        is_written_as(
+            alloc,
+            &Timestamp::from(-1),
+            b"\x83\xff\xff\xff\xff\xff\xff\xff\xff"
+        )
     );
     Ok(())
 }
@@ -50,45 +39,48 @@ fn signed(rt: HostRuntime) -> Result<(), Fail> {
 #[test]
 fn null_booleans_and_characters(rt: HostRuntime) -> Result<(), Fail> {
     let alloc = rt.alloc();
-    assert_eq!(rt; written(alloc, &())?.as_slice(), b"\x40".as_slice());
-    assert_eq!(rt; written(alloc, &true)?.as_slice(), b"\x41".as_slice());
-    assert_eq!(rt; written(alloc, &false)?.as_slice(), b"\x42".as_slice());
-    assert_eq!(rt;
-        written(alloc, &'\u{1f600}')?.as_slice(),
-        b"\x73\x00\x01\xf6\x00".as_slice()
-    );
-    let mut ser = Serializer::new(Vec::new(alloc));
-    ser.serialize_unit_struct(alloc, "Nothing")?;
-    assert_eq!(rt; ser.writer.as_slice(), b"\x40".as_slice());
+    assert!(rt; is_written_as(alloc, &(), b"\x40"));
+    assert!(rt; is_written_as(alloc, &true, b"\x41"));
+    assert!(rt; is_written_as(alloc, &false, b"\x42"));
+    assert!(rt; is_written_as(alloc, &'\u{1f600}', b"\x73\x00\x01\xf6\x00"));
+    let mut ser = Output::new(alloc);
+    ser.unit_struct(alloc)?;
+    assert_eq!(rt; ser.0.writer.as_slice(), b"\x40".as_slice());
     Ok(())
 }
 
 #[test]
 fn floats(rt: HostRuntime) -> Result<(), Fail> {
     let alloc = rt.alloc();
-    assert_eq!(rt;
-        written(alloc, &Float::from_bits(0x8000_0000))?.as_slice(),
-        b"\x72\x80\x00\x00\x00".as_slice()
+    assert!(rt;
+        is_written_as(
+            alloc,
+            &Float::from_bits(0x8000_0000),
+            b"\x72\x80\x00\x00\x00"
+        )
     );
-    assert_eq!(rt;
-        written(alloc, &Double::from_bits(0x3ff0_0000_0000_0001))?.as_slice(),
-        b"\x82\x3f\xf0\x00\x00\x00\x00\x00\x01".as_slice()
+    assert!(rt;
+        is_written_as(
+            alloc,
+            &Double::from_bits(0x3ff0_0000_0000_0001),
+            b"\x82\x3f\xf0\x00\x00\x00\x00\x00\x01"
+        )
     );
-    assert_eq!(rt;
-        written(alloc, &Dec32::from(*b"1234"))?.as_slice(),
-        b"\x741234".as_slice()
+    assert!(rt; is_written_as(alloc, &Dec32::from(*b"1234"), b"\x741234"));
+    assert!(rt; is_written_as(alloc, &Dec64::from(*b"12345678"), b"\x8412345678"));
+    assert!(rt;
+        is_written_as(
+            alloc,
+            &Dec128::from(*b"0123456789abcdef"),
+            b"\x940123456789abcdef"
+        )
     );
-    assert_eq!(rt;
-        written(alloc, &Dec64::from(*b"12345678"))?.as_slice(),
-        b"\x8412345678".as_slice()
-    );
-    assert_eq!(rt;
-        written(alloc, &Dec128::from(*b"0123456789abcdef"))?.as_slice(),
-        b"\x940123456789abcdef".as_slice()
-    );
-    assert_eq!(rt;
-        written(alloc, &Uuid::from(*b"0123456789abcdef"))?.as_slice(),
-        b"\x980123456789abcdef".as_slice()
+    assert!(rt;
+        is_written_as(
+            alloc,
+            &Uuid::from(*b"0123456789abcdef"),
+            b"\x980123456789abcdef"
+        )
     );
     Ok(())
 }
@@ -99,12 +91,12 @@ fn binaries_and_symbols(rt: HostRuntime) -> Result<(), Fail> {
     let short = b"\xa0\x02\x00\xff".as_slice();
     let symbol = b"\xa3\x02ab".as_slice();
     let bytes = BinaryRef(b"\x00\xff".as_slice());
-    assert_eq!(rt; written(alloc, &bytes)?.as_slice(), short);
+    assert!(rt; is_written_as(alloc, &bytes, short));
     let bytes = Binary(vec![in alloc; 0u8, 255]?);
-    assert_eq!(rt; written(alloc, &bytes)?.as_slice(), short);
-    assert_eq!(rt; written(alloc, &SymbolRef("ab"))?.as_slice(), symbol);
+    assert!(rt; is_written_as(alloc, &bytes, short));
+    assert!(rt; is_written_as(alloc, &SymbolRef("ab"), symbol));
     let name = Symbol::from_str(alloc, "ab")?;
-    assert_eq!(rt; written(alloc, &name)?.as_slice(), symbol);
+    assert!(rt; is_written_as(alloc, &name, symbol));
     let long = Binary(vec![in alloc; 7u8; 255]?);
     let long = written(alloc, &long)?;
     assert_eq!(rt; long.len(), 260);
@@ -118,21 +110,21 @@ fn binaries_and_symbols(rt: HostRuntime) -> Result<(), Fail> {
 #[test]
 fn in_arrays(rt: HostRuntime) -> Result<(), Fail> {
     let alloc = rt.alloc();
-    let mut ser = Serializer::new(Vec::new(alloc));
-    let mut array = ser.serialize_array(alloc, Some(2))?;
-    array.serialize_element(alloc, &true)?;
-    array.serialize_element(alloc, &false)?;
+    let mut ser = Output::new(alloc);
+    let mut array = ser.array(alloc, Some(2))?;
+    element(&mut array, alloc, &true)?;
+    element(&mut array, alloc, &false)?;
     array.end()?;
-    let mut array = ser.serialize_array(alloc, Some(2))?;
-    array.serialize_element(alloc, &0u64)?;
-    array.serialize_element(alloc, &1u64)?;
+    let mut array = ser.array(alloc, Some(2))?;
+    element(&mut array, alloc, &0u64)?;
+    element(&mut array, alloc, &1u64)?;
     array.end()?;
     assert_eq!(rt;
-        ser.writer.as_slice(),
+        ser.0.writer.as_slice(),
         b"\xe0\x04\x02\x56\x01\x00\xe0\x12\x02\x80\x00\x00\x00\x00\x00\x00\x00\x00\x00\x00\x00\x00\x00\x00\x00\x01".as_slice()
     );
-    let mut nulls = ser.serialize_array(alloc, Some(1))?;
-    assert!(rt; is_invalid_value(&nulls.serialize_element(alloc, &())));
+    let mut nulls = ser.array(alloc, Some(1))?;
+    assert!(rt; is_invalid_value(&element(&mut nulls, alloc, &())));
     assert!(rt; is_invalid_value(&nulls.end()));
     Ok(())
 }
