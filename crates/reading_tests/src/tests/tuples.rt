@@ -15,9 +15,10 @@ fn small_tuples(rt: HostRuntime) -> Result<(), Fail> {
 
 #[test]
 fn refused_tuples(rt: HostRuntime) -> Result<(), Fail> {
-    let cases: [(&[u8], Answer); 13] = [
+    let cases: [(&[u8], Answer); 14] = [
         (b"", Answer::UnexpectedEof),
         (b"\x52\x0d", Answer::InvalidFormatCode),
+        (b"\xc1\x03\x02\x43\x41", Answer::InvalidFormatCode),
         (b"\x45", Answer::SequenceLengthMismatch),
         (b"\xc0\x00", Answer::UnexpectedEof),
         (b"\xc0\x00\x00", Answer::InvalidLength),
