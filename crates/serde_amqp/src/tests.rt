@@ -10,7 +10,6 @@ mod texts;
 
 use crate::{Deserialize, Deserializer, Error, Read, Serialize, SliceReader, from_slice, to_vec};
 use std::alloc::Global;
-use std::io::ErrorKind;
 use std::test::Fail;
 
 /// `to_vec` without its contract, which a test's proof would carry along: a test compares what it answers.

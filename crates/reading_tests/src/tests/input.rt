@@ -135,15 +135,18 @@ impl<'s> Input<'s> {
         &mut self,
         alloc: Global,
         name: &'static str,
+        fields: usize,
     ) -> Result<StructAccess<'_, SliceReader<'s>>, Error> {
-        self.0.deserialize_struct(alloc, name, 2)
+        self.0.deserialize_struct(alloc, name, fields)
     }
 
     pub(crate) fn tuple_struct(
         &mut self,
         alloc: Global,
+        name: &'static str,
+        fields: usize,
     ) -> Result<StructAccess<'_, SliceReader<'s>>, Error> {
-        self.0.deserialize_tuple_struct(alloc, "Foo", 2)
+        self.0.deserialize_tuple_struct(alloc, name, fields)
     }
 }
 

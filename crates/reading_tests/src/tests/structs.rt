@@ -14,7 +14,7 @@ const NAMED: [u8; 10] = [0xc1, 8, 2, 0xa1, 3, 98, 97, 114, 0x52, 13];
 fn rows_of_fields(rt: HostRuntime) -> Result<(), Fail> {
     let alloc = rt.alloc();
     let mut input = Input::new(&ROW);
-    let mut foo = input.structure(alloc, "Foo")?;
+    let mut foo = input.structure(alloc, "Foo", 2)?;
     assert!(rt; matches!(field::<u32>(&mut foo, alloc), Ok(Some(13))));
     assert!(rt; matches!(field::<bool>(&mut foo, alloc), Ok(Some(true))));
     assert!(rt; matches!(field::<bool>(&mut foo, alloc), Ok(None)));
@@ -26,7 +26,7 @@ fn rows_of_fields(rt: HostRuntime) -> Result<(), Fail> {
 fn a_name_of_a_row(rt: HostRuntime) -> Result<(), Fail> {
     let alloc = rt.alloc();
     let mut input = Input::new(&ROW);
-    let mut foo = input.structure(alloc, "Foo")?;
+    let mut foo = input.structure(alloc, "Foo", 2)?;
     assert!(rt; matches!(key::<u32>(&mut foo, alloc), Err(Error::InvalidValue)));
     assert!(rt; matches!(field::<u32>(&mut foo, alloc), Err(Error::InvalidValue)));
     assert!(rt; matches!(&foo.end(), Err(Error::InvalidValue)));
@@ -37,7 +37,7 @@ fn a_name_of_a_row(rt: HostRuntime) -> Result<(), Fail> {
 fn an_unread_field(rt: HostRuntime) -> Result<(), Fail> {
     let alloc = rt.alloc();
     let mut input = Input::new(&ROW);
-    let mut foo = input.tuple_struct(alloc)?;
+    let mut foo = input.tuple_struct(alloc, "Foo", 2)?;
     assert!(rt; matches!(field::<u32>(&mut foo, alloc), Ok(Some(13))));
     assert!(rt; matches!(&foo.end(), Err(Error::SequenceLengthMismatch)));
     assert!(rt; matches!(&input.bool(), Err(Error::InvalidValue)));
@@ -48,7 +48,7 @@ fn an_unread_field(rt: HostRuntime) -> Result<(), Fail> {
 fn maps_of_fields(rt: HostRuntime) -> Result<(), Fail> {
     let alloc = rt.alloc();
     let mut input = Input::new(&NAMED);
-    let mut foo = input.structure(alloc, "Foo")?;
+    let mut foo = input.structure(alloc, "Foo", 2)?;
     assert!(rt; matches!(key::<String>(&mut foo, alloc), Ok(Some(_))));
     assert!(rt; matches!(value::<u32>(&mut foo, alloc), Ok(13)));
     assert!(rt; matches!(key::<String>(&mut foo, alloc), Ok(None)));
@@ -60,7 +60,7 @@ fn maps_of_fields(rt: HostRuntime) -> Result<(), Fail> {
 fn entries_of_fields(rt: HostRuntime) -> Result<(), Fail> {
     let alloc = rt.alloc();
     let mut input = Input::new(&NAMED);
-    let mut foo = input.structure(alloc, "Foo")?;
+    let mut foo = input.structure(alloc, "Foo", 2)?;
     assert!(rt; matches!(&foo.next_entry::<String, u32>(alloc), Ok(Some((_, 13)))));
     assert!(rt; foo.end().is_ok());
     Ok(())
@@ -70,7 +70,7 @@ fn entries_of_fields(rt: HostRuntime) -> Result<(), Fail> {
 fn an_element_of_a_map(rt: HostRuntime) -> Result<(), Fail> {
     let alloc = rt.alloc();
     let mut input = Input::new(&NAMED);
-    let mut foo = input.structure(alloc, "Foo")?;
+    let mut foo = input.structure(alloc, "Foo", 2)?;
     assert!(rt; matches!(field::<u32>(&mut foo, alloc), Err(Error::InvalidValue)));
     assert!(rt; matches!(&foo.end(), Err(Error::InvalidValue)));
     Ok(())
@@ -79,7 +79,7 @@ fn an_element_of_a_map(rt: HostRuntime) -> Result<(), Fail> {
 /// Why a struct of two fields isn't opened or, where none of them is read, ended.
 fn refusal(alloc: Global, name: &'static str, bytes: &[u8]) -> Option<Error> {
     let mut input = Input::new(bytes);
-    match input.structure(alloc, name) {
+    match input.structure(alloc, name, 2) {
         Ok(access) => access.end().err(),
         Err(e) => Some(e),
     }
