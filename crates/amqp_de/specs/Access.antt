@@ -163,7 +163,3 @@ pub record Header (w : ℕ) (is_array : Bool) (z k : ℕ) (old new : Reading) : 
   pub fits : IsTrue is_array → k ≤ z
   pub small : k < 256 ^ w
   pub wide : (w ≤ z) ⊎ (IsTrue is_array × (k ≡ 0))
-
--- the deserializer behind an access whose end was refused
-abbrev pub shut : Listing → Decoding
-shut l = record { reading = l.state.reading; answers = false; inherited = l.state.inherited; described = l.state.described; begun = l.state.begun }

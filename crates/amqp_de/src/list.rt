@@ -6,8 +6,8 @@ ghost use Rattle.amqp_base.specs.Item.{Item, Items, none};
 ghost use Rattle.amqp_base.specs.Fields.{takes_fields};
 ghost use Rattle.amqp_base.specs.declared.error.Error.TheVariants.{SequenceLengthMismatch};
 ghost use Rattle.amqp_base.specs.Wire.{bare};
-ghost use Rattle.amqp_de.specs.Access.{Listing, Within, HasParts, Next, Ends, Opens, OpensExactly, OpensNot, shut};
-ghost use Rattle.amqp_de.specs.Decoding.{Decoding};
+ghost use Rattle.amqp_de.specs.Access.{Listing, Within, HasParts, Next, Ends, Opens, OpensExactly, OpensNot};
+ghost use Rattle.amqp_de.specs.Decoding.{Decoding, silenced};
 ghost use Rattle.amqp_de.specs.Law.{Found, Missed};
 ghost use Rattle.amqp_de.specs.Parse.{list_data, tuple_data};
 ghost use Rattle.amqp_de.specs.Places.{constructor_of, limit_of};
@@ -250,10 +250,10 @@ impl<'a, R: Read> ListAccess<'a, R> {
 
     #[inline(always)]
     pub(crate) fn closed(self) -> Result<Ended<'a, R>, Error>
-        ensures* refused { sem 𝓛 (RestsIfErr (the_row R.row R.Read) self.entry.de (λ d. d.de.ghost_name) result (λ last. last ≡ shut (listing self.entry))) }
+        ensures* refused { sem 𝓛 (RestsIfErr (the_row R.row R.Read) self.entry.de (λ d. d.de.ghost_name) result (λ last. last ≡ silenced (listing self.entry).state)) }
         ensures same_reference { IfOk result (λ d. d.de.ghost_name ≡ self.entry.de.ghost_name) }
         ensures ok { IfOk result (λ d. Ends (listing self.entry) (Ok tt) d.de.now) }
-        ensures err { IfErr result (λ e. Ends (listing self.entry) (Err e) (shut (listing self.entry))) }
+        ensures err { IfErr result (λ e. Ends (listing self.entry) (Err e) (silenced (listing self.entry).state)) }
     {
         let ListAccess {
             de,
@@ -272,10 +272,10 @@ impl<R: Read> Deserializer<R> {
         answers: bool,
         beyond: Beyond,
     ) -> Result<Ended<'_, R>, Error>
-        ensures* refused { sem 𝓛 (RestsIfErr (the_row R.row R.Read) self.entry (λ d. d.de.ghost_name) result (λ last. last ≡ shut (record { state = self.old; left = left; answers = answers; outer = constructor_of beyond.outer; limit = limit_of beyond.limit }))) }
+        ensures* refused { sem 𝓛 (RestsIfErr (the_row R.row R.Read) self.entry (λ d. d.de.ghost_name) result (λ last. last ≡ silenced self.old)) }
         ensures same_reference { IfOk result (λ d. d.de.ghost_name ≡ self.entry.ghost_name) }
         ensures ok { IfOk result (λ d. Ends (record { state = self.old; left = left; answers = answers; outer = constructor_of beyond.outer; limit = limit_of beyond.limit }) (Ok tt) d.de.now) }
-        ensures err { IfErr result (λ e. Ends (record { state = self.old; left = left; answers = answers; outer = constructor_of beyond.outer; limit = limit_of beyond.limit }) (Err e) (shut (record { state = self.old; left = left; answers = answers; outer = constructor_of beyond.outer; limit = limit_of beyond.limit }))) }
+        ensures err { IfErr result (λ e. Ends (record { state = self.old; left = left; answers = answers; outer = constructor_of beyond.outer; limit = limit_of beyond.limit }) (Err e) (silenced self.old)) }
     {
         self.close(left, answers, beyond)?;
         Ok(Ended { de: self })
@@ -326,7 +326,7 @@ impl<R: Read> Deserializer<R> {
     #[inline(always)]
     pub(crate) fn close(&mut self, left: u32, answers: bool, beyond: Beyond) -> Result<(), Error>
         ensures ends { Ends (record { state = self.old; left = left; answers = answers; outer = constructor_of beyond.outer; limit = limit_of beyond.limit }) result self.new }
-        ensures shut { IfErr result (λ e. self.new ≡ shut (record { state = self.old; left = left; answers = answers; outer = constructor_of beyond.outer; limit = limit_of beyond.limit })) }
+        ensures silent { IfErr result (λ e. self.new ≡ silenced self.old) }
     {
         self.answers = false;
         if !answers {

@@ -4,8 +4,8 @@ ghost use Rattle.std.specs.Prelude.{◌≡◌, ◌%◌, Bool, true, false, ◌||
 ghost use Rattle.std.specs.Borrow.{sem, RestsIfErr};
 ghost use Rattle.amqp_base.specs.Item.{Item, Pairs, no_pairs, map};
 ghost use Rattle.amqp_base.specs.Maps.{is_map_of};
-ghost use Rattle.amqp_de.specs.Access.{Listing, HasPairs, Ends, Opens, OpensExactly, OpensNot, shut};
-ghost use Rattle.amqp_de.specs.Decoding.{Decoding};
+ghost use Rattle.amqp_de.specs.Access.{Listing, HasPairs, Ends, Opens, OpensExactly, OpensNot};
+ghost use Rattle.amqp_de.specs.Decoding.{Decoding, silenced};
 ghost use Rattle.amqp_de.specs.Law.{Found, Missed};
 ghost use Rattle.amqp_de.specs.Parse.{map_data};
 ghost use Rattle.amqp_de.specs.Places.{constructor_of, limit_of};
@@ -263,10 +263,10 @@ impl<'a, R: Read> MapAccess<'a, R> {
 
     #[inline(always)]
     pub(crate) fn closed(self) -> Result<Ended<'a, R>, Error>
-        ensures* refused { sem 𝓛 (RestsIfErr (the_row R.row R.Read) self.entry.de (λ d. d.de.ghost_name) result (λ last. last ≡ shut (map_listing self.entry))) }
+        ensures* refused { sem 𝓛 (RestsIfErr (the_row R.row R.Read) self.entry.de (λ d. d.de.ghost_name) result (λ last. last ≡ silenced (map_listing self.entry).state)) }
         ensures same_reference { IfOk result (λ d. d.de.ghost_name ≡ self.entry.de.ghost_name) }
         ensures ok { IfOk result (λ d. Ends (map_listing self.entry) (Ok tt) d.de.now) }
-        ensures err { IfErr result (λ e. Ends (map_listing self.entry) (Err e) (shut (map_listing self.entry))) }
+        ensures err { IfErr result (λ e. Ends (map_listing self.entry) (Err e) (silenced (map_listing self.entry).state)) }
     {
         let MapAccess {
             de,

@@ -2,9 +2,9 @@
 
 ghost use Rattle.std.specs.Prelude.{◌≡◌, List, Bool, true, false, ◌||◌, Ok, Err, IfOk, IfErr};
 ghost use Rattle.std.specs.Borrow.{sem, RestsIfErr};
-ghost use Rattle.amqp_de.specs.Access.{Listing, HasParts, Next, Ends, Opens, OpensExactly, shut};
+ghost use Rattle.amqp_de.specs.Access.{Listing, HasParts, Next, Ends, Opens, OpensExactly};
 ghost use Rattle.amqp_base.specs.Item.{Item, Items, none};
-ghost use Rattle.amqp_de.specs.Decoding.{Decoding};
+ghost use Rattle.amqp_de.specs.Decoding.{Decoding, silenced};
 ghost use Rattle.amqp_de.specs.Parse.{list_data};
 ghost use Rattle.amqp_de.specs.ReadParts.{Progress, HasRead, RefusesParts, open_list, open_seq};
 ghost use Rattle.amqp_de.specs.Seq.{listing, lender_of, seq_listing};
@@ -72,10 +72,10 @@ impl<'a, R: Read> SeqAccess<'a, R> {
     /// then.
     #[inline(always)]
     pub fn end(self) -> Result<Ended<'a, R>, Error>
-        ensures* refused { sem 𝓛 (RestsIfErr (the_row R.row R.Read) (lender_of self.entry) (λ d. d.de.ghost_name) result (λ last. last ≡ shut (seq_listing self.entry))) }
+        ensures* refused { sem 𝓛 (RestsIfErr (the_row R.row R.Read) (lender_of self.entry) (λ d. d.de.ghost_name) result (λ last. last ≡ silenced (seq_listing self.entry).state)) }
         ensures same_reference { IfOk result (λ d. d.de.ghost_name ≡ (lender_of self.entry).ghost_name) }
         ensures ok { IfOk result (λ d. Ends (seq_listing self.entry) (Ok tt) d.de.now) }
-        ensures err { IfErr result (λ e. Ends (seq_listing self.entry) (Err e) (shut (seq_listing self.entry))) }
+        ensures err { IfErr result (λ e. Ends (seq_listing self.entry) (Err e) (silenced (seq_listing self.entry).state)) }
     {
         match self {
             SeqAccess::List(list) => list.closed(),

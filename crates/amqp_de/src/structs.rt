@@ -4,7 +4,8 @@ ghost use Rattle.std.specs.Prelude.{◌≡◌, Bool, true, false, ◌||◌, Ok, 
 ghost use Rattle.std.specs.Borrow.{sem, RestsIfErr};
 ghost use Rattle.amqp_base.specs.Codes.{Kind, row};
 ghost use Rattle.amqp_base.specs.Structs.{is_described_name};
-ghost use Rattle.amqp_de.specs.Access.{Ends, shut};
+ghost use Rattle.amqp_de.specs.Access.{Ends};
+ghost use Rattle.amqp_de.specs.Decoding.{silenced};
 ghost use Rattle.amqp_de.specs.Forms.{struct_listing, struct_lender, of_opened, FormOpened, StructOpened, TupleOpened, IsRow, NoStruct, RefusesStruct, RefusesRow, FormElement, FormKey, FormValue, FormEntry};
 ghost use Rattle.amqp_de.specs.contracts.deserializer.Deserializer.{the_row};
 
@@ -231,10 +232,10 @@ impl<'a, R: Read> StructAccess<'a, R> {
     /// `SequenceLengthMismatch` where something was left unread, `InvalidValue` after a refusal; the deserializer is ended
     /// then.
     pub fn end(self) -> Result<Ended<'a, R>, Error>
-        ensures* refused { sem 𝓛 (RestsIfErr (the_row R.row R.Read) (struct_lender self.entry) (λ d. d.de.ghost_name) result (λ last. last ≡ shut (struct_listing self.entry))) }
+        ensures* refused { sem 𝓛 (RestsIfErr (the_row R.row R.Read) (struct_lender self.entry) (λ d. d.de.ghost_name) result (λ last. last ≡ silenced (struct_listing self.entry).state)) }
         ensures same_reference { IfOk result (λ d. d.de.ghost_name ≡ (struct_lender self.entry).ghost_name) }
         ensures ok { IfOk result (λ d. Ends (struct_listing self.entry) (Ok tt) d.de.now) }
-        ensures err { IfErr result (λ e. Ends (struct_listing self.entry) (Err e) (shut (struct_listing self.entry))) }
+        ensures err { IfErr result (λ e. Ends (struct_listing self.entry) (Err e) (silenced (struct_listing self.entry).state)) }
     {
         match self {
             StructAccess::List(list) => list.closed(),
