@@ -131,6 +131,10 @@ impl<'s> Input<'s> {
         self.0.deserialize_seq(alloc)
     }
 
+    pub(crate) fn tuple(&mut self, len: usize) -> Result<ListAccess<'_, SliceReader<'s>>, Error> {
+        self.0.deserialize_tuple(len)
+    }
+
     pub(crate) fn structure(
         &mut self,
         alloc: Global,

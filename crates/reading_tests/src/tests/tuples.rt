@@ -1,5 +1,6 @@
 //! Tuples, and what is no tuple of their length.
 
+use super::input::{Input, element};
 use super::{Answer, answer_to, front, is_read_as};
 use std::test::Fail;
 
@@ -10,6 +11,18 @@ fn small_tuples(rt: HostRuntime) -> Result<(), Fail> {
     assert_eq!(rt; one.0, 0);
     assert_eq!(rt; taken, 4);
     assert!(rt; is_read_as(alloc, b"\xc0\x04\x02\x52\x0d\x41", &(13u32, true)));
+    Ok(())
+}
+
+#[test]
+fn tuples_element_by_element(rt: HostRuntime) -> Result<(), Fail> {
+    let alloc = rt.alloc();
+    let mut input = Input::new(b"\xc0\x04\x02\x52\x0d\x41\x40");
+    let mut pair = input.tuple(2)?;
+    assert!(rt; matches!(element::<u32>(&mut pair, alloc), Ok(Some(13))));
+    assert!(rt; matches!(element::<bool>(&mut pair, alloc), Ok(Some(true))));
+    pair.end()?;
+    assert_eq!(rt; input.taken(), 6);
     Ok(())
 }
 

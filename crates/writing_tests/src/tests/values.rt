@@ -2,10 +2,12 @@
 
 use super::output::{Output, element};
 use super::{is_invalid_value, is_written_as, written};
+use amqp_base::Error;
 use amqp_ser::Serializer;
 use amqp_types::{
     Binary, BinaryRef, Dec32, Dec64, Dec128, Double, Float, Symbol, SymbolRef, Timestamp, Uuid,
 };
+use std::alloc::Global;
 use std::test::Fail;
 
 #[test]
@@ -103,6 +105,58 @@ fn binaries_and_symbols(rt: HostRuntime) -> Result<(), Fail> {
     assert!(rt;
         long.as_slice()
             .starts_with(b"\xb0\x00\x00\x00\xff\x07".as_slice())
+    );
+    Ok(())
+}
+
+/// A value of each numeric type, by the call of its name.
+fn numbers(alloc: Global, ser: &mut Serializer<Vec<u8>>) -> Result<(), Error> {
+    ser.serialize_u8(alloc, 255)?;
+    ser.serialize_u16(alloc, 258)?;
+    ser.serialize_u32(alloc, 256)?;
+    ser.serialize_u64(alloc, 7)?;
+    ser.serialize_i8(alloc, -1)?;
+    ser.serialize_i16(alloc, -2)?;
+    ser.serialize_i32(alloc, -1)?;
+    ser.serialize_i64(alloc, 127)?;
+    ser.serialize_timestamp(alloc, 1)
+}
+
+#[test]
+fn numbers_by_the_names_of_calls(rt: HostRuntime) -> Result<(), Fail> {
+    let alloc = rt.alloc();
+    let mut ser = Serializer::new(Vec::new(alloc));
+    numbers(alloc, &mut ser)?;
+    assert_eq!(rt;
+        ser.writer.as_slice(),
+        b"\x50\xff\x60\x01\x02\x70\x00\x00\x01\x00\x53\x07\x51\xff\x61\xff\xfe\x54\xff\x55\x7f\x83\x00\x00\x00\x00\x00\x00\x00\x01".as_slice()
+    );
+    Ok(())
+}
+
+/// A value of each other type without parts, by the call of its name.
+fn others(alloc: Global, ser: &mut Serializer<Vec<u8>>) -> Result<(), Error> {
+    ser.serialize_unit(alloc)?;
+    ser.serialize_bool(alloc, true)?;
+    ser.serialize_char(alloc, 'a')?;
+    ser.serialize_f32(alloc, Float::from_bits(1))?;
+    ser.serialize_f64(alloc, Double::from_bits(1))?;
+    ser.serialize_decimal32(alloc, &Dec32::from(*b"1234"))?;
+    ser.serialize_decimal64(alloc, &Dec64::from(*b"12345678"))?;
+    ser.serialize_decimal128(alloc, &Dec128::from(*b"0123456789abcdef"))?;
+    ser.serialize_uuid(alloc, &Uuid::from(*b"0123456789abcdef"))?;
+    ser.serialize_bytes(alloc, b"\x00\xff")?;
+    ser.serialize_symbol(alloc, "ab")
+}
+
+#[test]
+fn others_by_the_names_of_calls(rt: HostRuntime) -> Result<(), Fail> {
+    let alloc = rt.alloc();
+    let mut ser = Serializer::new(Vec::new(alloc));
+    others(alloc, &mut ser)?;
+    assert_eq!(rt;
+        ser.writer.as_slice(),
+        b"\x40\x41\x73\x00\x00\x00a\x72\x00\x00\x00\x01\x82\x00\x00\x00\x00\x00\x00\x00\x01\x741234\x8412345678\x940123456789abcdef\x980123456789abcdef\xa0\x02\x00\xff\xa3\x02ab".as_slice()
     );
     Ok(())
 }
