@@ -9,8 +9,6 @@ mod fault;
 mod format_code;
 pub mod laws;
 mod shape;
-#[cfg(test)]
-mod tests;
 mod typed;
 
 pub use constants::{

@@ -9,10 +9,13 @@ use Rattle.std.specs.Str.{bytes_eq}
 use Rattle.indexmap.specs.IndexMap.{insert_entry}
 use Rattle.amqp_base.specs.declared.error.Error.{Error}
 use Rattle.amqp_base.specs.declared.error.Error.TheVariants.{OutOfMemory}
-use Rattle.amqp_base.specs.Item.{int, uint, string, Item, scalar, list, map as map_item, array, described, Items, none, more, items_of, Pairs, no_pairs, pair}
+use Rattle.amqp_base.specs.Item.{null, uint, string, Item, scalar, list, map as map_item, array, described, Items, none, more, items_of, Pairs, no_pairs, pair}
 use Rattle.amqp_base.specs.Wire.{lenient, bare, Front}
 use Rattle.amqp_base.specs.Canon.{canon}
-use Rattle.amqp_base.specs.Typing.{all_mean, means_list}
+use Rattle.amqp_base.specs.Fields.{all_meanings, means_fields}
+use Rattle.amqp_base.specs.Options.{means_option, option_item}
+use Rattle.amqp_base.specs.Typing.{is_null, all_mean, means_list}
+use Rattle.amqp_base.specs.declared.shape.Setting.{Setting}
 use Rattle.amqp_base.specs.Maps.{all_pairs_mean, means_map, pair_items}
 use Rattle.amqp_base.specs.Shapes.{whole, pairs_of}
 use Rattle.amqp_base.specs.declared.shape.Shape.{Shape}
@@ -90,20 +93,49 @@ decoded_as kind means written s (Refused e) w (d, inr (n, r)) = (
       absurd cc (none_is, h.text),
 )
 
--- a list of ints is written as the list that means it
-ints : (is : Items) (vs : List ℤ) → all_mean (λ i (v : ℤ). i ≡ scalar (int v)) is vs → items_of (map (λ v. scalar (int v)) vs) ≡ is
-ints none [] m = refl
-ints none (v ∷ vs) m = absurd m
-ints (more i is) [] m = absurd m
-ints (more i is) (v ∷ vs) m = let a = sym m.0 in let b = ints is vs m.1 in cc
+-- a list is written as the list that means it, where its elements are
+items_kept : {V : Type 0} {means : Item → V → Type 0} {written : V → Item} → ((i : Item) (v : V) → means i v → written v ≡ i)
+    → (is : Items) (vs : List V) → all_mean means is vs → items_of (map written vs) ≡ is
+items_kept w none [] m = refl
+items_kept w none (v ∷ vs) m = absurd m
+items_kept w (more i is) [] m = absurd m
+items_kept w (more i is) (v ∷ vs) m = let a = w i v m.0 in let b = items_kept w is vs m.1 in cc
 
-pub int_list : (i : Item) (vs : List ℤ) → means_list (λ i (v : ℤ). i ≡ scalar (int v)) i vs → whole Shape.List (map (λ v. scalar (int v)) vs) ≡ i
+pub list_kept : {V : Type 0} {means : Item → V → Type 0} {written : V → Item} → ((i : Item) (v : V) → means i v → written v ≡ i)
+    → (i : Item) (vs : List V) → means_list means i vs → whole Shape.List (map written vs) ≡ i
 unfolding whole
-int_list (list is) vs m = ap list (ints is vs m)
-int_list (scalar v) vs m = absurd m
-int_list (map_item ps) vs m = absurd m
-int_list (array is) vs m = absurd m
-int_list (described d v) vs m = absurd m
+list_kept w (list is) vs m = ap list (items_kept w is vs m)
+list_kept w (scalar v) vs m = absurd m
+list_kept w (map_item ps) vs m = absurd m
+list_kept w (array is) vs m = absurd m
+list_kept w (described d v) vs m = absurd m
+
+-- null is written for what is missing
+null_of : (i : Item) → is_null i ≡ true → scalar null ≡ i
+null_of (scalar null) e = refl
+null_of (scalar v) e = absurd cc
+null_of (list is) e = absurd cc
+null_of (map_item ps) e = absurd cc
+null_of (array is) e = absurd cc
+null_of (described d v) e = absurd cc
+
+pub option_kept : {V : Type 0} {means : Item → V → Type 0} {s : Setting} (written : V → Setting → Item) → ((i : Item) (v : V) → means i v → written v s ≡ i)
+    → (i : Item) (o : Option V) → means_option means i o → option_item written o s ≡ i
+option_kept written w i None m = null_of i m
+option_kept written w i (Some v) m = w i v m.1
+
+-- a tuple of two is written as the list that means it, where its parts are
+pub pair_kept : {P Q : Item → Type 0} {a b : Item} → ((i : Item) → P i → a ≡ i) → ((i : Item) → Q i → b ≡ i)
+    → (i : Item) → means_fields (P ∷ Q ∷ []) i → whole (Shape.Tuple 2) (a ∷ b ∷ []) ≡ i
+unfolding whole means_fields all_meanings
+pair_kept p q (list none) m = absurd m
+pair_kept p q (list (more i none)) m = absurd m.1
+pair_kept p q (list (more i (more j none))) m = let x = p i m.0 in let y = q j m.1.0 in cc
+pair_kept p q (list (more i (more j (more k is)))) m = absurd m.1.1
+pair_kept p q (scalar v) m = absurd m
+pair_kept p q (map_item ps) m = absurd m
+pair_kept p q (array is) m = absurd m
+pair_kept p q (described d v) m = absurd m
 
 -- ---- a map is written as what is kept of the map that means it
 

@@ -4,7 +4,7 @@ use Rattle.hex.specs.Hex.{decode_of, encode_lower}
 use Rattle.amqp_base.specs.declared.error.Error.{Error}
 use Rattle.amqp_base.specs.declared.error.Error.TheVariants.{Message, Io, InvalidFormatCode, InvalidValue, InvalidUtf8Encoding, SequenceLengthMismatch, InvalidLength, OutOfMemory}
 use Rattle.amqp_probe.specs.declared.kind.Kind.{Kind}
-use Rattle.amqp_probe.specs.declared.kind.Kind.TheVariants.{Bool, I32, U32, U64, String, Symbol, ListI32, MapStringU32}
+use Rattle.amqp_probe.specs.declared.kind.Kind.TheVariants.{Bool, I32, U32, U64, String, Symbol, ListI32, ListU64, OptionU32, TupleU32Bool, MapStringU32}
 use Rattle.amqp_probe.specs.declared.codec.Outcome.{Outcome}
 use Rattle.amqp_probe.specs.declared.codec.Outcome.TheVariants.{Value, Refused}
 use Rattle.amqp_probe.specs.Codec.{Decoded}
@@ -17,6 +17,9 @@ type_name U64 = codes "u64"
 type_name String = codes "string"
 type_name Symbol = codes "symbol"
 type_name ListI32 = codes "list-i32"
+type_name ListU64 = codes "list-u64"
+type_name OptionU32 = codes "option-u32"
+type_name TupleU32Bool = codes "tuple-u32-bool"
 type_name MapStringU32 = codes "map-string-u32"
 
 -- A good line is at most 65,536 bytes: a type's name, one space (32), and an even number of hexadecimal digits in

@@ -1,5 +1,5 @@
 -- What a type's codec makes of bytes.
-use Rattle.std.specs.Prelude.{◌≡◌, ◌≢◌, ◌⊎◌, ℕ, ◌-◌, Bool, true, false, if◌then◌else◌, IsTrue, List, length, Option, Some, None}
+use Rattle.std.specs.Prelude.{◌≡◌, ◌≢◌, ◌⊎◌, ℕ, ◌-◌, Bool, true, false, if◌then◌else◌, IsTrue, List, [], ◌∷◌, length, Option, Some, None}
 use Rattle.std.specs.Str.{bytes_eq}
 use Rattle.amqp_base.specs.declared.error.Error.{Error}
 use Rattle.amqp_base.specs.declared.error.Error.TheVariants.{OutOfMemory}
@@ -8,9 +8,11 @@ use Rattle.amqp_base.specs.Item.{Item, scalar, map, string, Pairs, no_pairs, pai
 use Rattle.amqp_base.specs.Wire.{lenient, bare, Front}
 use Rattle.amqp_base.specs.Canon.{canon}
 use Rattle.amqp_base.specs.Maps.{is_map_of}
+use Rattle.amqp_base.specs.Fields.{takes_fields}
+use Rattle.amqp_base.specs.Options.{takes_option}
 use Rattle.amqp_base.specs.Typing.{is_of, is_list_of}
 use Rattle.amqp_probe.specs.declared.kind.Kind.{Kind}
-use Rattle.amqp_probe.specs.declared.kind.Kind.TheVariants.{Bool as Boolean, I32, U32, U64, String, Symbol, ListI32, MapStringU32}
+use Rattle.amqp_probe.specs.declared.kind.Kind.TheVariants.{Bool as Boolean, I32, U32, U64, String, Symbol, ListI32, ListU64, OptionU32, TupleU32Bool, MapStringU32}
 use Rattle.amqp_probe.specs.declared.codec.Outcome.{Outcome}
 use Rattle.amqp_probe.specs.declared.codec.Outcome.TheVariants.{Value, Refused}
 
@@ -23,6 +25,9 @@ takes U64 = is_of ItemKind.ulong
 takes String = is_of ItemKind.string
 takes Symbol = is_of ItemKind.symbol
 takes ListI32 = is_list_of (is_of ItemKind.int)
+takes ListU64 = is_list_of (is_of ItemKind.ulong)
+takes OptionU32 = takes_option (is_of ItemKind.uint)
+takes TupleU32Bool = takes_fields (is_of ItemKind.uint ∷ is_of ItemKind.boolean ∷ [])
 takes MapStringU32 = is_map_of (is_of ItemKind.string) (is_of ItemKind.uint)
 
 -- two keys are the same string

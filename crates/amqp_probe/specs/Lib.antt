@@ -3,3 +3,4 @@ pub mod Codec
 pub mod Lines
 pub mod Pieces
 pub mod Transcript
+pub mod Why

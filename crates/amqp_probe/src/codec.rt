@@ -33,6 +33,9 @@ pub fn decoded(alloc: Global, kind: Kind, bytes: &[u8]) -> Result<Outcome, Error
         Kind::String => recoded::<String>(alloc, bytes),
         Kind::Symbol => recoded::<Symbol>(alloc, bytes),
         Kind::ListI32 => recoded::<Vec<i32>>(alloc, bytes),
+        Kind::ListU64 => recoded::<Vec<u64>>(alloc, bytes),
+        Kind::OptionU32 => recoded::<Option<u32>>(alloc, bytes),
+        Kind::TupleU32Bool => recoded::<(u32, bool)>(alloc, bytes),
         Kind::MapStringU32 => recoded::<OrderedMap<String, u32>>(alloc, bytes),
     }
 }

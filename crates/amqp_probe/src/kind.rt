@@ -14,6 +14,9 @@ pub enum Kind {
     String,
     Symbol,
     ListI32,
+    ListU64,
+    OptionU32,
+    TupleU32Bool,
     MapStringU32,
 }
 
@@ -22,14 +25,17 @@ pub fn kind_named(name: &[u8]) -> Option<Kind>
     ensures { MatchOption result ((k : Kind) → name.now ≢ type_name k) (λ k. name.now ≡ type_name k) }
 {
     match name {
-        b"bool" => Some(Kind::Bool),
-        b"i32" => Some(Kind::I32),
-        b"u32" => Some(Kind::U32),
-        b"u64" => Some(Kind::U64),
-        b"string" => Some(Kind::String),
-        b"symbol" => Some(Kind::Symbol),
-        b"list-i32" => Some(Kind::ListI32),
-        b"map-string-u32" => Some(Kind::MapStringU32),
+        _ if name == b"bool".as_slice() => Some(Kind::Bool),
+        _ if name == b"i32".as_slice() => Some(Kind::I32),
+        _ if name == b"u32".as_slice() => Some(Kind::U32),
+        _ if name == b"u64".as_slice() => Some(Kind::U64),
+        _ if name == b"string".as_slice() => Some(Kind::String),
+        _ if name == b"symbol".as_slice() => Some(Kind::Symbol),
+        _ if name == b"list-i32".as_slice() => Some(Kind::ListI32),
+        _ if name == b"list-u64".as_slice() => Some(Kind::ListU64),
+        _ if name == b"option-u32".as_slice() => Some(Kind::OptionU32),
+        _ if name == b"tuple-u32-bool".as_slice() => Some(Kind::TupleU32Bool),
+        _ if name == b"map-string-u32".as_slice() => Some(Kind::MapStringU32),
         _ => None,
     }
 }

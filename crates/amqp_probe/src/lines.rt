@@ -7,8 +7,8 @@ use amqp_base::{Error, Source};
 use std::alloc::{AllocError, Global};
 use std::io;
 
-/// How many bytes are asked for at once.
-const BLOCK: usize = 8_192;
+/// How many bytes are asked for at once, and above how many bytes of answers these are written.
+pub const BLOCK: usize = 8_192;
 
 /// Cuts lines out of the blocks in which a source gives its bytes.
 #[derive(Drop)]
@@ -26,7 +26,7 @@ pub struct Lines {
 }
 
 impl Lines {
-    ghost use Rattle.std.specs.Prelude.{◌↔◌, [], length, false, if◌then◌else◌, IsTrue, IfOk, OnOk, IfErr, OnSome, IfSome};
+    ghost use Rattle.std.specs.Prelude.{◌↔◌, ◌==◌, [], length, position, IsSome, false, if◌then◌else◌, IsTrue, IfOk, OnOk, IfErr, OnSome, IfSome};
     ghost use Rattle.std.specs.Io.KnownBytes.{Keeps, IsAtEnd};
     ghost use Rattle.std.specs.declared.io.ErrorKind.TheVariants.{Other};
     ghost use Rattle.amqp_base.specs.declared.error.Error.TheVariants.{Io, OutOfMemory};
@@ -68,6 +68,13 @@ impl Lines {
             }
         }
         Ok(if line.is_empty() { None } else { Some(line) })
+    }
+
+    /// Whether a whole line was read and not yet taken, with its line feed.
+    pub fn has_line(&self) -> bool
+        ensures { IsTrue result ↔ IsSome (position (λ b. b == 10) (unread self.now)) }
+    {
+        find(b'\n', &self.block[self.start..self.end]).is_some()
     }
 
     /// Reads a block where nothing is left of the last one; false at the end.

@@ -1,14 +1,16 @@
 //! A whole run over an input.
 
-ghost use Rattle.std.specs.Prelude.{◌≡◌, ◌<◌, ◌⊎◌, IfOk, OnOk, IfErr, IfSome, string_bytes};
-ghost use Rattle.std.specs.Io.KnownBytes.{Appends};
+ghost use Rattle.std.specs.Prelude.{◌≡◌, ◌<◌, ◌⊎◌, [], IsTrue, IfOk, OnOk, IfErr, OnErr, IfSome, string_bytes};
+ghost use Rattle.std.specs.Io.KnownBytes.{Appends, Keeps, append_known};
+ghost use Rattle.amqp_base.specs.declared.error.Error.TheVariants.{OutOfMemory};
 ghost use Rattle.amqp_base.specs.Faults.{Extends};
 ghost use Rattle.amqp_probe.specs.Lines.{TooMany};
 ghost use Rattle.amqp_probe.specs.Pieces.{Fails};
-ghost use Rattle.amqp_probe.specs.Transcript.{Prints, bad_line};
+ghost use Rattle.amqp_probe.specs.Transcript.{Prints, Puts, Transcribes, bad_line};
 
 use crate::answer::answer;
-use crate::lines::Lines;
+use crate::lines::{BLOCK, Lines};
+use crate::why::{BadLine, Why, why_bad};
 use amqp_base::{Error, Sink, Source};
 use std::alloc::{AllocError, Global};
 
@@ -23,23 +25,92 @@ pub fn run<S: Source, W: Sink>(alloc: Global, input: &mut S, output: &mut W) -> 
     ensures extends { Extends (W.contents output.old) (W.contents output.new) }
     ensures err { IfErr result (λ e. Fails e ((S.faults input.old < S.faults input.new) ⊎ (W.faults output.old < W.faults output.new)) (TooMany (S.remaining input.old) 0)) }
 {
+    match transcribe(alloc, input, output) {
+        Ok(None) => Ok(true),
+        Ok(Some(_)) => Ok(false),
+        Err(e) => Err(e),
+    }
+}
+
+/// As `run`; after a bad line it says which and why. Answers are written in blocks: before more of the input is read, all
+/// that were given are written.
+pub fn transcribe<S: Source, W: Sink>(
+    alloc: Global,
+    input: &mut S,
+    output: &mut W,
+) -> Result<Option<BadLine>, Error>
+    ensures prints { IfOk result (λ bad. IfSome (S.remaining input.old) (λ bytes.
+        Transcribes bytes bad (W.contents output.old) (W.contents output.new))) }
+    ensures source { OnOk result (S.faults input.new ≡ S.faults input.old) }
+    ensures sink { OnOk result (W.faults output.new ≡ W.faults output.old) }
+    ensures extends { Extends (W.contents output.old) (W.contents output.new) }
+    ensures err { IfErr result (λ e. Fails e ((S.faults input.old < S.faults input.new) ⊎ (W.faults output.old < W.faults output.new)) (TooMany (S.remaining input.old) 0)) }
+{
     let mut lines = Lines::new(alloc)?;
+    let mut texts = Vec::new(alloc);
     let mut number = 0usize;
     'lines: while let Some(line) = lines.next_line(alloc, input)? {
         number += 1;
-        match answer(alloc, line.as_slice())? {
-            Some(mut text) => {
-                text.push_str("\n")?;
-                write(output, text.as_bytes())?;
+        match put_answer(alloc, line.as_slice(), number, &mut texts) {
+            Ok(None) => {
+                let due = texts.len() >= BLOCK || !lines.has_line();
+                pass_on(output, &mut texts, due)?;
             }
-            None => {
-                let text = bad_line(alloc, number)?;
-                write(output, text.as_bytes())?;
-                return Ok(false);
+            Ok(Some(why)) => {
+                pass_on(output, &mut texts, true)?;
+                return Ok(Some(BadLine { number, why }));
+            }
+            Err(e) => {
+                pass_on(output, &mut texts, true)?;
+                return Err(e);
             }
         }
     }
-    Ok(true)
+    pass_on(output, &mut texts, true)?;
+    Ok(None)
+}
+
+/// Puts the answer to a line behind the texts, or that the line of this number is bad, which it then answers why. Where
+/// it is refused, as `OutOfMemory`, the texts stay.
+fn put_answer(
+    alloc: Global,
+    line: &[u8],
+    number: usize,
+    texts: &mut Vec<u8>,
+) -> Result<Option<Why>, Error>
+    ensures ok { IfOk result (λ bad. Puts line.now number bad texts.old.items texts.new.items) }
+    ensures err { IfErr result (λ e. e ≡ OutOfMemory) }
+    ensures same { OnErr result (texts.new.items ≡ texts.old.items) }
+{
+    match answer(alloc, line)? {
+        Some(mut text) => {
+            text.push_str("\n")?;
+            texts.extend_from_slice(text.as_bytes())?;
+            Ok(None)
+        }
+        None => {
+            let text = bad_line(alloc, number)?;
+            texts.extend_from_slice(text.as_bytes())?;
+            Ok(Some(why_bad(line)))
+        }
+    }
+}
+
+/// Writes the texts where it is due, and then there are none.
+fn pass_on<W: Sink>(output: &mut W, texts: &mut Vec<u8>, due: bool) -> Result<(), Error>
+    ensures kept { OnOk result (Keeps
+        (append_known (W.contents output.old) texts.old.items)
+        (append_known (W.contents output.new) texts.new.items)) }
+    ensures all { OnOk result (IsTrue due → texts.new.items ≡ []) }
+    ensures same { OnOk result (W.faults output.new ≡ W.faults output.old) }
+    ensures extends { Extends (W.contents output.old) (W.contents output.new) }
+    ensures err { IfErr result (λ e. Fails e (W.faults output.old < W.faults output.new) ⊥) }
+{
+    if due {
+        write(output, texts.as_slice())?;
+        texts.clear();
+    }
+    Ok(())
 }
 
 /// What is printed for a bad line.

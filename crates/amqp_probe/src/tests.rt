@@ -1,15 +1,15 @@
-//! Lines, and whole runs over inputs and outputs of each kind.
+//! Lines, and whole runs over inputs and outputs of each kind. What a good line of each type is answered stands in the stored run.
 
 use crate::answer::{LIMIT, answer, find, parse};
 use crate::codec::{Outcome, decoded};
 use crate::kind::{Kind, kind_named};
 use crate::lines::Lines;
-use crate::run::run;
+use crate::run::{run, transcribe};
+use crate::why::{BadLine, Why, why_bad};
 use amqp_base::{Counted, Error, Sink, Source};
 use std::alloc::Global;
 use std::io;
 use std::io::{ErrorKind, Read, Write};
-use std::test::Fail;
 
 /// Gives at most `step` bytes a read, and answers `fault` once, in place of read number `at`.
 #[derive(Drop)]
@@ -34,24 +34,28 @@ impl Read for Device<'_> {
     }
 }
 
-/// Takes at most `step` bytes a write, and answers `fault` in place of write number `at`.
+/// Takes at most `step` bytes a write, counts its writes, and answers `fault` in place of write number `at`.
 #[derive(Drop)]
 struct Paper {
     bytes: Vec<u8>,
     step: usize,
     at: usize,
     fault: ErrorKind,
+    writes: usize,
 }
 
 impl Write for Paper {
     fn write(&mut self, bytes: &[u8]) -> io::Result<usize> {
+        self.writes = self.writes.saturating_add(1);
         if self.at == 1 {
             return Err(self.fault.into());
         }
         self.at = self.at.saturating_sub(1);
         let n = bytes.len().min(self.step);
-        self.bytes.extend_from_slice(&bytes[..n])?;
-        Ok(n)
+        match self.bytes.extend_from_slice(&bytes[..n]) {
+            Ok(()) => Ok(n),
+            Err(_) => Err(ErrorKind::OutOfMemory.into()),
+        }
     }
 
     fn flush(&mut self) -> io::Result<()> {
@@ -68,190 +72,368 @@ fn slow(bytes: &[u8], at: usize, fault: ErrorKind) -> Counted<Device<'_>> {
     })
 }
 
-/// What a run prints, with its answer behind it.
-fn printed<S: Source>(alloc: Global, input: &mut S) -> Result<String, Fail> {
+/// The run prints the text, and answers whether every line was good.
+fn prints<S: Source>(alloc: Global, input: &mut S, text: &[u8], good: bool) -> bool {
     let mut output = Vec::new(alloc);
-    let good = run(alloc, input, &mut output)?;
-    let mut text = String::from_utf8(output)?;
-    text.push_str(if good { "true" } else { "false" })?;
-    Ok(text)
+    match run(alloc, input, &mut output) {
+        Ok(answer) => answer == good && output.as_slice() == text,
+        Err(_) => false,
+    }
 }
 
-/// Lines of each form, and what is printed for them.
-const RUNS: [(&str, &str); 28] = [
-    ("", "true"),
-    ("u32 70000000ff", "ok 52ff rest 0\ntrue"),
-    ("u32 70000000fF0a\n", "ok 52ff rest 1\ntrue"),
-    ("u32 \nu32 43\n", "refused Io\nok 43 rest 0\ntrue"),
-    ("u32 41", "refused InvalidFormatCode\ntrue"),
-    ("\n", "bad line 1\nfalse"),
-    ("u32 43\n\nu32 43\n", "ok 43 rest 0\nbad line 2\nfalse"),
-    ("u32 43\n\n", "ok 43 rest 0\nbad line 2\nfalse"),
-    (
-        "u32 43\nword 00\nu32 43\n",
-        "ok 43 rest 0\nbad line 2\nfalse",
-    ),
-    ("u32", "bad line 1\nfalse"),
-    (" ", "bad line 1\nfalse"),
-    ("u32\t43", "bad line 1\nfalse"),
-    ("u32  43", "bad line 1\nfalse"),
-    (" u32 43", "bad line 1\nfalse"),
-    ("u32 43 ", "bad line 1\nfalse"),
-    ("u32 43\r\n", "bad line 1\nfalse"),
-    ("u32 4\n3", "bad line 1\nfalse"),
-    ("u32 0x43", "bad line 1\nfalse"),
-    ("u32 4g", "bad line 1\nfalse"),
-    ("U32 43", "bad line 1\nfalse"),
-    ("u3 43", "bad line 1\nfalse"),
-    ("u322 43", "bad line 1\nfalse"),
-    ("u32 43\u{e9}\u{e9}", "bad line 1\nfalse"),
-    ("\u{e9}u32 43", "bad line 1\nfalse"),
-    (
-        "bool 5602\nbool 41\nu64 80000000000000002a\nsymbol a30161ff\nword 00",
-        "refused InvalidValue\nok 41 rest 0\nok 532a rest 0\nok a30161 rest 1\nbad line 5\nfalse",
-    ),
-    (
-        "i32 71ffffff80\nu64 44\nsymbol a10161\nbool 5601",
-        "ok 5480 rest 0\nok 44 rest 0\nrefused InvalidFormatCode\nok 41 rest 0\ntrue",
-    ),
-    (
-        "map-string-u32 c10b04a101625201a101615202ff\nmap-string-u32 c11006a101615201a101625202a101615203",
-        "ok c10b04a101625201a101615202 rest 1\nok c10b04a101615203a101625202 rest 0\ntrue",
-    ),
-    (
-        "map-string-u32 d10000000400000000\nmap-string-u32 c10503a1016143\nmap-string-u32 c10602a301615201\nmap-string-u32 45",
-        "ok c10100 rest 0\nrefused InvalidLength\nrefused InvalidFormatCode\nrefused InvalidFormatCode\ntrue",
-    ),
-];
+/// Both where the input is there at once and where it comes one byte a read.
+fn runs(alloc: Global, input: &[u8], text: &[u8], good: bool) -> bool {
+    let mut whole = input;
+    prints(alloc, &mut whole, text, good)
+        && prints(alloc, &mut slow(input, 0, ErrorKind::Other), text, good)
+}
+
+/// The first line is bad.
+fn is_bad(alloc: Global, input: &[u8]) -> bool {
+    runs(alloc, input, b"bad line 1\n", false)
+}
 
 #[test]
-fn prints_each_form(rt: HostRuntime) -> Result<(), Fail> {
-    for (input, wanted) in RUNS {
-        let mut whole = input.as_bytes();
-        let text = printed(rt.alloc(), &mut whole)?;
-        assert_eq!(rt; text.as_str(), wanted, "of {input:?}");
-        let mut slow = slow(input.as_bytes(), 0, ErrorKind::Other);
-        let text = printed(rt.alloc(), &mut slow)?;
-        assert_eq!(rt; text.as_str(), wanted, "of {input:?}, one byte a read");
-    }
-    Ok(())
+fn good_lines(rt: HostRuntime) {
+    let alloc = rt.alloc();
+    assert!(rt; runs(alloc, b"", b"", true));
+    assert!(rt; runs(alloc, b"u32 70000000ff", b"ok 52ff rest 0\n", true));
+    assert!(rt; runs(alloc, b"u32 70000000fF0a\n", b"ok 52ff rest 1\n", true));
+    assert!(rt;
+        runs(
+            alloc,
+            b"u32 \nu32 43\n",
+            b"refused Io\nok 43 rest 0\n",
+            true
+        )
+    );
+    assert!(rt; runs(alloc, b"u32 41", b"refused InvalidFormatCode\n", true));
 }
 
-/// A line of `length` bytes behind a short one: a type, its space, and digits of bytes 43.
-fn long(alloc: Global, kind: &str, length: usize) -> Result<Vec<u8>, Fail> {
+#[test]
+fn nothing_is_answered_behind_a_bad_line(rt: HostRuntime) {
+    let alloc = rt.alloc();
+    let second = b"ok 43 rest 0\nbad line 2\n".as_slice();
+    assert!(rt; runs(alloc, b"u32 43\n\nu32 43\n", second, false));
+    assert!(rt; runs(alloc, b"u32 43\n\n", second, false));
+    assert!(rt; runs(alloc, b"u32 43\nword 00\nu32 43\n", second, false));
+    assert!(rt;
+        runs(
+            alloc,
+            b"bool 5602\nbool 41\nu64 80000000000000002a\nsymbol a30161ff\nword 00",
+            b"refused InvalidValue\nok 41 rest 0\nok 532a rest 0\nok a30161 rest 1\nbad line 5\n",
+            false
+        )
+    );
+}
+
+#[test]
+fn bad_lines(rt: HostRuntime) {
+    let alloc = rt.alloc();
+    assert!(rt; is_bad(alloc, b"\n"));
+    assert!(rt; is_bad(alloc, b"u32"));
+    assert!(rt; is_bad(alloc, b" "));
+    assert!(rt; is_bad(alloc, b"u32\t43"));
+    assert!(rt; is_bad(alloc, b"u32  43"));
+    assert!(rt; is_bad(alloc, b" u32 43"));
+    assert!(rt; is_bad(alloc, b"u32 43 "));
+    assert!(rt; is_bad(alloc, b"u32 43\r\n"));
+    assert!(rt; is_bad(alloc, b"u32 4\n3"));
+    assert!(rt; is_bad(alloc, b"u32 0x43"));
+    assert!(rt; is_bad(alloc, b"u32 4g"));
+    assert!(rt; is_bad(alloc, b"U32 43"));
+    assert!(rt; is_bad(alloc, b"u3 43"));
+    assert!(rt; is_bad(alloc, b"u322 43"));
+    assert!(rt; is_bad(alloc, b"u32 43\xc3\xa9\xc3\xa9"));
+    assert!(rt; is_bad(alloc, b"\xc3\xa9u32 43"));
+}
+
+/// Which line of the input is bad, and why.
+fn bad_line_of(alloc: Global, input: &[u8]) -> Option<BadLine> {
+    let mut input = input;
+    match transcribe(alloc, &mut input, &mut Vec::new(alloc)) {
+        Ok(bad) => bad,
+        Err(_) => None,
+    }
+}
+
+fn bad(number: usize, why: Why) -> Option<BadLine> {
+    Some(BadLine { number, why })
+}
+
+#[test]
+fn bad_lines_have_a_reason(rt: HostRuntime) {
+    let alloc = rt.alloc();
+    assert!(rt; bad_line_of(alloc, b"u32 43\nu32 43").is_none());
+    assert_eq!(rt; bad_line_of(alloc, b"\n"), bad(1, Why::NoSpace));
+    assert_eq!(rt; bad_line_of(alloc, b"u32 43\nu32"), bad(2, Why::NoSpace));
+    assert_eq!(rt; bad_line_of(alloc, b"word 00"), bad(1, Why::UnknownType));
+    assert_eq!(rt; bad_line_of(alloc, b" u32 43"), bad(1, Why::UnknownType));
+    assert_eq!(rt; bad_line_of(alloc, b"u32 4"), bad(1, Why::OddDigits));
+    assert_eq!(rt; bad_line_of(alloc, b"u32 4g"), bad(1, Why::NoDigit));
+    assert_eq!(rt; why_bad(b"u32 0x43"), Why::NoDigit);
+    assert_eq!(rt; Why::TooLong.text(), "longer than 65,536 bytes");
+    assert_eq!(rt; Why::UnknownType.text(), "unknown type");
+}
+
+/// A line of `length` bytes behind a short one: a type, its space, and digits of bytes 43; and the end.
+fn long(alloc: Global, kind: &[u8], length: usize, end: &[u8]) -> Option<Vec<u8>> {
     let mut line = Vec::new(alloc);
-    line.extend_from_slice(b"u32 43\n")?;
-    line.extend_from_slice(kind.as_bytes())?;
+    if line.extend_from_slice(b"u32 43\n").is_err() || line.extend_from_slice(kind).is_err() {
+        return None;
+    }
     for i in kind.len()..length {
-        line.push(if (i - kind.len()) % 2 == 0 {
+        let digit = if (i - kind.len()) % 2 == 0 {
             b'4'
         } else {
             b'3'
-        })?;
-    }
-    Ok(line)
-}
-
-#[test]
-fn stops_above_the_limit(rt: HostRuntime) -> Result<(), Fail> {
-    let limit = "ok 43 rest 0\nok 43 rest 32765\n";
-    let bad = "ok 43 rest 0\nbad line 2\n";
-    let runs = [
-        ("u32 ", LIMIT, limit, true),
-        ("string ", LIMIT + 1, bad, false),
-        ("u32 ", LIMIT + 2, bad, false),
-        ("u32 ", LIMIT + 50_000, bad, false),
-    ];
-    for (kind, length, wanted, good) in runs {
-        for end in ["", "\n", "\nu32 43"] {
-            let mut input = long(rt.alloc(), kind, length)?;
-            input.extend_from_slice(end.as_bytes())?;
-            let mut wanted = String::from_str(rt.alloc(), wanted)?;
-            if good && end.len() > 1 {
-                wanted.push_str("ok 43 rest 0\n")?;
-            }
-            wanted.push_str(if good { "true" } else { "false" })?;
-            let text = printed(rt.alloc(), &mut input.as_slice())?;
-            assert_eq!(rt; text.as_str(), wanted.as_str(), "at {length}, {end:?}");
+        };
+        if line.push(digit).is_err() {
+            return None;
         }
     }
-    Ok(())
-}
-
-#[test]
-fn hands_on_faults_of_the_input(rt: HostRuntime) -> Result<(), Fail> {
-    let input = b"u32 43\nu32 5207";
-    let kinds = [
-        ErrorKind::ConnectionReset,
-        ErrorKind::Interrupted,
-        ErrorKind::OutOfMemory,
-    ];
-    for kind in kinds {
-        for at in 1..=16usize {
-            let mut output = Vec::new(rt.alloc());
-            match run(rt.alloc(), &mut slow(input, at, kind), &mut output) {
-                Err(Error::Io(found)) => assert!(rt; found == kind),
-                Err(Error::OutOfMemory) => assert!(rt; kind == ErrorKind::OutOfMemory),
-                _ => assert!(rt; false, "read {at}"),
-            }
-            let wanted: &[u8] = if at > 7 { b"ok 43 rest 0\n" } else { b"" };
-            assert_eq!(rt; output.as_slice(), wanted, "read {at}");
-        }
+    match line.extend_from_slice(end) {
+        Ok(()) => Some(line),
+        Err(_) => None,
     }
-    Ok(())
 }
 
-#[test]
-fn hands_on_faults_of_the_output(rt: HostRuntime) -> Result<(), Fail> {
-    let wanted = b"ok 43 rest 0\nbad line 2\n";
-    for (step, fault, count) in [
-        (1usize, ErrorKind::BrokenPipe, 24usize),
-        (0, ErrorKind::WriteZero, 1),
-    ] {
-        for at in 1..=count {
-            let mut output = Counted::new(Paper {
-                bytes: Vec::new(rt.alloc()),
-                step,
-                at: if step == 0 { 0 } else { at },
-                fault,
-            });
-            let mut input: &[u8] = b"u32 43\nu32";
-            match run(rt.alloc(), &mut input, &mut output) {
-                Err(Error::Io(found)) => assert!(rt; found == fault),
-                _ => assert!(rt; false, "write {at}"),
-            }
-            let Paper { bytes, .. } = output.into_inner();
-            assert_eq!(rt; bytes.as_slice(), &wanted[..at - 1]);
-        }
+/// A long line, and the end, print the text behind the first answer.
+fn long_prints(
+    alloc: Global,
+    kind: &[u8],
+    length: usize,
+    end: &[u8],
+    text: &[u8],
+    good: bool,
+) -> bool {
+    match long(alloc, kind, length, end) {
+        Some(input) => prints(alloc, &mut input.as_slice(), text, good),
+        None => false,
     }
-    Ok(())
+}
+
+const AT_LIMIT: &[u8] = b"ok 43 rest 0\nok 43 rest 32765\n";
+
+const ABOVE_LIMIT: &[u8] = b"ok 43 rest 0\nbad line 2\n";
+
+/// A line above the limit is bad, whatever stands behind it.
+fn is_above(alloc: Global, kind: &[u8], length: usize) -> bool {
+    long_prints(alloc, kind, length, b"", ABOVE_LIMIT, false)
+        && long_prints(alloc, kind, length, b"\n", ABOVE_LIMIT, false)
+        && long_prints(alloc, kind, length, b"\nu32 43", ABOVE_LIMIT, false)
+}
+
+/// Why the long line is bad.
+fn why_long(alloc: Global, length: usize) -> Option<BadLine> {
+    match long(alloc, b"u32 ", length, b"") {
+        Some(input) => bad_line_of(alloc, input.as_slice()),
+        None => None,
+    }
 }
 
 #[test]
-fn answers_a_line(rt: HostRuntime) -> Result<(), Fail> {
+fn a_line_has_at_most_65536_bytes(rt: HostRuntime) {
     let alloc = rt.alloc();
-    let text = answer(alloc, b"u32 5207ff")?.ok_or("bad")?;
-    assert_eq!(rt; text.as_str(), "ok 5207 rest 1");
-    assert!(rt; answer(alloc, b"u32 5207f")?.is_none());
-    let (kind, bytes) = parse(alloc, b"string B1")?.ok_or("bad")?;
-    assert_eq!(rt; kind, Kind::String);
-    assert_eq!(rt; bytes.as_slice(), [0xb1].as_slice());
+    assert!(rt; long_prints(alloc, b"u32 ", LIMIT, b"", AT_LIMIT, true));
+    assert!(rt; long_prints(alloc, b"u32 ", LIMIT, b"\n", AT_LIMIT, true));
+    assert!(rt;
+        long_prints(
+            alloc,
+            b"u32 ",
+            LIMIT,
+            b"\nu32 43",
+            b"ok 43 rest 0\nok 43 rest 32765\nok 43 rest 0\n",
+            true
+        )
+    );
+    assert!(rt; is_above(alloc, b"string ", LIMIT + 1));
+    assert!(rt; is_above(alloc, b"u32 ", LIMIT + 2));
+    assert!(rt; is_above(alloc, b"u32 ", LIMIT + 50_000));
+    assert!(rt; why_long(alloc, LIMIT).is_none());
+    assert_eq!(rt;
+        why_long(alloc, LIMIT + 2),
+        Some(BadLine {
+            number: 2,
+            why: Why::TooLong
+        })
+    );
+}
+
+/// The error's kind, or that it is want of memory.
+fn kind_of(e: &Error) -> Option<ErrorKind> {
+    match e {
+        Error::Io(kind) => Some(*kind),
+        Error::OutOfMemory => Some(ErrorKind::OutOfMemory),
+        _ => None,
+    }
+}
+
+/// Where the read of this number fails, the run is refused so, and what was answered before is written.
+fn is_handed_on(alloc: Global, at: usize, kind: ErrorKind) -> bool {
+    let input = b"u32 43\nu32 5207";
+    let mut output = Vec::new(alloc);
+    let wanted: &[u8] = if at > 7 { b"ok 43 rest 0\n" } else { b"" };
+    match run(alloc, &mut slow(input, at, kind), &mut output) {
+        Ok(_) => false,
+        Err(e) => kind_of(&e) == Some(kind) && output.as_slice() == wanted,
+    }
+}
+
+#[test]
+fn hands_on_faults_of_the_input(rt: HostRuntime) {
+    for at in 1..=16usize {
+        assert!(rt;
+            is_handed_on(rt.alloc(), at, ErrorKind::ConnectionReset),
+            "read {at}"
+        );
+        assert!(rt;
+            is_handed_on(rt.alloc(), at, ErrorKind::Interrupted),
+            "read {at}"
+        );
+        assert!(rt;
+            is_handed_on(rt.alloc(), at, ErrorKind::OutOfMemory),
+            "read {at}"
+        );
+    }
+}
+
+/// An output that takes at most `step` bytes a write and fails at one.
+fn narrow(alloc: Global, step: usize, at: usize, fault: ErrorKind) -> Counted<Paper> {
+    Counted::new(Paper {
+        bytes: Vec::new(alloc),
+        step,
+        at,
+        fault,
+        writes: 0,
+    })
+}
+
+/// The run is refused so, and the output holds so many bytes of the text.
+fn breaks(alloc: Global, output: Counted<Paper>, fault: ErrorKind, count: usize) -> bool {
+    let mut output = output;
+    let mut input: &[u8] = b"u32 43\nu32";
+    let is_refused = match run(alloc, &mut input, &mut output) {
+        Ok(_) => false,
+        Err(e) => kind_of(&e) == Some(fault),
+    };
+    let Paper { bytes, .. } = output.into_inner();
+    is_refused && b"ok 43 rest 0\nbad line 2\n".get(..count) == Some(bytes.as_slice())
+}
+
+#[test]
+fn hands_on_faults_of_the_output(rt: HostRuntime) {
+    let alloc = rt.alloc();
+    let fault = ErrorKind::BrokenPipe;
+    for at in 1..=24usize {
+        assert!(rt;
+            breaks(alloc, narrow(alloc, 1, at, fault), fault, at - 1),
+            "write {at}"
+        );
+    }
+    let fault = ErrorKind::WriteZero;
+    assert!(rt; breaks(alloc, narrow(alloc, 0, 0, fault), fault, 0));
+}
+
+/// How many writes a run over this input makes.
+fn writes_of<S: Source>(alloc: Global, input: &mut S) -> usize {
+    let mut output = narrow(alloc, usize::MAX, 0, ErrorKind::Other);
+    match run(alloc, input, &mut output) {
+        Ok(_) => output.into_inner().writes,
+        Err(_) => 0,
+    }
+}
+
+#[test]
+fn answers_are_written_in_blocks(rt: HostRuntime) {
+    let alloc = rt.alloc();
+    let bytes = b"u32 43\nu32 43\nu32 43\nu32 43\n".as_slice();
+    let mut whole = bytes;
+    assert_eq!(rt; writes_of(alloc, &mut whole), 1);
+    // what was answered is written before more is read
+    assert_eq!(rt; writes_of(alloc, &mut slow(bytes, 0, ErrorKind::Other)), 4);
+}
+
+/// The line is answered so.
+fn is_answered(alloc: Global, line: &[u8], wanted: Option<&str>) -> bool {
+    match answer(alloc, line) {
+        Ok(Some(text)) => Some(text.as_str()) == wanted,
+        Ok(None) => wanted.is_none(),
+        Err(_) => false,
+    }
+}
+
+/// The line names the type and spells the bytes.
+fn is_parsed(alloc: Global, line: &[u8], kind: Kind, bytes: &[u8]) -> bool {
+    match parse(alloc, line) {
+        Ok(Some((found, spelt))) => found == kind && spelt.as_slice() == bytes,
+        _ => false,
+    }
+}
+
+/// The bytes are a value of the type that is encoded so, and so many stand behind it.
+fn is_decoded(alloc: Global, kind: Kind, bytes: &[u8], text: &[u8], behind: usize) -> bool {
+    match decoded(alloc, kind, bytes) {
+        Ok(Outcome::Value { canonical, rest }) => canonical.as_slice() == text && rest == behind,
+        _ => false,
+    }
+}
+
+#[test]
+fn answers_a_line(rt: HostRuntime) {
+    let alloc = rt.alloc();
+    assert!(rt; is_answered(alloc, b"u32 5207ff", Some("ok 5207 rest 1")));
+    assert!(rt; is_answered(alloc, b"u32 5207f", None));
+    assert!(rt; is_parsed(alloc, b"string B1", Kind::String, b"\xb1"));
     assert_eq!(rt; kind_named(b"list-i32"), Some(Kind::ListI32));
     assert_eq!(rt; kind_named(b"map-string-u32"), Some(Kind::MapStringU32));
+    assert_eq!(rt; kind_named(b"list"), None);
     assert_eq!(rt; find(b' ', b"u32 43 "), Some(3));
-    let mut lines = Lines::new(alloc)?;
-    let mut input: &[u8] = b"\nb";
-    let first = lines.next_line(alloc, &mut input)?.ok_or("none")?;
-    assert!(rt; first.is_empty());
-    let second = lines.next_line(alloc, &mut input)?.ok_or("none")?;
-    assert_eq!(rt; second.as_slice(), b"b".as_slice());
-    assert!(rt; lines.next_line(alloc, &mut input)?.is_none());
-    match decoded(alloc, Kind::U32, &[0x70, 0, 0, 0, 1, 9, 9])? {
-        Outcome::Value { canonical, rest } => {
-            assert_eq!(rt; canonical.as_slice(), [0x52, 1].as_slice());
-            assert_eq!(rt; rest, 2);
-        }
-        Outcome::Refused(_) => assert!(rt; false),
+    assert!(rt;
+        is_decoded(
+            alloc,
+            Kind::U32,
+            b"\x70\x00\x00\x00\x01\x09\x09",
+            b"\x52\x01",
+            2
+        )
+    );
+}
+
+/// The next line is this.
+fn gives(alloc: Global, lines: &mut Lines, input: &mut &[u8], line: Option<&[u8]>) -> bool {
+    match lines.next_line(alloc, input) {
+        Ok(Some(found)) => Some(found.as_slice()) == line,
+        Ok(None) => line.is_none(),
+        Err(_) => false,
     }
-    Ok(())
+}
+
+/// Two lines, the first of them empty, and whether the second has its line feed.
+fn cuts_lines(alloc: Global) -> bool {
+    let Ok(mut lines) = Lines::new(alloc) else {
+        return false;
+    };
+    let mut input: &[u8] = b"\nb";
+    !lines.has_line()
+        && gives(alloc, &mut lines, &mut input, Some(b""))
+        && !lines.has_line()
+        && gives(alloc, &mut lines, &mut input, Some(b"b"))
+        && gives(alloc, &mut lines, &mut input, None)
+}
+
+/// A line that is there with its line feed is seen.
+fn sees_a_line(alloc: Global) -> bool {
+    let Ok(mut lines) = Lines::new(alloc) else {
+        return false;
+    };
+    let mut input: &[u8] = b"a\nb\n";
+    gives(alloc, &mut lines, &mut input, Some(b"a")) && lines.has_line()
+}
+
+#[test]
+fn lines_are_cut_at_their_feeds(rt: HostRuntime) {
+    let alloc = rt.alloc();
+    assert!(rt; cuts_lines(alloc));
+    assert!(rt; sees_a_line(alloc));
 }

@@ -3,8 +3,6 @@
 
 mod read;
 mod slice_reader;
-#[cfg(test)]
-mod tests;
 
 pub use read::{Read, read_const_bytes};
 pub use slice_reader::SliceReader;

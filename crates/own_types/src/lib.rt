@@ -7,8 +7,6 @@ mod measurement;
 mod newtypes;
 mod note;
 mod pair;
-#[cfg(test)]
-mod tests;
 
 pub use colour::Colour;
 pub use foo::Foo;

@@ -13,8 +13,6 @@ pub mod format_code;
 pub mod primitives;
 pub mod read;
 pub mod ser;
-#[cfg(test)]
-mod tests;
 
 pub use amqp_base::{
     Category, Counted, DECIMAL32_WIDTH, DECIMAL64_WIDTH, DECIMAL128_WIDTH, DESCRIBED_BASIC,

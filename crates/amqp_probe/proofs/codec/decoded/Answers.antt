@@ -1,7 +1,7 @@
 use Rattle.std.proofs.Common.{sym, refl}
 use Rattle.std.specs.Prelude.{string_eq}
-use Rattle.amqp_probe.proofs.Recoding.{decoded_ok, int_list, map_kept}
-use Rattle.amqp_probe.specs.declared.kind.Kind.TheVariants.{Bool, I32, U32, U64, String, Symbol, ListI32, MapStringU32}
+use Rattle.amqp_probe.proofs.Recoding.{decoded_ok, list_kept, option_kept, pair_kept, map_kept}
+use Rattle.amqp_probe.specs.declared.kind.Kind.TheVariants.{Bool, I32, U32, U64, String, Symbol, ListI32, ListU64, OptionU32, TupleU32Bool, MapStringU32}
 use Rattle.amqp_probe.proofs.codec.decoded.Goals as goal
 
 pub returns-in-Bool-clause-ok : goal.returns-in-Bool-clause-ok
@@ -23,7 +23,16 @@ pub returns-in-Symbol-clause-ok : goal.returns-in-Symbol-clause-ok
 returns-in-Symbol-clause-ok c = rw c.in-Symbol.is (decoded_ok Symbol _ _ c.args.bytes.now c.recoded-in-Symbol.result (λ i v m. sym m) c.recoded-in-Symbol.ensures.ok)
 
 pub returns-in-ListI32-clause-ok : goal.returns-in-ListI32-clause-ok
-returns-in-ListI32-clause-ok c = rw c.in-ListI32.is (decoded_ok ListI32 _ _ c.args.bytes.now c.recoded-in-ListI32.result (λ i v m. int_list i v.items m) c.recoded-in-ListI32.ensures.ok)
+returns-in-ListI32-clause-ok c = rw c.in-ListI32.is (decoded_ok ListI32 _ _ c.args.bytes.now c.recoded-in-ListI32.result (λ i v m. list_kept (λ i v m. sym m) i v.items m) c.recoded-in-ListI32.ensures.ok)
+
+pub returns-in-ListU64-clause-ok : goal.returns-in-ListU64-clause-ok
+returns-in-ListU64-clause-ok c = rw c.in-ListU64.is (decoded_ok ListU64 _ _ c.args.bytes.now c.recoded-in-ListU64.result (λ i v m. list_kept (λ i v m. sym m) i v.items m) c.recoded-in-ListU64.ensures.ok)
+
+pub returns-in-OptionU32-clause-ok : goal.returns-in-OptionU32-clause-ok
+returns-in-OptionU32-clause-ok c = rw c.in-OptionU32.is (decoded_ok OptionU32 _ _ c.args.bytes.now c.recoded-in-OptionU32.result (λ i v m. option_kept _ (λ j w n. sym n) i v m) c.recoded-in-OptionU32.ensures.ok)
+
+pub returns-in-TupleU32Bool-clause-ok : goal.returns-in-TupleU32Bool-clause-ok
+returns-in-TupleU32Bool-clause-ok c = rw c.in-TupleU32Bool.is (decoded_ok TupleU32Bool _ _ c.args.bytes.now c.recoded-in-TupleU32Bool.result (λ i v m. pair_kept (λ j n. sym n) (λ j n. sym n) i m) c.recoded-in-TupleU32Bool.ensures.ok)
 
 pub returns-in-MapStringU32-clause-ok : goal.returns-in-MapStringU32-clause-ok
 returns-in-MapStringU32-clause-ok c = rw c.in-MapStringU32.is (decoded_ok MapStringU32 _ _ c.args.bytes.now c.recoded-in-MapStringU32.result (λ i v m. map_kept string_eq (λ a b. refl) i v m) c.recoded-in-MapStringU32.ensures.ok)
