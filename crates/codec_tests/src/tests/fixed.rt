@@ -3,7 +3,7 @@
 use super::answer::Answer;
 use super::bytes::{is_canonical, refuses, takes_its_codes};
 use super::input::Input;
-use super::output::Output;
+use amqp_ser::Serializer;
 use amqp_types::{Dec32, Dec64, Dec128, Decimal, Double, Float, Timestamp, Uuid};
 use std::alloc::Global;
 
@@ -185,30 +185,43 @@ fn uuid_has_one_constructor(rt: HostRuntime) {
 
 /// A value of each type, by the call of its name.
 fn writes_by_name(alloc: Global) -> bool {
-    let mut output = Output::new(alloc);
-    output.f32(alloc, 1) == Answer::Taken
-        && output.f64(alloc, 1) == Answer::Taken
-        && output.decimal32(alloc, b"1234") == Answer::Taken
-        && output.decimal64(alloc, b"12345678") == Answer::Taken
-        && output.decimal128(alloc, b"0123456789abcdef") == Answer::Taken
-        && output.timestamp(alloc, 1) == Answer::Taken
-        && output.uuid(alloc, b"0123456789abcdef") == Answer::Taken
-        && output.holds(
-            b"\x72\x00\x00\x00\x01\x82\x00\x00\x00\x00\x00\x00\x00\x01\x741234\x8412345678\x940123456789abcdef\x83\x00\x00\x00\x00\x00\x00\x00\x01\x980123456789abcdef",
-        )
+    let mut ser = Serializer::new(Vec::new(alloc));
+    let others = ser.serialize_f32(alloc, Float::from_bits(1)).is_ok()
+        && ser.serialize_f64(alloc, Double::from_bits(1)).is_ok()
+        && ser.serialize_timestamp(alloc, 1).is_ok()
+        && ser
+            .serialize_uuid(alloc, &Uuid::from(*b"0123456789abcdef"))
+            .is_ok();
+    let decimals = ser
+        .serialize_decimal32(alloc, &Dec32::from(*b"1234"))
+        .is_ok()
+        && ser
+            .serialize_decimal64(alloc, &Dec64::from(*b"12345678"))
+            .is_ok()
+        && ser
+            .serialize_decimal128(alloc, &Dec128::from(*b"0123456789abcdef"))
+            .is_ok();
+    others
+        && decimals
+        && ser.writer.as_slice()
+            == b"\x72\x00\x00\x00\x01\x82\x00\x00\x00\x00\x00\x00\x00\x01\x83\x00\x00\x00\x00\x00\x00\x00\x01\x980123456789abcdef\x741234\x8412345678\x940123456789abcdef".as_slice()
+}
+
+fn reads_by_name() -> bool {
+    let mut input = Input::new(
+        b"\x72\x80\x00\x00\x00\x83\xff\xff\xff\xff\xff\xff\xff\xfe\x82\x7f\xf0\x00\x00\x00\x00\x00\x01\x98abcdefghijklmnop",
+    );
+    input.f32() == Ok(0x8000_0000)
+        && input.timestamp() == Ok(-2)
+        && input.f64() == Ok(0x7ff0_0000_0000_0001)
+        && input.uuid() == Ok(*b"abcdefghijklmnop")
+        && input.taken() == 40
 }
 
 #[test]
 fn calls_by_name(rt: HostRuntime) {
     assert!(rt; writes_by_name(rt.alloc()));
-    let mut input = Input::new(
-        b"\x72\x80\x00\x00\x00\x83\xff\xff\xff\xff\xff\xff\xff\xfe\x82\x7f\xf0\x00\x00\x00\x00\x00\x01\x98abcdefghijklmnop",
-    );
-    assert!(rt; input.f32() == Ok(0x8000_0000));
-    assert!(rt; input.timestamp() == Ok(-2));
-    assert!(rt; input.f64() == Ok(0x7ff0_0000_0000_0001));
-    assert!(rt; input.uuid() == Ok(*b"abcdefghijklmnop"));
-    assert!(rt; input.taken() == 40);
+    assert!(rt; reads_by_name());
 }
 
 /// A decimal of each width, by the one call that reads them all.

@@ -46,52 +46,16 @@ impl<'s> Input<'s> {
         self.0.is_human_readable()
     }
 
-    pub(crate) fn u8(&mut self) -> Result<u8, Answer> {
-        plain(&self.0.deserialize_u8())
-    }
-
-    pub(crate) fn u16(&mut self) -> Result<u16, Answer> {
-        plain(&self.0.deserialize_u16())
-    }
-
     pub(crate) fn u32(&mut self) -> Result<u32, Answer> {
         plain(&self.0.deserialize_u32())
-    }
-
-    pub(crate) fn u64(&mut self) -> Result<u64, Answer> {
-        plain(&self.0.deserialize_u64())
-    }
-
-    pub(crate) fn i8(&mut self) -> Result<i8, Answer> {
-        plain(&self.0.deserialize_i8())
-    }
-
-    pub(crate) fn i16(&mut self) -> Result<i16, Answer> {
-        plain(&self.0.deserialize_i16())
     }
 
     pub(crate) fn i32(&mut self) -> Result<i32, Answer> {
         plain(&self.0.deserialize_i32())
     }
 
-    pub(crate) fn i64(&mut self) -> Result<i64, Answer> {
-        plain(&self.0.deserialize_i64())
-    }
-
     pub(crate) fn bool(&mut self) -> Result<bool, Answer> {
         plain(&self.0.deserialize_bool())
-    }
-
-    pub(crate) fn char(&mut self) -> Result<char, Answer> {
-        plain(&self.0.deserialize_char())
-    }
-
-    pub(crate) fn unit(&mut self) -> Answer {
-        answer_of(&self.0.deserialize_unit())
-    }
-
-    pub(crate) fn unit_struct(&mut self) -> Answer {
-        answer_of(&self.0.deserialize_unit_struct("Nothing"))
     }
 
     /// The bits of a float.

@@ -1,9 +1,9 @@
 //! Numbers without a point: each type by each of its constructors, with the first and the last value.
 
-use super::answer::Answer;
 use super::bytes::{is_canonical, is_form, is_read_as, takes_its_codes};
-use super::input::Input;
-use super::output::Output;
+use amqp_de::Deserializer;
+use amqp_read::{Read, SliceReader};
+use amqp_ser::Serializer;
 use std::alloc::Global;
 
 #[test]
@@ -114,33 +114,38 @@ fn long_has_two_constructors(rt: HostRuntime) {
 
 /// A number of each type, by the call of its name.
 fn writes_by_name(alloc: Global) -> bool {
-    let mut output = Output::new(alloc);
-    output.u8(alloc, 255) == Answer::Taken
-        && output.u16(alloc, 258) == Answer::Taken
-        && output.u32(alloc, 256) == Answer::Taken
-        && output.u64(alloc, 7) == Answer::Taken
-        && output.i8(alloc, -1) == Answer::Taken
-        && output.i16(alloc, -2) == Answer::Taken
-        && output.i32(alloc, -1) == Answer::Taken
-        && output.i64(alloc, 127) == Answer::Taken
-        && output.holds(
-            b"\x50\xff\x60\x01\x02\x70\x00\x00\x01\x00\x53\x07\x51\xff\x61\xff\xfe\x54\xff\x55\x7f",
-        )
+    let mut ser = Serializer::new(Vec::new(alloc));
+    let unsigned = ser.serialize_u8(alloc, 255).is_ok()
+        && ser.serialize_u16(alloc, 258).is_ok()
+        && ser.serialize_u32(alloc, 256).is_ok()
+        && ser.serialize_u64(alloc, 7).is_ok();
+    let signed = ser.serialize_i8(alloc, -1).is_ok()
+        && ser.serialize_i16(alloc, -2).is_ok()
+        && ser.serialize_i32(alloc, -1).is_ok()
+        && ser.serialize_i64(alloc, 127).is_ok();
+    unsigned
+        && signed
+        && ser.writer.as_slice()
+            == b"\x50\xff\x60\x01\x02\x70\x00\x00\x01\x00\x53\x07\x51\xff\x61\xff\xfe\x54\xff\x55\x7f".as_slice()
+}
+
+fn reads_by_name() -> bool {
+    let mut de = Deserializer::new(SliceReader::new(
+        b"\x50\xff\x60\xfe\xff\x52\xff\x53\xff\x51\x80\x61\xff\xfe\x54\x80\x55\x80",
+    ));
+    let unsigned = matches!(de.deserialize_u8(), Ok(255))
+        && matches!(de.deserialize_u16(), Ok(0xfeff))
+        && matches!(de.deserialize_u32(), Ok(255))
+        && matches!(de.deserialize_u64(), Ok(255));
+    let signed = matches!(de.deserialize_i8(), Ok(-128))
+        && matches!(de.deserialize_i16(), Ok(-2))
+        && matches!(de.deserialize_i32(), Ok(-128))
+        && matches!(de.deserialize_i64(), Ok(-128));
+    unsigned && signed && de.into_reader().bytes_consumed() == 18
 }
 
 #[test]
 fn calls_by_name(rt: HostRuntime) {
     assert!(rt; writes_by_name(rt.alloc()));
-    let mut input = Input::new(
-        b"\x50\xff\x60\xfe\xff\x52\xff\x53\xff\x51\x80\x61\xff\xfe\x54\x80\x55\x80",
-    );
-    assert!(rt; input.u8() == Ok(255));
-    assert!(rt; input.u16() == Ok(0xfeff));
-    assert!(rt; input.u32() == Ok(255));
-    assert!(rt; input.u64() == Ok(255));
-    assert!(rt; input.i8() == Ok(-128));
-    assert!(rt; input.i16() == Ok(-2));
-    assert!(rt; input.i32() == Ok(-128));
-    assert!(rt; input.i64() == Ok(-128));
-    assert!(rt; input.taken() == 18);
+    assert!(rt; reads_by_name());
 }

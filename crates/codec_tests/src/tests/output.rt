@@ -4,7 +4,6 @@
 use super::answer::{Answer, answer_of};
 use amqp_base::Error;
 use amqp_ser::{MapSerializer, SeqSerializer, Serialize, Serializer, TupleSerializer};
-use amqp_types::{Dec32, Dec64, Dec128, Double, Float, Uuid};
 use std::alloc::Global;
 
 #[derive(Drop)]
@@ -49,94 +48,16 @@ impl Output {
         self.0.is_human_readable()
     }
 
-    pub(crate) fn u8(&mut self, alloc: Global, v: u8) -> Answer {
-        answer_of(&self.0.serialize_u8(alloc, v))
-    }
-
-    pub(crate) fn u16(&mut self, alloc: Global, v: u16) -> Answer {
-        answer_of(&self.0.serialize_u16(alloc, v))
-    }
-
     pub(crate) fn u32(&mut self, alloc: Global, v: u32) -> Answer {
         answer_of(&self.0.serialize_u32(alloc, v))
-    }
-
-    pub(crate) fn u64(&mut self, alloc: Global, v: u64) -> Answer {
-        answer_of(&self.0.serialize_u64(alloc, v))
-    }
-
-    pub(crate) fn i8(&mut self, alloc: Global, v: i8) -> Answer {
-        answer_of(&self.0.serialize_i8(alloc, v))
-    }
-
-    pub(crate) fn i16(&mut self, alloc: Global, v: i16) -> Answer {
-        answer_of(&self.0.serialize_i16(alloc, v))
     }
 
     pub(crate) fn i32(&mut self, alloc: Global, v: i32) -> Answer {
         answer_of(&self.0.serialize_i32(alloc, v))
     }
 
-    pub(crate) fn i64(&mut self, alloc: Global, v: i64) -> Answer {
-        answer_of(&self.0.serialize_i64(alloc, v))
-    }
-
-    pub(crate) fn bool(&mut self, alloc: Global, v: bool) -> Answer {
-        answer_of(&self.0.serialize_bool(alloc, v))
-    }
-
-    pub(crate) fn char(&mut self, alloc: Global, v: char) -> Answer {
-        answer_of(&self.0.serialize_char(alloc, v))
-    }
-
-    pub(crate) fn unit(&mut self, alloc: Global) -> Answer {
-        answer_of(&self.0.serialize_unit(alloc))
-    }
-
-    pub(crate) fn unit_struct(&mut self, alloc: Global) -> Answer {
-        answer_of(&self.0.serialize_unit_struct(alloc, "Nothing"))
-    }
-
-    /// A float of these bits.
-    pub(crate) fn f32(&mut self, alloc: Global, bits: u32) -> Answer {
-        answer_of(&self.0.serialize_f32(alloc, Float::from_bits(bits)))
-    }
-
-    /// A double of these bits.
-    pub(crate) fn f64(&mut self, alloc: Global, bits: u64) -> Answer {
-        answer_of(&self.0.serialize_f64(alloc, Double::from_bits(bits)))
-    }
-
-    pub(crate) fn decimal32(&mut self, alloc: Global, bytes: &[u8; 4]) -> Answer {
-        answer_of(&self.0.serialize_decimal32(alloc, &Dec32::from(*bytes)))
-    }
-
-    pub(crate) fn decimal64(&mut self, alloc: Global, bytes: &[u8; 8]) -> Answer {
-        answer_of(&self.0.serialize_decimal64(alloc, &Dec64::from(*bytes)))
-    }
-
-    pub(crate) fn decimal128(&mut self, alloc: Global, bytes: &[u8; 16]) -> Answer {
-        answer_of(&self.0.serialize_decimal128(alloc, &Dec128::from(*bytes)))
-    }
-
-    pub(crate) fn timestamp(&mut self, alloc: Global, milliseconds: i64) -> Answer {
-        answer_of(&self.0.serialize_timestamp(alloc, milliseconds))
-    }
-
-    pub(crate) fn uuid(&mut self, alloc: Global, bytes: &[u8; 16]) -> Answer {
-        answer_of(&self.0.serialize_uuid(alloc, &Uuid::from(*bytes)))
-    }
-
-    pub(crate) fn bytes(&mut self, alloc: Global, v: &[u8]) -> Answer {
-        answer_of(&self.0.serialize_bytes(alloc, v))
-    }
-
     pub(crate) fn str(&mut self, alloc: Global, v: &str) -> Answer {
         answer_of(&self.0.serialize_str(alloc, v))
-    }
-
-    pub(crate) fn symbol(&mut self, alloc: Global, v: &str) -> Answer {
-        answer_of(&self.0.serialize_symbol(alloc, v))
     }
 
     pub(crate) fn none(&mut self, alloc: Global) -> Answer {

@@ -1,9 +1,8 @@
 //! Binaries, strings and symbols. Every form and refusal of a string and a symbol is a line of the probe's run.
 
-use super::answer::Answer;
 use super::bytes::{is_form, is_read_as, is_text, is_written_as, takes_its_codes};
 use super::input::Input;
-use super::output::Output;
+use amqp_ser::Serializer;
 use amqp_types::{Binary, BinaryRef, Symbol, SymbolRef};
 use serde_amqp::to_vec;
 use std::alloc::Global;
@@ -88,20 +87,24 @@ fn symbols_are_texts(rt: HostRuntime) {
 
 /// A payload of each type, by the call of its name.
 fn writes_by_name(alloc: Global) -> bool {
-    let mut output = Output::new(alloc);
-    output.bytes(alloc, b"\x00\xff") == Answer::Taken
-        && output.str(alloc, "amqp") == Answer::Taken
-        && output.symbol(alloc, "ab") == Answer::Taken
-        && output.holds(b"\xa0\x02\x00\xff\xa1\x04amqp\xa3\x02ab")
+    let mut ser = Serializer::new(Vec::new(alloc));
+    let is_written = ser.serialize_bytes(alloc, b"\x00\xff").is_ok()
+        && ser.serialize_str(alloc, "amqp").is_ok()
+        && ser.serialize_symbol(alloc, "ab").is_ok();
+    is_written && ser.writer.as_slice() == b"\xa0\x02\x00\xff\xa1\x04amqp\xa3\x02ab".as_slice()
+}
+
+fn reads_by_name(alloc: Global) -> bool {
+    let mut input = Input::new(b"\xa0\x02\x00\xff\xa1\x02hi\xa3\x04amqp");
+    input.is_byte_buf(alloc, b"\x00\xff")
+        && input.is_string(alloc, "hi")
+        && input.is_symbol(alloc, "amqp")
+        && input.taken() == 14
 }
 
 #[test]
 fn calls_by_name(rt: HostRuntime) {
     let alloc = rt.alloc();
     assert!(rt; writes_by_name(alloc));
-    let mut input = Input::new(b"\xa0\x02\x00\xff\xa1\x02hi\xa3\x04amqp");
-    assert!(rt; input.is_byte_buf(alloc, b"\x00\xff"));
-    assert!(rt; input.is_string(alloc, "hi"));
-    assert!(rt; input.is_symbol(alloc, "amqp"));
-    assert!(rt; input.taken() == 14);
+    assert!(rt; reads_by_name(alloc));
 }

@@ -2,8 +2,9 @@
 
 use super::answer::Answer;
 use super::bytes::{is_canonical, is_form, refuses, takes_its_codes};
-use super::input::Input;
-use super::output::Output;
+use amqp_de::Deserializer;
+use amqp_read::{Read, SliceReader};
+use amqp_ser::Serializer;
 use std::alloc::Global;
 
 #[test]
@@ -42,21 +43,26 @@ fn null_has_one_constructor(rt: HostRuntime) {
 
 /// A value of each type, by the call of its name.
 fn writes_by_name(alloc: Global) -> bool {
-    let mut output = Output::new(alloc);
-    output.unit(alloc) == Answer::Taken
-        && output.unit_struct(alloc) == Answer::Taken
-        && output.bool(alloc, true) == Answer::Taken
-        && output.char(alloc, 'a') == Answer::Taken
-        && output.holds(b"\x40\x40\x41\x73\x00\x00\x00\x61")
+    let mut ser = Serializer::new(Vec::new(alloc));
+    let is_written = ser.serialize_unit(alloc).is_ok()
+        && ser.serialize_unit_struct(alloc, "Nothing").is_ok()
+        && ser.serialize_bool(alloc, true).is_ok()
+        && ser.serialize_char(alloc, 'a').is_ok();
+    is_written && ser.writer.as_slice() == b"\x40\x40\x41\x73\x00\x00\x00\x61".as_slice()
+}
+
+fn reads_by_name() -> bool {
+    let bytes = b"\x40\x40\x56\x01\x73\x00\x00\x00\x61";
+    let mut de = Deserializer::new(SliceReader::new(bytes));
+    let is_read = de.deserialize_unit().is_ok()
+        && de.deserialize_unit_struct("Nothing").is_ok()
+        && matches!(de.deserialize_bool(), Ok(true))
+        && matches!(de.deserialize_char(), Ok('a'));
+    is_read && de.into_reader().bytes_consumed() == 9
 }
 
 #[test]
 fn calls_by_name(rt: HostRuntime) {
     assert!(rt; writes_by_name(rt.alloc()));
-    let mut input = Input::new(b"\x40\x40\x56\x01\x73\x00\x00\x00\x61");
-    assert!(rt; input.unit() == Answer::Taken);
-    assert!(rt; input.unit_struct() == Answer::Taken);
-    assert!(rt; input.bool() == Ok(true));
-    assert!(rt; input.char() == Ok('a'));
-    assert!(rt; input.taken() == 9);
+    assert!(rt; reads_by_name());
 }
