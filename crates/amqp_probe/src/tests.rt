@@ -88,13 +88,8 @@ fn runs(alloc: Global, input: &[u8], text: &[u8], good: bool) -> bool {
         && prints(alloc, &mut slow(input, 0, ErrorKind::Other), text, good)
 }
 
-/// The first line is bad.
-fn is_bad(alloc: Global, input: &[u8]) -> bool {
-    runs(alloc, input, b"bad line 1\n", false)
-}
-
 #[test]
-fn good_lines(rt: HostRuntime) {
+fn lines_and_their_answers(rt: HostRuntime) {
     let alloc = rt.alloc();
     assert!(rt; runs(alloc, b"", b"", true));
     assert!(rt; runs(alloc, b"u32 70000000ff", b"ok 52ff rest 0\n", true));
@@ -108,11 +103,7 @@ fn good_lines(rt: HostRuntime) {
         )
     );
     assert!(rt; runs(alloc, b"u32 41", b"refused InvalidFormatCode\n", true));
-}
-
-#[test]
-fn nothing_is_answered_behind_a_bad_line(rt: HostRuntime) {
-    let alloc = rt.alloc();
+    // nothing is answered behind a bad line
     let second = b"ok 43 rest 0\nbad line 2\n".as_slice();
     assert!(rt; runs(alloc, b"u32 43\n\nu32 43\n", second, false));
     assert!(rt; runs(alloc, b"u32 43\n\n", second, false));
@@ -127,53 +118,48 @@ fn nothing_is_answered_behind_a_bad_line(rt: HostRuntime) {
     );
 }
 
-#[test]
-fn bad_lines(rt: HostRuntime) {
-    let alloc = rt.alloc();
-    assert!(rt; is_bad(alloc, b"\n"));
-    assert!(rt; is_bad(alloc, b"u32"));
-    assert!(rt; is_bad(alloc, b" "));
-    assert!(rt; is_bad(alloc, b"u32\t43"));
-    assert!(rt; is_bad(alloc, b"u32  43"));
-    assert!(rt; is_bad(alloc, b" u32 43"));
-    assert!(rt; is_bad(alloc, b"u32 43 "));
-    assert!(rt; is_bad(alloc, b"u32 43\r\n"));
-    assert!(rt; is_bad(alloc, b"u32 4\n3"));
-    assert!(rt; is_bad(alloc, b"u32 0x43"));
-    assert!(rt; is_bad(alloc, b"u32 4g"));
-    assert!(rt; is_bad(alloc, b"U32 43"));
-    assert!(rt; is_bad(alloc, b"u3 43"));
-    assert!(rt; is_bad(alloc, b"u322 43"));
-    assert!(rt; is_bad(alloc, b"u32 43\xc3\xa9\xc3\xa9"));
-    assert!(rt; is_bad(alloc, b"\xc3\xa9u32 43"));
-}
+/// Lines that are none, and why.
+const BAD: [(&[u8], Why); 17] = [
+    (b"\n", Why::NoSpace),
+    (b"u32", Why::NoSpace),
+    (b"u32\t43", Why::NoSpace),
+    (b" ", Why::UnknownType),
+    (b" u32 43", Why::UnknownType),
+    (b"U32 43", Why::UnknownType),
+    (b"u3 43", Why::UnknownType),
+    (b"u322 43", Why::UnknownType),
+    (b"word 00", Why::UnknownType),
+    (b"\xc3\xa9u32 43", Why::UnknownType),
+    (b"u32  43", Why::OddDigits),
+    (b"u32 43 ", Why::OddDigits),
+    (b"u32 43\r\n", Why::OddDigits),
+    (b"u32 4\n3", Why::OddDigits),
+    (b"u32 0x43", Why::NoDigit),
+    (b"u32 4g", Why::NoDigit),
+    (b"u32 43\xc3\xa9\xc3\xa9", Why::NoDigit),
+];
 
-/// Which line of the input is bad, and why.
-fn bad_line_of(alloc: Global, input: &[u8]) -> Option<BadLine> {
+/// The line of this number is bad, and for this reason.
+fn is_bad(alloc: Global, input: &[u8], number: usize, why: Why) -> bool {
     let mut input = input;
     match transcribe(alloc, &mut input, &mut Vec::new(alloc)) {
-        Ok(bad) => bad,
-        Err(_) => None,
+        Ok(Some(bad)) => bad == BadLine { number, why },
+        _ => false,
     }
-}
-
-fn bad(number: usize, why: Why) -> Option<BadLine> {
-    Some(BadLine { number, why })
 }
 
 #[test]
 fn bad_lines_have_a_reason(rt: HostRuntime) {
     let alloc = rt.alloc();
-    assert!(rt; bad_line_of(alloc, b"u32 43\nu32 43").is_none());
-    assert_eq!(rt; bad_line_of(alloc, b"\n"), bad(1, Why::NoSpace));
-    assert_eq!(rt; bad_line_of(alloc, b"u32 43\nu32"), bad(2, Why::NoSpace));
-    assert_eq!(rt; bad_line_of(alloc, b"word 00"), bad(1, Why::UnknownType));
-    assert_eq!(rt; bad_line_of(alloc, b" u32 43"), bad(1, Why::UnknownType));
-    assert_eq!(rt; bad_line_of(alloc, b"u32 4"), bad(1, Why::OddDigits));
-    assert_eq!(rt; bad_line_of(alloc, b"u32 4g"), bad(1, Why::NoDigit));
-    assert_eq!(rt; why_bad(b"u32 0x43"), Why::NoDigit);
-    assert_eq!(rt; Why::TooLong.text(), "longer than 65,536 bytes");
-    assert_eq!(rt; Why::UnknownType.text(), "unknown type");
+    for (input, why) in BAD {
+        assert!(rt; runs(alloc, input, b"bad line 1\n", false), "{input:?}");
+        assert!(rt; is_bad(alloc, input, 1, why), "{input:?}");
+    }
+    assert!(rt; is_bad(alloc, b"u32 43\nu32", 2, Why::NoSpace));
+    assert!(rt; is_bad(alloc, b"u32 4", 1, Why::OddDigits));
+    assert!(rt; why_bad(b"u32 0x43") == Why::NoDigit);
+    assert!(rt; Why::TooLong.text() == "longer than 65,536 bytes");
+    assert!(rt; Why::UnknownType.text() == "unknown type");
 }
 
 /// A line of `length` bytes behind a short one: a type, its space, and digits of bytes 43; and the end.
@@ -224,11 +210,11 @@ fn is_above(alloc: Global, kind: &[u8], length: usize) -> bool {
         && long_prints(alloc, kind, length, b"\nu32 43", ABOVE_LIMIT, false)
 }
 
-/// Why the long line is bad.
-fn why_long(alloc: Global, length: usize) -> Option<BadLine> {
-    match long(alloc, b"u32 ", length, b"") {
-        Some(input) => bad_line_of(alloc, input.as_slice()),
-        None => None,
+/// A line above the limit is bad for its length.
+fn is_too_long(alloc: Global) -> bool {
+    match long(alloc, b"u32 ", LIMIT + 2, b"") {
+        Some(input) => is_bad(alloc, input.as_slice(), 2, Why::TooLong),
+        None => false,
     }
 }
 
@@ -237,27 +223,12 @@ fn a_line_has_at_most_65536_bytes(rt: HostRuntime) {
     let alloc = rt.alloc();
     assert!(rt; long_prints(alloc, b"u32 ", LIMIT, b"", AT_LIMIT, true));
     assert!(rt; long_prints(alloc, b"u32 ", LIMIT, b"\n", AT_LIMIT, true));
-    assert!(rt;
-        long_prints(
-            alloc,
-            b"u32 ",
-            LIMIT,
-            b"\nu32 43",
-            b"ok 43 rest 0\nok 43 rest 32765\nok 43 rest 0\n",
-            true
-        )
-    );
+    let one_more = b"ok 43 rest 0\nok 43 rest 32765\nok 43 rest 0\n";
+    assert!(rt; long_prints(alloc, b"u32 ", LIMIT, b"\nu32 43", one_more, true));
     assert!(rt; is_above(alloc, b"string ", LIMIT + 1));
     assert!(rt; is_above(alloc, b"u32 ", LIMIT + 2));
     assert!(rt; is_above(alloc, b"u32 ", LIMIT + 50_000));
-    assert!(rt; why_long(alloc, LIMIT).is_none());
-    assert_eq!(rt;
-        why_long(alloc, LIMIT + 2),
-        Some(BadLine {
-            number: 2,
-            why: Why::TooLong
-        })
-    );
+    assert!(rt; is_too_long(alloc));
 }
 
 /// The error's kind, or that it is want of memory.
@@ -349,9 +320,9 @@ fn answers_are_written_in_blocks(rt: HostRuntime) {
     let alloc = rt.alloc();
     let bytes = b"u32 43\nu32 43\nu32 43\nu32 43\n".as_slice();
     let mut whole = bytes;
-    assert_eq!(rt; writes_of(alloc, &mut whole), 1);
+    assert!(rt; writes_of(alloc, &mut whole) == 1);
     // what was answered is written before more is read
-    assert_eq!(rt; writes_of(alloc, &mut slow(bytes, 0, ErrorKind::Other)), 4);
+    assert!(rt; writes_of(alloc, &mut slow(bytes, 0, ErrorKind::Other)) == 4);
 }
 
 /// The line is answered so.
@@ -385,10 +356,10 @@ fn answers_a_line(rt: HostRuntime) {
     assert!(rt; is_answered(alloc, b"u32 5207ff", Some("ok 5207 rest 1")));
     assert!(rt; is_answered(alloc, b"u32 5207f", None));
     assert!(rt; is_parsed(alloc, b"string B1", Kind::String, b"\xb1"));
-    assert_eq!(rt; kind_named(b"list-i32"), Some(Kind::ListI32));
-    assert_eq!(rt; kind_named(b"map-string-u32"), Some(Kind::MapStringU32));
-    assert_eq!(rt; kind_named(b"list"), None);
-    assert_eq!(rt; find(b' ', b"u32 43 "), Some(3));
+    assert!(rt; kind_named(b"list-i32") == Some(Kind::ListI32));
+    assert!(rt; kind_named(b"map-string-u32") == Some(Kind::MapStringU32));
+    assert!(rt; kind_named(b"list") == None);
+    assert!(rt; find(b' ', b"u32 43 ") == Some(3));
     assert!(rt;
         is_decoded(
             alloc,
@@ -409,31 +380,23 @@ fn gives(alloc: Global, lines: &mut Lines, input: &mut &[u8], line: Option<&[u8]
     }
 }
 
-/// Two lines, the first of them empty, and whether the second has its line feed.
+/// Two lines, the first of them empty; a line is seen where it is there with its line feed.
 fn cuts_lines(alloc: Global) -> bool {
     let Ok(mut lines) = Lines::new(alloc) else {
         return false;
     };
     let mut input: &[u8] = b"\nb";
-    !lines.has_line()
-        && gives(alloc, &mut lines, &mut input, Some(b""))
-        && !lines.has_line()
-        && gives(alloc, &mut lines, &mut input, Some(b"b"))
-        && gives(alloc, &mut lines, &mut input, None)
-}
-
-/// A line that is there with its line feed is seen.
-fn sees_a_line(alloc: Global) -> bool {
-    let Ok(mut lines) = Lines::new(alloc) else {
-        return false;
-    };
+    let before = lines.has_line();
+    let first = gives(alloc, &mut lines, &mut input, Some(b""));
+    let behind = lines.has_line();
+    let second = gives(alloc, &mut lines, &mut input, Some(b"b"));
+    let end = gives(alloc, &mut lines, &mut input, None);
     let mut input: &[u8] = b"a\nb\n";
-    gives(alloc, &mut lines, &mut input, Some(b"a")) && lines.has_line()
+    let third = gives(alloc, &mut lines, &mut input, Some(b"a"));
+    !before && first && !behind && second && end && third && lines.has_line()
 }
 
 #[test]
 fn lines_are_cut_at_their_feeds(rt: HostRuntime) {
-    let alloc = rt.alloc();
-    assert!(rt; cuts_lines(alloc));
-    assert!(rt; sees_a_line(alloc));
+    assert!(rt; cuts_lines(rt.alloc()));
 }
