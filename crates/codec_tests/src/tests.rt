@@ -1,5 +1,4 @@
-//! A file a family of types or calls, written and read; `answer`, `bytes`, `input`, `output` and `printed` hold what the tests of all
-//! families call.
+//! A file a family of types or calls, written and read; `answer`, `bytes` and `printed` hold what the tests of all families call.
 
 mod answer;
 mod arrays;
@@ -9,15 +8,12 @@ mod deserializer;
 mod error;
 mod fixed;
 mod format_code;
-mod input;
-mod list_calls;
 mod lists;
 mod map_calls;
 mod maps;
 mod numbers;
 mod options;
 mod ordered_map;
-mod output;
 mod payloads;
 mod primitive_types;
 mod printed;

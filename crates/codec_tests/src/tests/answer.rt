@@ -39,3 +39,11 @@ pub(crate) fn name_of(e: &Error) -> Answer {
         Error::OutOfMemory => Answer::OutOfMemory,
     }
 }
+
+/// The call gave the value.
+pub(crate) fn gave<T: PartialEq>(outcome: &Result<T, Error>, want: &T) -> bool {
+    match outcome {
+        Ok(value) => *value == *want,
+        Err(_) => false,
+    }
+}

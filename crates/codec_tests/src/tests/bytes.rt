@@ -115,3 +115,16 @@ where
         Err(_) => false,
     }
 }
+
+/// Each value is written as its bytes, which are a form of it.
+pub(crate) fn are_canonical<'s, T>(alloc: Global, rows: &[(T, &'s [u8])]) -> bool
+where
+    T: Serialize + Deserialize<SliceReader<'s>> + PartialEq,
+{
+    for (value, bytes) in rows {
+        if !is_canonical(alloc, value, bytes) {
+            return false;
+        }
+    }
+    true
+}

@@ -1,7 +1,7 @@
 //! The format codes, against the table of part 1, sections 1.2 and 1.6.
 
-use super::answer::{Answer, answer_of};
-use super::printed::{debugs, prints};
+use super::answer::{Answer, name_of};
+use super::printed::prints;
 use amqp_base::{Category, EncodingCodes, IsDescribed};
 use std::convert::TryFrom;
 
@@ -15,42 +15,24 @@ const PRIMITIVE: [u8; 39] = [
 #[test]
 fn a_code_prints_its_name_and_byte(rt: HostRuntime) {
     let alloc = rt.alloc();
-    assert!(rt; prints(alloc, &EncodingCodes::Vbin8, "Vbin8:0xa0"));
-    assert!(rt; prints(alloc, &EncodingCodes::Null, "Null:0x40"));
-    assert!(rt; prints(alloc, &EncodingCodes::DescribedType, "DescribedType:0x0"));
-    assert!(rt; prints(alloc, &EncodingCodes::SmallUlong, "SmallUlong:0x53"));
-    assert!(rt; prints(alloc, &EncodingCodes::Decimal128, "Decimal128:0x94"));
-    assert!(rt; prints(alloc, &EncodingCodes::Array32, "Array32:0xf0"));
-    assert!(rt; debugs(alloc, &EncodingCodes::Vbin8, "Vbin8"));
-}
-
-/// What the byte's code says its byte is, in both ways.
-fn byte_again(byte: u8) -> Option<(u8, u8)> {
-    match EncodingCodes::try_from(byte) {
-        Ok(code) => Some((code as u8, code.byte())),
-        Err(_) => None,
+    for (code, text) in [
+        (EncodingCodes::Vbin8, "Vbin8:0xa0"),
+        (EncodingCodes::Null, "Null:0x40"),
+        (EncodingCodes::DescribedType, "DescribedType:0x0"),
+        (EncodingCodes::SmallUlong, "SmallUlong:0x53"),
+        (EncodingCodes::Decimal128, "Decimal128:0x94"),
+        (EncodingCodes::Array32, "Array32:0xf0"),
+    ] {
+        assert!(rt; prints(alloc, &code, text), "{text}");
     }
+    let is_named = match format!(in alloc; "{:?}", EncodingCodes::Vbin8) {
+        Ok(printed) => printed.as_str() == "Vbin8",
+        Err(_) => false,
+    };
+    assert!(rt; is_named);
 }
 
-fn code_answer(byte: u8) -> Answer {
-    answer_of(&EncodingCodes::try_from(byte))
-}
-
-#[test]
-fn forty_bytes_are_format_codes(rt: HostRuntime) {
-    let mut taken = 0u32;
-    for byte in 0..=255u8 {
-        if byte == 0 || PRIMITIVE.contains(&byte) {
-            assert_eq!(rt; byte_again(byte), Some((byte, byte)), "{byte}");
-            taken = taken.saturating_add(1);
-        } else {
-            assert_eq!(rt; code_answer(byte), Answer::InvalidFormatCode, "{byte}");
-        }
-    }
-    assert_eq!(rt; taken, 40);
-}
-
-/// The category of a code, by its byte's high half and by hand where that doesn't say it (part 1, section 1.2).
+/// The category of a code (part 1, section 1.2): by its high half, but for 0x56.
 fn expected(byte: u8) -> Category {
     match byte {
         0x56 => Category::Fixed(1),
@@ -69,19 +51,32 @@ fn expected(byte: u8) -> Category {
     }
 }
 
-fn category_of(byte: u8) -> Option<Category> {
+/// The byte is a code's, which says its byte in both ways, and its category.
+fn is_code(byte: u8, category: Result<Category, IsDescribed>) -> bool {
     match EncodingCodes::try_from(byte) {
-        Ok(code) => Category::try_from(code).ok(),
-        Err(_) => None,
+        Ok(code) => {
+            code as u8 == byte && code.byte() == byte && Category::try_from(code) == category
+        }
+        Err(_) => false,
     }
 }
 
 #[test]
-fn the_high_half_of_a_code_is_its_category(rt: HostRuntime) {
-    for byte in PRIMITIVE {
-        assert_eq!(rt; category_of(byte), Some(expected(byte)), "at {byte}");
+fn forty_bytes_are_format_codes_whose_high_half_is_the_category(rt: HostRuntime) {
+    let mut taken = 0u32;
+    for byte in 0..=255u8 {
+        if PRIMITIVE.contains(&byte) {
+            assert!(rt; is_code(byte, Ok(expected(byte))), "{byte}");
+            taken = taken.saturating_add(1);
+        } else if byte != 0 {
+            let is_refused = match EncodingCodes::try_from(byte) {
+                Ok(_) => false,
+                Err(e) => name_of(&e) == Answer::InvalidFormatCode,
+            };
+            assert!(rt; is_refused, "{byte}");
+        }
     }
-    let described = Category::try_from(EncodingCodes::DescribedType);
-    assert_eq!(rt; described, Err(IsDescribed));
-    assert_ne!(rt; Category::Fixed(1), Category::Variable(1));
+    assert!(rt; taken == 39);
+    assert!(rt; is_code(0, Err(IsDescribed)));
+    assert!(rt; Category::Fixed(1) != Category::Variable(1));
 }

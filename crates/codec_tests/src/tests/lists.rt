@@ -1,64 +1,57 @@
-//! Lists: `Vec` at every nesting, and the most elements that are read. Every form and refusal of a list of ints is a line of the probe's run.
+//! Lists: `Vec` at every nesting, the most elements that are read, and lists part by part.
+//! Every form and refusal of a list of ints is a line of the probe's run.
 
 use super::answer::{Answer, UNEXPECTED_EOF};
 use super::bytes::{is_front, is_list, is_text, refuses};
-use super::input::Input;
+use amqp_de::{Deserialize, Deserializer, SeqAccess};
+use amqp_read::{Read, SliceReader};
+use amqp_ser::{Serialize, Serializer};
 use std::alloc::Global;
 
 #[test]
-fn list0_and_list8_are_written(rt: HostRuntime) {
+fn a_list_is_written_in_its_shortest_form_and_read_by_its_count(rt: HostRuntime) {
     let alloc = rt.alloc();
     assert!(rt; is_list::<i32>(alloc, &[], b"\x45"));
     assert!(rt; is_list(alloc, &[1i32, 2], b"\xc0\x05\x02\x54\x01\x54\x02"));
-}
-
-/// The list is read by its count; bytes behind it stay.
-fn leaves_what_stands_behind(alloc: Global) -> bool {
-    let mut input = Input::new(b"\xc0\x02\x01\x71\x00\x00\x00\x05\x00\x43");
-    match vec![in alloc; 5i32] {
-        Ok(list) => input.is_value(alloc, &list) && input.behind() == Ok(Some(0)),
+    // bytes behind the count stay
+    let bytes = b"\xc0\x02\x01\x71\x00\x00\x00\x05\x00\x43";
+    let mut de = Deserializer::new(SliceReader::new(bytes));
+    let list = match Vec::<i32>::deserialize(alloc, &mut de) {
+        Ok(list) => list.as_slice() == [5i32].as_slice(),
         Err(_) => false,
-    }
+    };
+    assert!(rt; list && matches!(de.into_reader().next(), Ok(Some(0))));
 }
 
-#[test]
-fn a_list_is_read_by_its_count(rt: HostRuntime) {
-    let alloc = rt.alloc();
-    assert!(rt; leaves_what_stands_behind(alloc));
-}
-
-/// [[[0, 1], []], []]
-fn is_written_nested(alloc: Global) -> bool {
+/// [[[0, 1], []], []], and [["a", ""], []]
+fn is_nested(alloc: Global) -> bool {
     let Ok(numbers) = vec![in alloc; 0u32, 1] else {
         return false;
     };
     let Ok(first) = vec![in alloc; numbers, Vec::new(alloc)] else {
         return false;
     };
-    match vec![in alloc; first, Vec::new(alloc)] {
-        Ok(lists) => is_text(
-            alloc,
-            &lists,
-            b"\xc0\x0c\x02\xc0\x08\x02\xc0\x04\x02\x43\x52\x01\x45\x45",
-        ),
-        Err(_) => false,
-    }
-}
-
-/// [["a", ""], []]
-fn is_nested_strings(alloc: Global) -> bool {
+    let Ok(lists) = vec![in alloc; first, Vec::new(alloc)] else {
+        return false;
+    };
     let Ok(letter) = String::from_str(alloc, "a") else {
         return false;
     };
-    let Ok(first) = vec![in alloc; letter, String::new(alloc)] else {
+    let Ok(strings) = vec![in alloc; letter, String::new(alloc)] else {
         return false;
     };
-    match vec![in alloc; first, Vec::new(alloc)] {
-        Ok(lists) => is_text(
-            alloc,
-            &lists,
-            b"\xc0\x0a\x02\xc0\x06\x02\xa1\x01a\xa1\x00\x45",
-        ),
+    match vec![in alloc; strings, Vec::new(alloc)] {
+        Ok(texts) => {
+            is_text(
+                alloc,
+                &lists,
+                b"\xc0\x0c\x02\xc0\x08\x02\xc0\x04\x02\x43\x52\x01\x45\x45",
+            ) && is_text(
+                alloc,
+                &texts,
+                b"\xc0\x0a\x02\xc0\x06\x02\xa1\x01a\xa1\x00\x45",
+            )
+        }
         Err(_) => false,
     }
 }
@@ -80,23 +73,15 @@ fn is_read_nested(alloc: Global) -> bool {
     }
 }
 
-/// However many bytes are missing at the end, they are missed.
-fn is_missed_at_every_byte(alloc: Global) -> bool {
-    for n in 0..NESTED.len() {
-        if !refuses::<Vec<Vec<u32>>>(alloc, &NESTED[..n], UNEXPECTED_EOF) {
-            return false;
-        }
-    }
-    true
-}
-
 #[test]
 fn lists_of_lists(rt: HostRuntime) {
     let alloc = rt.alloc();
-    assert!(rt; is_written_nested(alloc));
-    assert!(rt; is_nested_strings(alloc));
+    assert!(rt; is_nested(alloc));
     assert!(rt; is_read_nested(alloc));
-    assert!(rt; is_missed_at_every_byte(alloc));
+    // however many bytes are missing at the end, they are missed
+    for n in 0..NESTED.len() {
+        assert!(rt; refuses::<Vec<Vec<u32>>>(alloc, &NESTED[..n], UNEXPECTED_EOF));
+    }
     assert!(rt; refuses::<Vec<Vec<i32>>>(alloc, NESTED, Answer::InvalidFormatCode));
 }
 
@@ -113,28 +98,86 @@ fn zeros(alloc: Global, header: &[u8], count: usize) -> Option<Vec<u8>> {
     Some(bytes)
 }
 
-/// A list of 65,536 zeros is read.
-fn is_most(alloc: Global) -> bool {
-    let Some(bytes) = zeros(alloc, b"\xd0\x00\x01\x00\x04\x00\x01\x00\x00", 65_536) else {
+/// A list of 65,536 zeros is read; a list of 65,537 is refused.
+fn ends_at_most(alloc: Global) -> bool {
+    let Some(most) = zeros(alloc, b"\xd0\x00\x01\x00\x04\x00\x01\x00\x00", 65_536) else {
+        return false;
+    };
+    let Some(more) = zeros(alloc, b"\xd0\x00\x01\x00\x05\x00\x01\x00\x01", 65_537) else {
         return false;
     };
     match vec![in alloc; 0u32; 65_536] {
-        Ok(list) => is_front(alloc, bytes.as_slice(), &list, 65_545),
+        Ok(list) => {
+            is_front(alloc, most.as_slice(), &list, 65_545)
+                && refuses::<Vec<u32>>(alloc, more.as_slice(), Answer::InvalidValue)
+        }
         Err(_) => false,
-    }
-}
-
-/// A list of 65,537 zeros is refused.
-fn is_too_many(alloc: Global) -> bool {
-    match zeros(alloc, b"\xd0\x00\x01\x00\x05\x00\x01\x00\x01", 65_537) {
-        Some(bytes) => refuses::<Vec<u32>>(alloc, bytes.as_slice(), Answer::InvalidValue),
-        None => false,
     }
 }
 
 #[test]
 fn a_list_has_at_most_65536_elements(rt: HostRuntime) {
+    assert!(rt; ends_at_most(rt.alloc()));
+}
+
+/// The next part of the sequence is the string.
+fn is_string_part(access: &mut SeqAccess<'_, SliceReader<'_>>, alloc: Global, want: &str) -> bool {
+    match access.next_element::<String>(alloc) {
+        Ok(Some(text)) => text.as_str() == want,
+        Ok(None) => false,
+        Err(_) => false,
+    }
+}
+
+/// Three parts of three types, twice none, and then the deserializer answers again.
+fn reads_parts(alloc: Global) -> bool {
+    let mut de = Deserializer::new(SliceReader::new(b"\xc0\x08\x03\x43\x54\xfe\xa1\x02hi\x43"));
+    let Ok(mut access) = de.deserialize_seq(alloc) else {
+        return false;
+    };
+    let first = matches!(access.next_element::<u32>(alloc), Ok(Some(0)));
+    let second = matches!(access.next_element::<i32>(alloc), Ok(Some(-2)));
+    let third = is_string_part(&mut access, alloc, "hi");
+    let behind = matches!(access.next_element::<u32>(alloc), Ok(None));
+    let again = matches!(access.next_element::<u32>(alloc), Ok(None));
+    let ended = access.end().is_ok();
+    let next = matches!(de.deserialize_u32(), Ok(0));
+    let parts = first && second && third && behind && again && ended;
+    parts && next && de.into_reader().bytes_consumed() == 11
+}
+
+/// The same of one element.
+fn reads_elements(alloc: Global) -> bool {
+    let mut de = Deserializer::new(SliceReader::new(b"\xc0\x03\x01\x52\x09\x43"));
+    let Ok(access) = de.deserialize_seq(alloc) else {
+        return false;
+    };
+    let mut elements = access.into_elements();
+    let only = matches!(elements.next_element::<u32>(alloc), Ok(Some(9)));
+    let behind = matches!(elements.next_element::<u32>(alloc), Ok(None));
+    let ended = elements.end().is_ok();
+    let next = matches!(de.deserialize_u32(), Ok(0));
+    only && behind && ended && next && de.into_reader().bytes_consumed() == 6
+}
+
+/// Slices of two types, and an empty one, in one list.
+fn writes_many(alloc: Global) -> bool {
+    let mut ser = Serializer::new(Vec::new(alloc));
+    let Ok(mut list) = ser.serialize_seq(alloc, None) else {
+        return false;
+    };
+    let ints = i32::serialize_each(&[1, 300], alloc, &mut list).is_ok();
+    let none = u32::serialize_each(&[], alloc, &mut list).is_ok();
+    let uints = u32::serialize_each(&[0, 2], alloc, &mut list).is_ok();
+    let ended = list.end().is_ok();
+    let bytes = b"\xc0\x0b\x04\x54\x01\x71\x00\x00\x01\x2c\x43\x52\x02";
+    ints && none && uints && ended && ser.writer.as_slice() == bytes.as_slice()
+}
+
+#[test]
+fn a_list_is_read_part_by_part_and_written_many_at_once(rt: HostRuntime) {
     let alloc = rt.alloc();
-    assert!(rt; is_most(alloc));
-    assert!(rt; is_too_many(alloc));
+    assert!(rt; reads_parts(alloc));
+    assert!(rt; reads_elements(alloc));
+    assert!(rt; writes_many(alloc));
 }

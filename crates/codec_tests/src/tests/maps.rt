@@ -2,17 +2,12 @@
 
 use super::answer::{Answer, UNEXPECTED_EOF};
 use super::bytes::{is_read_as, is_text, is_written_as, refuses};
-use super::input::Input;
+use amqp_de::{Deserialize, Deserializer};
+use amqp_read::{Read, SliceReader};
 use amqp_types::{OrderedMap, Timestamp};
 use serde_amqp::from_slice;
 use std::alloc::Global;
 use std::collections::BTreeMap;
-
-/// {}
-fn is_no_pair(alloc: Global) -> bool {
-    is_written_as(alloc, &OrderedMap::<u8, bool>::new(alloc), b"\xc1\x01\x00")
-        && is_written_as(alloc, &BTreeMap::<u8, bool>::new(alloc), b"\xc1\x01\x00")
-}
 
 /// {a timestamp of 0: "x"}
 fn is_one_pair(alloc: Global) -> bool {
@@ -28,36 +23,19 @@ fn is_one_pair(alloc: Global) -> bool {
         )
 }
 
-/// A key that is inserted again stays in its first place.
-fn is_in_first_places(alloc: Global) -> bool {
+/// A key that is inserted again stays in its first place; a `BTreeMap` is written by its keys.
+fn is_in_its_places(alloc: Global) -> bool {
     let mut map = OrderedMap::new(alloc);
-    matches!(&map.insert(2u8, true), Ok(None))
+    let ordered = matches!(&map.insert(2u8, true), Ok(None))
         && matches!(&map.insert(1u8, true), Ok(None))
         && matches!(&map.insert(2u8, false), Ok(Some(true)))
-        && is_written_as(alloc, &map, b"\xc1\x07\x04\x50\x02\x42\x50\x01\x41")
-}
-
-/// The pairs are written by ascending keys.
-fn is_ascending(alloc: Global) -> bool {
+        && is_written_as(alloc, &map, b"\xc1\x07\x04\x50\x02\x42\x50\x01\x41");
     let mut map = BTreeMap::new(alloc);
-    map.insert(2u8, true).is_ok()
+    let sorted = map.insert(2u8, true).is_ok()
         && map.insert(1u8, true).is_ok()
         && map.insert(2u8, false).is_ok()
-        && is_written_as(alloc, &map, b"\xc1\x07\x04\x50\x01\x41\x50\x02\x42")
-}
-
-#[test]
-fn a_map_is_its_keys_and_values_in_turn(rt: HostRuntime) {
-    let alloc = rt.alloc();
-    assert!(rt; is_no_pair(alloc));
-    assert!(rt; is_one_pair(alloc));
-    assert!(rt; is_in_first_places(alloc));
-    assert!(rt; is_ascending(alloc));
-}
-
-/// {} in a map8
-fn is_narrow_map(alloc: Global) -> bool {
-    is_read_as(alloc, b"\xc1\x01\x00", &OrderedMap::<u32, bool>::new(alloc))
+        && is_written_as(alloc, &map, b"\xc1\x07\x04\x50\x01\x41\x50\x02\x42");
+    ordered && sorted
 }
 
 /// {0: true} in a map32
@@ -70,35 +48,38 @@ fn is_wide_map(alloc: Global) -> bool {
 }
 
 #[test]
-fn both_forms_of_a_map_are_read(rt: HostRuntime) {
+fn a_map_is_its_keys_and_values_in_turn(rt: HostRuntime) {
     let alloc = rt.alloc();
-    assert!(rt; is_narrow_map(alloc));
+    let empty = b"\xc1\x01\x00";
+    assert!(rt; is_written_as(alloc, &OrderedMap::<u8, bool>::new(alloc), empty));
+    assert!(rt; is_written_as(alloc, &BTreeMap::<u8, bool>::new(alloc), empty));
+    assert!(rt; is_one_pair(alloc));
+    assert!(rt; is_in_its_places(alloc));
+    // both forms are read
+    assert!(rt; is_read_as(alloc, empty, &OrderedMap::<u32, bool>::new(alloc)));
     assert!(rt; is_wide_map(alloc));
-}
-
-/// A map from uints to uints is refused so.
-fn no_uints(alloc: Global, bytes: &[u8], name: Answer) -> bool {
-    refuses::<OrderedMap<u32, u32>>(alloc, bytes, name)
 }
 
 #[test]
 fn bytes_that_are_no_map(rt: HostRuntime) {
     let alloc = rt.alloc();
-    assert!(rt; no_uints(alloc, b"", UNEXPECTED_EOF));
-    assert!(rt; no_uints(alloc, b"\x45", Answer::InvalidFormatCode));
-    assert!(rt; no_uints(alloc, b"\xc1\x00", UNEXPECTED_EOF));
-    // the count before the size, the size before an odd count
-    assert!(rt;
-        no_uints(
-            alloc,
+    let rows: &[(&[u8], Answer)] = &[
+        (b"", UNEXPECTED_EOF),
+        (b"\x45", Answer::InvalidFormatCode),
+        (b"\xc1\x00", UNEXPECTED_EOF),
+        // the count before the size, the size before an odd count
+        (
             b"\xd1\x00\x00\x00\x00\x00\x01\x00\x01",
-            Answer::InvalidValue
-        )
-    );
-    assert!(rt; no_uints(alloc, b"\xc1\x00\x00", Answer::InvalidLength));
-    assert!(rt; no_uints(alloc, b"\xc1\x01\x01", Answer::InvalidLength));
-    // the value is looked at once its key was read
-    assert!(rt; no_uints(alloc, b"\xc1\x03\x02\x43\x41", Answer::InvalidFormatCode));
+            Answer::InvalidValue,
+        ),
+        (b"\xc1\x00\x00", Answer::InvalidLength),
+        (b"\xc1\x01\x01", Answer::InvalidLength),
+        // the value is looked at once its key was read
+        (b"\xc1\x03\x02\x43\x41", Answer::InvalidFormatCode),
+    ];
+    for (bytes, name) in rows {
+        assert!(rt; refuses::<OrderedMap<u32, u32>>(alloc, bytes, *name));
+    }
 }
 
 /// An `OrderedMap` that is read from the bytes gives these pairs in order.
@@ -177,45 +158,32 @@ fn wide(alloc: Global, pairs: u32) -> Option<Vec<u8>> {
     Some(bytes)
 }
 
-/// 32,768 pairs are read, all of them.
-fn is_most_ordered(alloc: Global, bytes: &[u8]) -> bool {
-    let mut input = Input::new(bytes);
-    match input.read::<OrderedMap<u32, ()>>(alloc) {
-        Some(map) => map.len() == 32_768 && input.taken() == bytes.len(),
-        None => false,
-    }
-}
-
-fn is_most_sorted(alloc: Global, bytes: &[u8]) -> bool {
-    match from_slice::<BTreeMap<u32, ()>>(alloc, bytes) {
+/// 32,768 pairs are read, all of them; one pair more is refused. Both hold of each kind of map.
+fn ends_at_most(alloc: Global) -> bool {
+    let Some(most) = wide(alloc, 32_768) else {
+        return false;
+    };
+    let Some(more) = wide(alloc, 32_769) else {
+        return false;
+    };
+    let mut de = Deserializer::new(SliceReader::new(most.as_slice()));
+    let ordered = match OrderedMap::<u32, ()>::deserialize(alloc, &mut de) {
         Ok(map) => map.len() == 32_768,
         Err(_) => false,
-    }
-}
-
-fn are_most(alloc: Global) -> bool {
-    match wide(alloc, 32_768) {
-        Some(bytes) => {
-            is_most_ordered(alloc, bytes.as_slice()) && is_most_sorted(alloc, bytes.as_slice())
-        }
-        None => false,
-    }
-}
-
-/// One pair more is refused by both.
-fn are_too_many(alloc: Global) -> bool {
-    match wide(alloc, 32_769) {
-        Some(bytes) => {
-            refuses::<OrderedMap<u32, ()>>(alloc, bytes.as_slice(), Answer::InvalidValue)
-                && refuses::<BTreeMap<u32, ()>>(alloc, bytes.as_slice(), Answer::InvalidValue)
-        }
-        None => false,
-    }
+    };
+    let taken = de.into_reader().bytes_consumed();
+    let sorted = match from_slice::<BTreeMap<u32, ()>>(alloc, most.as_slice()) {
+        Ok(map) => map.len() == 32_768,
+        Err(_) => false,
+    };
+    ordered
+        && taken == most.len()
+        && sorted
+        && refuses::<OrderedMap<u32, ()>>(alloc, more.as_slice(), Answer::InvalidValue)
+        && refuses::<BTreeMap<u32, ()>>(alloc, more.as_slice(), Answer::InvalidValue)
 }
 
 #[test]
 fn a_map_has_at_most_32768_pairs(rt: HostRuntime) {
-    let alloc = rt.alloc();
-    assert!(rt; are_most(alloc));
-    assert!(rt; are_too_many(alloc));
+    assert!(rt; ends_at_most(rt.alloc()));
 }

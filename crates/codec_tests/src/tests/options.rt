@@ -1,9 +1,9 @@
 //! Values that may be missing: null, or the item of the value.
 
-use super::answer::{Answer, UNEXPECTED_EOF};
+use super::answer::{Answer, UNEXPECTED_EOF, answer_of, gave};
 use super::bytes::{is_list, is_read_as, is_text, is_written_as};
-use super::input::Input;
-use std::alloc::Global;
+use amqp_de::Deserializer;
+use amqp_read::{Read, SliceReader};
 
 #[test]
 fn an_option_is_null_or_the_value(rt: HostRuntime) {
@@ -11,49 +11,45 @@ fn an_option_is_null_or_the_value(rt: HostRuntime) {
     assert!(rt; is_text(alloc, &None::<i32>, b"\x40"));
     assert!(rt; is_text(alloc, &Some(1i32), b"\x54\x01"));
     assert!(rt; is_text(alloc, &Some(256u32), b"\x70\x00\x00\x01\x00"));
-}
-
-#[test]
-fn options_in_a_list_and_in_a_tuple(rt: HostRuntime) {
-    let alloc = rt.alloc();
+    // in a list and in a tuple
     assert!(rt; is_list(alloc, &[Some(1u32), None], b"\xc0\x04\x02\x52\x01\x40"));
     assert!(rt; is_text(alloc, &(None::<i32>, Some(true)), b"\xc0\x03\x02\x40\x41"));
-}
-
-/// `Some(())` is written as null, which is read as `None`.
-fn is_none_again(alloc: Global) -> bool {
-    is_written_as(alloc, &Some(()), b"\x40") && is_read_as(alloc, b"\x40", &None::<()>)
+    // `Some(())` is written as null, which is read as `None`
+    assert!(rt; is_written_as(alloc, &Some(()), b"\x40"));
+    assert!(rt; is_read_as(alloc, b"\x40", &None::<()>));
 }
 
 /// Options of five types, one after the other.
-fn reads_by_call(alloc: Global) -> bool {
-    let mut input = Input::new(b"\x40\x54\x01\x40\x45\x40");
-    input.is_option(alloc, &None::<i32>)
-        && input.is_option(alloc, &Some(1i32))
-        && input.is_option(alloc, &None::<()>)
-        && input.is_option(alloc, &Some(Vec::<u32>::new(alloc)))
-        && input.is_option(alloc, &None::<(u32, bool)>)
-        && input.taken() == 6
-}
-
 #[test]
 fn null_comes_before_the_value(rt: HostRuntime) {
     let alloc = rt.alloc();
-    assert!(rt; is_none_again(alloc));
-    assert!(rt; reads_by_call(alloc));
+    let mut de = Deserializer::new(SliceReader::new(b"\x40\x54\x01\x40\x45\x40"));
+    let no_int = gave(&de.deserialize_option::<i32>(alloc), &None);
+    let int = gave(&de.deserialize_option::<i32>(alloc), &Some(1));
+    let no_unit = gave(&de.deserialize_option::<()>(alloc), &None);
+    let list = gave(
+        &de.deserialize_option::<Vec<u32>>(alloc),
+        &Some(Vec::new(alloc)),
+    );
+    let no_pair = gave(&de.deserialize_option::<(u32, bool)>(alloc), &None);
+    assert!(rt; no_int && int && no_unit && list && no_pair);
+    assert!(rt; de.into_reader().bytes_consumed() == 6);
 }
 
-/// The bytes are refused so, and what is asked for next because of that.
-fn is_refused(alloc: Global, bytes: &[u8], want: Answer) -> bool {
-    let mut input = Input::new(bytes);
-    input.option::<i32>(alloc) == want && input.option::<i32>(alloc) == Answer::InvalidValue
-}
-
+/// The bytes are refused, and what is asked for next because of that.
 #[test]
 fn bytes_that_are_no_option(rt: HostRuntime) {
     let alloc = rt.alloc();
-    assert!(rt; is_refused(alloc, b"", UNEXPECTED_EOF));
-    assert!(rt; is_refused(alloc, b"\x57", Answer::InvalidFormatCode));
-    assert!(rt; is_refused(alloc, b"\x52\x01", Answer::InvalidFormatCode));
-    assert!(rt; is_refused(alloc, b"\x54", UNEXPECTED_EOF));
+    let rows: &[(&[u8], Answer)] = &[
+        (b"", UNEXPECTED_EOF),
+        (b"\x57", Answer::InvalidFormatCode),
+        (b"\x52\x01", Answer::InvalidFormatCode),
+        (b"\x54", UNEXPECTED_EOF),
+    ];
+    for (bytes, name) in rows {
+        let mut de = Deserializer::new(SliceReader::new(bytes));
+        let first = answer_of(&de.deserialize_option::<i32>(alloc));
+        let again = answer_of(&de.deserialize_option::<i32>(alloc));
+        assert!(rt; first == *name && again == Answer::InvalidValue);
+    }
 }

@@ -1,92 +1,91 @@
 //! A serializer's settings, and what follows where a compound is dropped or the writer breaks off.
 
 use super::answer::{Answer, answer_of};
-use super::output::{Output, element};
 use amqp_base::Counted;
 use amqp_ser::{Serialize, Serializer};
 use std::alloc::Global;
 use std::io;
 use std::io::{ErrorKind, Write};
 
-/// Values one after the other, by four calls.
-fn appends(alloc: Global) -> bool {
-    let mut output = Output::from_writer(alloc);
-    !output.is_human_readable()
-        && output.u32(alloc, 1) == Answer::Taken
-        && output.i32(alloc, -1) == Answer::Taken
-        && output.some(alloc, &2u32) == Answer::Taken
-        && output.newtype(alloc, &-2i32) == Answer::Taken
-        && output.holds(b"\x52\x01\x54\xff\x52\x02\x54\xfe")
-}
-
-/// Three strings are written as these bytes, by the call and by the type's own.
-fn writes_strings_as(alloc: Global, output: Output, bytes: &[u8]) -> bool {
-    let Ok(text) = String::from_str(alloc, "a") else {
-        return false;
-    };
-    let mut output = output;
-    output.str(alloc, "a") == Answer::Taken
-        && output.value(alloc, &text) == Answer::Taken
-        && output.value(alloc, &text) == Answer::Taken
-        && output.holds(bytes)
-}
-
-/// The symbol setting stays.
-fn writes_symbols(alloc: Global) -> bool {
-    writes_strings_as(
-        alloc,
-        Output::symbols(alloc),
-        b"\xa3\x01a\xa3\x01a\xa3\x01a",
-    )
-}
-
-/// Strings stay strings under the settings of described values.
-fn writes_strings(alloc: Global) -> bool {
-    let strings = b"\xa1\x01a\xa1\x01a\xa1\x01a";
-    writes_strings_as(alloc, Output::described_list(alloc), strings)
-        && writes_strings_as(alloc, Output::described_map(alloc), strings)
-        && writes_strings_as(alloc, Output::described_basic(alloc), strings)
-}
-
 #[test]
 fn values_are_written_one_after_the_other(rt: HostRuntime) {
     let alloc = rt.alloc();
-    assert!(rt; appends(alloc));
-    assert!(rt; writes_symbols(alloc));
-    assert!(rt; writes_strings(alloc));
+    let mut ser = Serializer::from(Vec::new(alloc));
+    let is_human_readable = ser.is_human_readable();
+    let numbers = ser.serialize_u32(alloc, 1).is_ok() && ser.serialize_i32(alloc, -1).is_ok();
+    let some = ser.serialize_some(alloc, &2u32).is_ok();
+    let newtype = ser
+        .serialize_newtype_struct(alloc, "Celsius", &-2i32)
+        .is_ok();
+    assert!(rt; !is_human_readable && numbers && some && newtype);
+    assert!(rt; ser.writer.as_slice() == b"\x52\x01\x54\xff\x52\x02\x54\xfe".as_slice());
 }
 
-/// Opens a list, writes an element, and drops the list.
-fn drops_a_list(alloc: Global, output: &mut Output) -> bool {
-    let Ok(mut list) = output.seq(alloc, Some(1)) else {
+/// Three strings are written as these bytes, by the call and by the type's own.
+fn writes_strings_as(alloc: Global, ser: Serializer<Vec<u8>>, bytes: &[u8]) -> bool {
+    let Ok(text) = String::from_str(alloc, "a") else {
         return false;
     };
-    let first = element(&mut list, alloc, &1u32);
-    drop(list);
-    first == Answer::Taken
+    let mut ser = ser;
+    let first = ser.serialize_str(alloc, "a").is_ok();
+    let second = text.serialize(alloc, &mut ser).is_ok();
+    let third = text.serialize(alloc, &mut ser).is_ok();
+    first && second && third && ser.writer.as_slice() == bytes
 }
 
-fn refuses_values(alloc: Global, output: &mut Output) -> bool {
+/// The symbol setting stays; strings stay strings under the settings of described values.
+#[test]
+fn strings_are_written_by_the_setting(rt: HostRuntime) {
+    let alloc = rt.alloc();
+    let symbols = b"\xa3\x01a\xa3\x01a\xa3\x01a";
+    let strings = b"\xa1\x01a\xa1\x01a\xa1\x01a";
+    assert!(rt; writes_strings_as(alloc, Serializer::symbol(Vec::new(alloc)), symbols));
+    let list = Serializer::described_list(Vec::new(alloc));
+    assert!(rt; writes_strings_as(alloc, list, strings));
+    let map = Serializer::described_map(Vec::new(alloc));
+    assert!(rt; writes_strings_as(alloc, map, strings));
+    let basic = Serializer::described_basic(Vec::new(alloc));
+    assert!(rt; writes_strings_as(alloc, basic, strings));
+}
+
+fn refuses_values(alloc: Global, ser: &mut Serializer<Vec<u8>>) -> bool {
     let Ok(list) = vec![in alloc; 0i32] else {
         return false;
     };
-    output.u32(alloc, 1) == Answer::InvalidValue
-        && output.i32(alloc, 1) == Answer::InvalidValue
-        && output.str(alloc, "a") == Answer::InvalidValue
-        && output.some(alloc, &1u32) == Answer::InvalidValue
-        && output.newtype(alloc, &1u32) == Answer::InvalidValue
-        && output.opened_seq(alloc) == Answer::InvalidValue
-        && output.opened_array(alloc) == Answer::InvalidValue
-        && output.value(alloc, &list) == Answer::InvalidValue
+    let uint = answer_of(&ser.serialize_u32(alloc, 1));
+    let int = answer_of(&ser.serialize_i32(alloc, 1));
+    let text = answer_of(&ser.serialize_str(alloc, "a"));
+    let some = answer_of(&ser.serialize_some(alloc, &1u32));
+    let newtype = answer_of(&ser.serialize_newtype_struct(alloc, "Celsius", &1u32));
+    let seq = answer_of(&ser.serialize_seq(alloc, None));
+    let array = answer_of(&ser.serialize_array(alloc, None));
+    let value = answer_of(&list.serialize(alloc, ser));
+    uint == Answer::InvalidValue
+        && int == Answer::InvalidValue
+        && text == Answer::InvalidValue
+        && some == Answer::InvalidValue
+        && newtype == Answer::InvalidValue
+        && seq == Answer::InvalidValue
+        && array == Answer::InvalidValue
+        && value == Answer::InvalidValue
 }
 
+/// A list is opened behind a number, gets an element, and is dropped.
 fn refuses_after_a_dropped_list(alloc: Global) -> bool {
-    let mut output = Output::new(alloc);
-    output.u32(alloc, 7) == Answer::Taken
-        && drops_a_list(alloc, &mut output)
-        && refuses_values(alloc, &mut output)
-        && !output.is_human_readable()
-        && output.holds(b"\x52\x07")
+    let mut ser = Serializer::new(Vec::new(alloc));
+    let number = ser.serialize_u32(alloc, 7).is_ok();
+    let Ok(mut list) = ser.serialize_seq(alloc, Some(1)) else {
+        return false;
+    };
+    let first = list.serialize_element(alloc, &1u32).is_ok();
+    drop(list);
+    let refused = refuses_values(alloc, &mut ser);
+    let is_human_readable = ser.is_human_readable();
+    number
+        && first
+        && refused
+        && !is_human_readable
+        && ser.writer.as_slice() == b"\x52\x07".as_slice()
 }
 
 #[test]
@@ -137,12 +136,8 @@ fn is_broken_behind(alloc: Global, bytes: &[u8]) -> bool {
 #[test]
 fn a_writer_that_breaks_off_holds_the_front_of_the_bytes(rt: HostRuntime) {
     let alloc = rt.alloc();
-    assert!(rt; is_broken_behind(alloc, b""));
-    assert!(rt; is_broken_behind(alloc, b"\xc0"));
-    assert!(rt; is_broken_behind(alloc, b"\xc0\x08"));
-    assert!(rt; is_broken_behind(alloc, b"\xc0\x08\x02"));
-    assert!(rt; is_broken_behind(alloc, b"\xc0\x08\x02\x52"));
-    assert!(rt; is_broken_behind(alloc, b"\xc0\x08\x02\x52\x01"));
-    assert!(rt; is_broken_behind(alloc, b"\xc0\x08\x02\x52\x01\x70"));
-    assert!(rt; is_broken_behind(alloc, b"\xc0\x08\x02\x52\x01\x70\x00"));
+    let front = b"\xc0\x08\x02\x52\x01\x70\x00";
+    for n in 0..8usize {
+        assert!(rt; is_broken_behind(alloc, &front[..n]));
+    }
 }

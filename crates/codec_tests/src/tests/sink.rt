@@ -1,11 +1,12 @@
-//! Sinks: over memory, over a writer that fails once, and over one that takes nothing.
+//! Sinks: over memory, and over a writer that fails once.
 
 use amqp_base::{Counted, Sink};
 use std::alloc::Global;
 use std::io;
 use std::io::{ErrorKind, Write};
 
-/// Takes one byte a write, counts its writes, and fails at one of them.
+/// Takes one byte a write, counts its writes, and fails at one of them: by taking none where the
+/// kind is `WriteZero`.
 #[derive(Drop)]
 struct FailsOnce {
     writes: u8,
@@ -18,7 +19,10 @@ impl Write for FailsOnce {
     fn write(&mut self, bytes: &[u8]) -> io::Result<usize> {
         self.writes = self.writes.saturating_add(1);
         if self.writes == self.fails_at {
-            return Err(io::Error::from(self.kind));
+            return match self.kind {
+                ErrorKind::WriteZero => Ok(0),
+                kind => Err(io::Error::from(kind)),
+            };
         }
         match bytes.first() {
             None => Ok(0),
@@ -34,63 +38,34 @@ impl Write for FailsOnce {
     }
 }
 
-/// Takes no bytes.
-#[derive(Drop)]
-struct Full;
-
-impl Write for Full {
-    fn write(&mut self, _bytes: &[u8]) -> io::Result<usize> {
-        Ok(0)
-    }
-
-    fn flush(&mut self) -> io::Result<()> {
-        Ok(())
-    }
-}
-
 /// What a write answers.
 fn put<S: Sink>(sink: &mut S, bytes: &[u8]) -> Result<usize, ErrorKind> {
     sink.write_some(bytes)
 }
 
-fn vector_takes_all(alloc: Global) -> bool {
-    let Ok(mut bytes) = b"a".to_vec(alloc) else {
+/// A vector takes all bytes, itself and lent.
+fn vectors_take_all(alloc: Global) -> bool {
+    let (Ok(mut bytes), Ok(mut others)) = (b"a".to_vec(alloc), b"a".to_vec(alloc)) else {
         return false;
     };
-    put(&mut bytes, b"mqp") == Ok(3)
-        && put(&mut bytes, b"") == Ok(0)
-        && bytes.as_slice() == b"amqp".as_slice()
+    let is_put = put(&mut bytes, b"mqp") == Ok(3) && put(&mut bytes, b"") == Ok(0);
+    let mut lent = &mut others;
+    let is_lent = put::<&mut Vec<u8>>(&mut lent, b"mqp") == Ok(3);
+    let all = b"amqp".as_slice();
+    is_put && is_lent && bytes.as_slice() == all && others.as_slice() == all
 }
 
-fn lent_vector_takes_all(alloc: Global) -> bool {
-    let Ok(mut bytes) = b"a".to_vec(alloc) else {
-        return false;
-    };
-    let mut lent = &mut bytes;
-    put::<&mut Vec<u8>>(&mut lent, b"mqp") == Ok(3) && bytes.as_slice() == b"amqp".as_slice()
-}
-
-/// A writer takes all bytes, then one of one, and is flushed.
-fn is_written<W: Write>(writer: &mut W) -> bool {
-    writer.write_all(b"q").is_ok() && matches!(&writer.write(b"p"), Ok(1)) && writer.flush().is_ok()
-}
-
+/// A counted vector takes all bytes, also as a writer.
 fn counted_takes_all(alloc: Global) -> bool {
     let mut sink = Counted::new(Vec::new(alloc));
-    put(&mut sink, b"am") == Ok(2)
-        && is_written(&mut sink)
-        && sink.into_inner().as_slice() == b"amqp".as_slice()
+    let is_put = put(&mut sink, b"am") == Ok(2);
+    let is_written = sink.write_all(b"q").is_ok() && matches!(&sink.write(b"p"), Ok(1));
+    let is_flushed = sink.flush().is_ok();
+    is_put && is_written && is_flushed && sink.into_inner().as_slice() == b"amqp".as_slice()
 }
 
-#[test]
-fn a_vector_takes_all_bytes(rt: HostRuntime) {
-    let alloc = rt.alloc();
-    assert!(rt; vector_takes_all(alloc));
-    assert!(rt; lent_vector_takes_all(alloc));
-    assert!(rt; counted_takes_all(alloc));
-}
-
-/// Of three writes, one of which fails, each takes its first byte or answers the fault.
+/// Of three writes, one of which fails, each takes its first byte or answers the fault; a fourth
+/// one, of no byte, takes none.
 fn writes_on(kind: ErrorKind, fails_at: u8) -> bool {
     let mut sink = Counted::new(FailsOnce {
         writes: 0,
@@ -103,28 +78,26 @@ fn writes_on(kind: ErrorKind, fails_at: u8) -> bool {
         let want = if turn == fails_at { Err(kind) } else { Ok(1) };
         is_so = put(&mut sink, &[turn, 9]) == want && is_so;
     }
+    is_so = put(&mut sink, b"") == Ok(0) && is_so;
     let writer = sink.into_inner();
     let last = if fails_at == 3 { 2 } else { 3 };
-    is_so && writer.writes == 3 && writer.last == last
+    is_so && writer.writes == 4 && writer.last == last
 }
 
 #[test]
-fn a_counted_sink_answers_a_fault_and_goes_on(rt: HostRuntime) {
-    assert!(rt; writes_on(ErrorKind::BrokenPipe, 1));
-    assert!(rt; writes_on(ErrorKind::BrokenPipe, 2));
-    assert!(rt; writes_on(ErrorKind::BrokenPipe, 3));
-    assert!(rt; writes_on(ErrorKind::Interrupted, 1));
-    assert!(rt; writes_on(ErrorKind::Interrupted, 2));
-    assert!(rt; writes_on(ErrorKind::Interrupted, 3));
-    assert!(rt; writes_on(ErrorKind::OutOfMemory, 1));
-    assert!(rt; writes_on(ErrorKind::OutOfMemory, 2));
-    assert!(rt; writes_on(ErrorKind::OutOfMemory, 3));
-}
-
-#[test]
-fn a_write_of_nothing_is_a_fault(rt: HostRuntime) {
-    let mut sink = Counted::new(Full);
-    assert!(rt; put(&mut sink, b"x") == Err(ErrorKind::WriteZero));
-    assert!(rt; put(&mut sink, b"") == Ok(0));
-    let Full = sink.into_inner();
+fn a_sink_takes_all_bytes_or_answers_a_fault_and_goes_on(rt: HostRuntime) {
+    let alloc = rt.alloc();
+    assert!(rt; vectors_take_all(alloc));
+    assert!(rt; counted_takes_all(alloc));
+    for kind in [
+        ErrorKind::BrokenPipe,
+        ErrorKind::Interrupted,
+        ErrorKind::OutOfMemory,
+        ErrorKind::WriteZero,
+    ] {
+        assert!(rt;
+            writes_on(kind, 1) && writes_on(kind, 2) && writes_on(kind, 3),
+            "{kind:?}"
+        );
+    }
 }

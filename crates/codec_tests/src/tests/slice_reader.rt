@@ -1,162 +1,148 @@
-//! The reader over a slice. Each call is beside what it answers and the position behind it.
+//! The reader over a slice.
 
-use super::answer::{UNEXPECTED_EOF, answer_of};
+use super::answer::{UNEXPECTED_EOF, answer_of, name_of};
 use amqp_read::{Read, SliceReader, read_const_bytes};
 use std::alloc::Global;
 
+/// A call, and what it answers: a byte or so many of them, or none where fewer are to come.
+#[derive(Clone, Copy)]
+enum Call {
+    Peek(Option<u8>),
+    Next(Option<u8>),
+    PeekBytes(usize, Option<&'static [u8]>),
+    GetByteSlice(usize, Option<&'static [u8]>),
+    ReadBytes(usize, Option<&'static [u8]>),
+    ReadNothing,
+    ReadTwo(Option<[u8; 2]>),
+}
+
+use Call::{GetByteSlice, Next, Peek, PeekBytes, ReadBytes, ReadNothing, ReadTwo};
+
+/// The call answers so, and the reader is at the position behind it. Only a look at missing bytes
+/// is no refusal, and a refusal leaves the buffer.
+fn answers(reader: &mut SliceReader<'_>, alloc: Global, call: Call, position: usize) -> bool {
+    let is_so = match call {
+        Peek(byte) => matches!(&reader.peek(), Ok(found) if *found == byte),
+        Next(byte) => matches!(&reader.next(), Ok(found) if *found == byte),
+        PeekBytes(n, bytes) => match reader.peek_bytes(n) {
+            Ok(found) => found == bytes,
+            Err(_) => false,
+        },
+        GetByteSlice(n, bytes) => match reader.get_byte_slice(n) {
+            Ok(found) => Some(found) == bytes,
+            Err(e) => bytes.is_none() && name_of(&e) == UNEXPECTED_EOF,
+        },
+        ReadBytes(n, bytes) => match reader.read_bytes(alloc, n) {
+            Ok(found) => Some(found.as_slice()) == bytes,
+            Err(e) => bytes.is_none() && name_of(&e) == UNEXPECTED_EOF,
+        },
+        ReadNothing => reader.read_exact(&mut []).is_ok(),
+        ReadTwo(bytes) => {
+            let mut buf = [1, 2];
+            match reader.read_exact(&mut buf) {
+                Ok(()) => Some(buf) == bytes,
+                Err(e) => bytes.is_none() && name_of(&e) == UNEXPECTED_EOF && buf == [1, 2],
+            }
+        }
+    };
+    is_so && reader.bytes_consumed() == position
+}
+
+/// A reader over the bytes answers the calls, and is at the position behind each.
+fn goes(alloc: Global, bytes: &[u8], calls: &[(Call, usize)]) -> bool {
+    let mut reader = SliceReader::new(bytes);
+    let mut is_so = reader.bytes_consumed() == 0;
+    for (call, position) in calls {
+        is_so = answers(&mut reader, alloc, *call, *position) && is_so;
+    }
+    is_so
+}
+
 const BYTES: &[u8] = b"\xde\xad\xbe";
 
-/// The next byte, looked at.
-fn peeks<R: Read>(reader: &mut R, byte: Option<u8>, position: usize) -> bool {
-    match reader.peek() {
-        Ok(found) => found == byte && reader.bytes_consumed() == position,
-        Err(_) => false,
-    }
-}
+/// A look takes nothing, and the next byte one.
+const ONE_BY_ONE: &[(Call, usize)] = &[
+    (Peek(Some(0xde)), 0),
+    (Next(Some(0xde)), 1),
+    (Peek(Some(0xad)), 1),
+    (Next(Some(0xad)), 2),
+    (Peek(Some(0xbe)), 2),
+    (Next(Some(0xbe)), 3),
+    (Peek(None), 3),
+    (Next(None), 3),
+    (Next(None), 3),
+];
 
-/// The next byte, taken.
-fn takes<R: Read>(reader: &mut R, byte: Option<u8>, position: usize) -> bool {
-    match reader.next() {
-        Ok(found) => found == byte && reader.bytes_consumed() == position,
-        Err(_) => false,
-    }
-}
+/// A buffer is filled whole or left.
+const INTO_A_BUFFER: &[(Call, usize)] = &[
+    (ReadNothing, 0),
+    (ReadTwo(Some([0xde, 0xad])), 2),
+    (ReadTwo(None), 2),
+    (Next(Some(0xbe)), 3),
+    (ReadNothing, 3),
+];
+
+/// A look at many bytes takes none.
+const MANY_PEEKED: &[(Call, usize)] = &[
+    (PeekBytes(0, Some(b"")), 0),
+    (PeekBytes(2, Some(b"\xde\xad")), 0),
+    (PeekBytes(3, Some(b"\xde\xad\xbe")), 0),
+    (PeekBytes(4, None), 0),
+    (PeekBytes(usize::MAX, None), 0),
+    (GetByteSlice(3, Some(BYTES)), 3),
+    (PeekBytes(0, Some(b"")), 3),
+    (PeekBytes(1, None), 3),
+];
+
+/// A vector is filled whole or refused.
+const INTO_A_VECTOR: &[(Call, usize)] = &[
+    (ReadBytes(0, Some(b"")), 0),
+    (ReadBytes(2, Some(b"\xde\xad")), 2),
+    (ReadBytes(2, None), 2),
+    (ReadBytes(usize::MAX, None), 2),
+    (Next(Some(0xbe)), 3),
+    (ReadBytes(0, Some(b"")), 3),
+    (ReadBytes(1, None), 3),
+];
+
+/// No bytes are to come.
+const NONE_TO_COME: &[(Call, usize)] = &[
+    (Peek(None), 0),
+    (Next(None), 0),
+    (PeekBytes(0, Some(b"")), 0),
+    (PeekBytes(1, None), 0),
+    (GetByteSlice(1, None), 0),
+];
 
 #[test]
-fn a_look_takes_nothing_and_the_next_byte_one(rt: HostRuntime) {
-    let mut reader = SliceReader::new(BYTES);
-    assert!(rt; reader.bytes_consumed() == 0);
-    assert!(rt; peeks(&mut reader, Some(0xde), 0));
-    assert!(rt; takes(&mut reader, Some(0xde), 1));
-    assert!(rt; peeks(&mut reader, Some(0xad), 1));
-    assert!(rt; takes(&mut reader, Some(0xad), 2));
-    assert!(rt; peeks(&mut reader, Some(0xbe), 2));
-    assert!(rt; takes(&mut reader, Some(0xbe), 3));
-    assert!(rt; peeks(&mut reader, None, 3));
-    assert!(rt; takes(&mut reader, None, 3));
-    assert!(rt; takes(&mut reader, None, 3));
-}
-
-/// The next bytes, lent and taken.
-fn lends(reader: &mut SliceReader<'_>, bytes: &[u8], position: usize) -> bool {
-    match reader.get_byte_slice(bytes.len()) {
-        Ok(found) => found == bytes && reader.bytes_consumed() == position,
-        Err(_) => false,
-    }
-}
-
-/// Fewer bytes are to come, and none is taken.
-fn lends_none(reader: &mut SliceReader<'_>, n: usize, position: usize) -> bool {
-    answer_of(&reader.get_byte_slice(n)) == UNEXPECTED_EOF && reader.bytes_consumed() == position
-}
-
-fn lent<'s>(reader: &mut SliceReader<'s>, n: usize) -> Option<&'s [u8]> {
-    reader.get_byte_slice(n).ok()
+fn a_call_takes_all_that_it_asks_for_or_nothing(rt: HostRuntime) {
+    let alloc = rt.alloc();
+    assert!(rt; goes(alloc, BYTES, ONE_BY_ONE));
+    assert!(rt; goes(alloc, BYTES, INTO_A_BUFFER));
+    assert!(rt; goes(alloc, BYTES, MANY_PEEKED));
+    assert!(rt; goes(alloc, BYTES, INTO_A_VECTOR));
+    assert!(rt; goes(alloc, b"", NONE_TO_COME));
 }
 
 #[test]
 fn a_lent_slice_lives_as_long_as_the_bytes(rt: HostRuntime) {
-    let mut reader = SliceReader::new(BYTES);
-    assert!(rt; lends(&mut reader, b"", 0));
-    let front = lent(&mut reader, 2);
-    assert!(rt; peeks(&mut reader, Some(0xbe), 2));
-    assert!(rt; lends_none(&mut reader, 2, 2));
-    assert!(rt; peeks(&mut reader, Some(0xbe), 2));
-    assert!(rt; lends_none(&mut reader, usize::MAX, 2));
-    assert!(rt; peeks(&mut reader, Some(0xbe), 2));
-    assert!(rt; lends(&mut reader, b"\xbe", 3));
-    assert!(rt; lends(&mut reader, b"", 3));
-    assert!(rt; lends_none(&mut reader, 1, 3));
-    assert!(rt; front == Some(b"\xde\xad".as_slice()));
-}
-
-/// The next bytes, taken into a buffer.
-fn fills<R: Read, const N: usize>(reader: &mut R, bytes: &[u8; N], position: usize) -> bool {
-    let mut buf = [0; N];
-    match reader.read_exact(&mut buf) {
-        Ok(()) => buf == *bytes && reader.bytes_consumed() == position,
-        Err(_) => false,
-    }
-}
-
-/// Fewer than two bytes are to come: the buffer stays, and none is taken.
-fn fills_none<R: Read>(reader: &mut R, position: usize) -> bool {
-    let mut buf = [1, 2];
-    answer_of(&reader.read_exact(&mut buf)) == UNEXPECTED_EOF
-        && buf == [1, 2]
-        && reader.bytes_consumed() == position
-}
-
-#[test]
-fn a_buffer_is_filled_whole_or_left(rt: HostRuntime) {
-    let mut reader = SliceReader::new(BYTES);
-    assert!(rt; fills(&mut reader, &[], 0));
-    assert!(rt; fills(&mut reader, b"\xde\xad", 2));
-    assert!(rt; fills_none(&mut reader, 2));
-    assert!(rt; takes(&mut reader, Some(0xbe), 3));
-    assert!(rt; fills(&mut reader, &[], 3));
-}
-
-/// The next bytes, looked at.
-fn shows<R: Read>(reader: &mut R, bytes: &[u8], position: usize) -> bool {
-    let is_shown = match reader.peek_bytes(bytes.len()) {
-        Ok(Some(found)) => found == bytes,
-        _ => false,
-    };
-    is_shown && reader.bytes_consumed() == position
-}
-
-/// Fewer bytes are to come, at which a look is no refusal.
-fn shows_none<R: Read>(reader: &mut R, n: usize, position: usize) -> bool {
-    let is_short = matches!(&reader.peek_bytes(n), Ok(None));
-    is_short && reader.bytes_consumed() == position
-}
-
-#[test]
-fn a_look_at_many_bytes_takes_none(rt: HostRuntime) {
-    let mut reader = SliceReader::new(BYTES);
-    assert!(rt; shows(&mut reader, b"", 0));
-    assert!(rt; shows(&mut reader, b"\xde\xad", 0));
-    assert!(rt; shows(&mut reader, b"\xde\xad\xbe", 0));
-    assert!(rt; shows_none(&mut reader, 4, 0));
-    assert!(rt; shows_none(&mut reader, usize::MAX, 0));
-    assert!(rt; lends(&mut reader, BYTES, 3));
-    assert!(rt; shows(&mut reader, b"", 3));
-    assert!(rt; shows_none(&mut reader, 1, 3));
-}
-
-/// The next bytes, taken into a vector.
-fn owns<R: Read>(reader: &mut R, alloc: Global, bytes: &[u8], position: usize) -> bool {
-    match reader.read_bytes(alloc, bytes.len()) {
-        Ok(found) => found.as_slice() == bytes && reader.bytes_consumed() == position,
-        Err(_) => false,
-    }
-}
-
-/// Fewer bytes are to come, and none is taken.
-fn owns_none<R: Read>(reader: &mut R, alloc: Global, n: usize, position: usize) -> bool {
-    answer_of(&reader.read_bytes(alloc, n)) == UNEXPECTED_EOF && reader.bytes_consumed() == position
-}
-
-#[test]
-fn a_vector_is_filled_whole_or_refused(rt: HostRuntime) {
     let alloc = rt.alloc();
     let mut reader = SliceReader::new(BYTES);
-    assert!(rt; owns(&mut reader, alloc, b"", 0));
-    assert!(rt; owns(&mut reader, alloc, b"\xde\xad", 2));
-    assert!(rt; owns_none(&mut reader, alloc, 2, 2));
-    assert!(rt; owns_none(&mut reader, alloc, usize::MAX, 2));
-    assert!(rt; takes(&mut reader, Some(0xbe), 3));
-    assert!(rt; owns(&mut reader, alloc, b"", 3));
-    assert!(rt; owns_none(&mut reader, alloc, 1, 3));
-}
-
-/// The next ten bytes, taken as an array, are these.
-fn gives_ten(reader: &mut SliceReader<'_>, bytes: &[u8; 10]) -> bool {
-    match read_const_bytes::<_, 10>(reader) {
-        Ok(found) => found == *bytes,
-        Err(_) => false,
+    assert!(rt; answers(&mut reader, alloc, GetByteSlice(0, Some(b"")), 0));
+    let front = reader.get_byte_slice(2).ok();
+    for (call, position) in [
+        (Peek(Some(0xbe)), 2),
+        (GetByteSlice(2, None), 2),
+        (Peek(Some(0xbe)), 2),
+        (GetByteSlice(usize::MAX, None), 2),
+        (Peek(Some(0xbe)), 2),
+        (GetByteSlice(1, Some(b"\xbe")), 3),
+        (GetByteSlice(0, Some(b"")), 3),
+        (GetByteSlice(1, None), 3),
+    ] {
+        assert!(rt; answers(&mut reader, alloc, call, position));
     }
+    assert!(rt; front == Some(b"\xde\xad".as_slice()));
 }
 
 const TWENTY_ONE: &[u8] =
@@ -164,26 +150,21 @@ const TWENTY_ONE: &[u8] =
 
 #[test]
 fn an_array_is_filled_whole_or_refused(rt: HostRuntime) {
+    let alloc = rt.alloc();
     let mut reader = SliceReader::new(TWENTY_ONE);
-    assert!(rt; shows(&mut reader, b"\x00\x01", 0));
-    assert!(rt; shows(&mut reader, b"\x00\x01", 0));
-    assert!(rt; gives_ten(&mut reader, b"\x00\x01\x02\x03\x04\x05\x06\x07\x08\x09"));
+    assert!(rt; answers(&mut reader, alloc, PeekBytes(2, Some(b"\x00\x01")), 0));
+    assert!(rt; answers(&mut reader, alloc, PeekBytes(2, Some(b"\x00\x01")), 0));
+    let first = read_const_bytes::<_, 10>(&mut reader).ok();
+    assert!(rt; first == Some([0, 1, 2, 3, 4, 5, 6, 7, 8, 9]));
     assert!(rt; reader.bytes_consumed() == 10);
-    assert!(rt; gives_ten(&mut reader, b"\x0a\x0b\x0c\x0d\x0e\x0f\x10\x11\x12\x13"));
+    let second = read_const_bytes::<_, 10>(&mut reader).ok();
+    assert!(rt; second == Some([10, 11, 12, 13, 14, 15, 16, 17, 18, 19]));
     assert!(rt; read_const_bytes::<_, 0>(&mut reader).is_ok());
     assert!(rt; reader.bytes_consumed() == 20);
     assert!(rt; answer_of(&read_const_bytes::<_, 10>(&mut reader)) == UNEXPECTED_EOF);
-    assert!(rt; peeks(&mut reader, Some(0x14), 20));
-}
-
-#[test]
-fn no_bytes_are_to_come(rt: HostRuntime) {
+    assert!(rt; answers(&mut reader, alloc, Peek(Some(0x14)), 20));
+    // no byte at all is to come
     let mut reader = SliceReader::new(&[]);
-    assert!(rt; peeks(&mut reader, None, 0));
-    assert!(rt; takes(&mut reader, None, 0));
-    assert!(rt; shows(&mut reader, b"", 0));
-    assert!(rt; shows_none(&mut reader, 1, 0));
-    assert!(rt; lends_none(&mut reader, 1, 0));
     assert!(rt; answer_of(&read_const_bytes::<_, 1>(&mut reader)) == UNEXPECTED_EOF);
     assert!(rt; reader.bytes_consumed() == 0);
 }
