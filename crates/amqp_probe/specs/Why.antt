@@ -17,7 +17,7 @@ behind line n = length line - (n + 1)
 abbrev NamesType : List ℕ → ℕ → Type 0
 NamesType line n = (kind : Kind) × (take n line ≡ type_name kind)
 
--- each reason is true only of lines that break just its rule: those before it are kept
+-- The reason is true of the line. A line may break several rules: which of them is told isn't said here.
 abbrev pub Explains : Why → List ℕ → Type 0
 Explains TooLong line = 65536 < length line
 Explains NoSpace line = space line ≡ None
