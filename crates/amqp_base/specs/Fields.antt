@@ -1,9 +1,4 @@
--- A list of exactly these fields, each of a type of its own. For the meaning of a struct with the fields a and b:
---   item  = λ v _. whole Shape.List (A.item v.a Plain ∷ B.item v.b Plain ∷ [])
---   takes = takes_fields (A.takes ∷ B.takes ∷ [])
---   means = λ i v. means_fields (field A.means v.a ∷ field B.means v.b ∷ []) i
---   same  = λ v w. A.same v.a w.a × B.same v.b w.b, with three fields A.same v.a w.a × (B.same v.b w.b × C.same v.c w.c)
---   one_value = λ i v w. one_fields _ _ (one_more _ _ A.one_value v.a w.a (one_last B.one_value v.b w.b)) i
+-- A list of exactly these fields, each of a type of its own.
 use Rattle.std.specs.Prelude.{◌≡◌, ℕ, Bool, true, false, ◌&&◌, IsTrue, List, [], ◌∷◌}
 use Rattle.std.proofs.Common.{refl}
 use Rattle.amqp_base.specs.Item.{Item, scalar, list, map, array, described, Items, none, more, items_of}
@@ -41,12 +36,6 @@ means_fields fields (list is) = all_meanings fields is
 means_fields fields i = ⊥
 
 -- Parts that mean two rows of values mean the same.
-pub one_last : {T : Type 0} {means : Item → T → Type 0} {same : T → T → Type 0} → OneValue means same
-    → (v w : T) (is : Items) → all_meanings (field means v ∷ []) is → all_meanings (field means w ∷ []) is → same v w
-unfolding all_meanings
-one_last one v w none p q = absurd p
-one_last one v w (more i is) p q = one i v w p.0 q.0
-
 pub one_more : {T : Type 0} {means : Item → T → Type 0} {same : T → T → Type 0} {R : Type 0} → (P Q : List {1} (Item → Type 0)) → OneValue means same
     → (v w : T) → ((is : Items) → all_meanings P is → all_meanings Q is → R) → (is : Items) → all_meanings (field means v ∷ P) is → all_meanings (field means w ∷ Q) is → same v w × R
 unfolding all_meanings

@@ -1,4 +1,5 @@
 pub mod Codes
+pub mod CodeNames
 pub mod SameKind
 pub mod Item
 pub mod Value
@@ -21,6 +22,9 @@ pub mod Fields
 pub mod NamedFields
 pub mod Maps
 pub mod MapsReadBack
+pub mod Meaning
+pub mod Sorts
+pub mod Chosen
 pub mod Faults
 pub mod Refusals
 pub mod PlainArrays

@@ -6,7 +6,7 @@
 use Rattle.std.specs.Prelude.{ℕ, Bool, true, false, ◌&&◌, IsTrue, List, [], ◌∷◌, Option, Some, None, if◌then◌else◌}
 use Rattle.std.specs.Str.{bytes_eq}
 use Rattle.amqp_base.specs.Item.{Item, Scalar, scalar, list, map, array, described, string, Items, Pairs, no_pairs, pair}
-use Rattle.amqp_base.specs.Fields.{all_fields, all_meanings, field, one_last, one_more, TakenBack, ReadBack}
+use Rattle.amqp_base.specs.Fields.{all_fields, all_meanings, field, one_more, TakenBack, ReadBack}
 use Rattle.amqp_base.specs.Shapes.{whole}
 use Rattle.amqp_base.specs.Structs.{FieldItem, struct_item, fields_parts}
 use Rattle.amqp_base.specs.Typing.{OneValue}
@@ -87,10 +87,6 @@ pub record OneRow (names : List (List ℕ)) (P Q : List {1} (Item → Type 0)) (
 one_meant : {T : Type 0} {means : Item → T → Type 0} {same : T → T → Type 0} → OneValue means same → (v w : T) (o : Option Item) → meant_value (field means v) o → meant_value (field means w) o → same v w
 one_meant one v w None p q = absurd p
 one_meant one v w (Some i) p q = one i v w p q
-
-pub last_field : {T : Type 0} {means : Item → T → Type 0} {same : T → T → Type 0} (name : List ℕ) → OneValue means same → (v w : T)
-    → OneRow (name ∷ []) (field means v ∷ []) (field means w ∷ []) (same v w)
-last_field name one v w = record { in_list = one_last one v w; in_map = λ ps p q. one_meant one v w (value_of name ps) p.0 q.0 }
 
 pub one_field : {T : Type 0} {means : Item → T → Type 0} {same : T → T → Type 0} {names : List (List ℕ)} {P Q : List {1} (Item → Type 0)} {R : Type 0} (name : List ℕ) → OneValue means same → (v w : T) → OneRow names P Q R
     → OneRow (name ∷ names) (field means v ∷ P) (field means w ∷ Q) (same v w × R)

@@ -1,7 +1,4 @@
 -- Structs under plain names.
---   item = λ v setting. struct_item setting (named (codes "a") (A.item v.a) ∷ named (codes "b") (B.item v.b) ∷ [])
---   in_described_list = λ _. struct_in_list _
---   in_described_basic = λ _. struct_in_basic _
 use Rattle.std.specs.Prelude.{◌≡◌, ℕ, Bool, ◌||◌, List, [], ◌∷◌, ◌++◌}
 use Rattle.std.proofs.Common.{refl}
 use Rattle.std.specs.Str.{bytes_eq}

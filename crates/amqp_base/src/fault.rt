@@ -1,19 +1,23 @@
 //! Sources and sinks of bytes, and how often they failed.
 
-ghost use Rattle.std.specs.Prelude.{◌≡◌, ◌<◌, ◌≤◌, ℕ, Bool, true, false, List, [], ◌∷◌, length, IfOk, IsTrue};
+ghost use Rattle.std.specs.Prelude.{◌≡◌, ◌<◌, ◌≤◌, ℕ, Bool, true, false, List, [], ◌∷◌, length, Option, None, Some, ◌+◌, IfOk, IsTrue};
 ghost use Rattle.std.specs.Borrow.{GName};
 ghost use Rattle.std.specs.Io.{ReadsAtMost};
 ghost use Rattle.std.specs.Io.KnownBytes.{WriteAppends, ReadConsumes, IsAtEnd};
-ghost use Rattle.amqp_base.specs.Faults.{Counts};
+ghost use Rattle.std.specs.declared.io.ErrorKind.{ErrorKind};
+ghost use Rattle.amqp_base.specs.Faults.{Counts, Remembers};
 
 use crate::Count;
 use std::io;
 use std::io::{Read, Write};
 
-/// How many faults a value has answered, for contracts alone. Reading and writing refuse with a device's own kind of fault
-/// only where this count rose.
+/// How many faults a value has answered, and the kind of the last, for contracts alone. Reading and writing refuse with a
+/// device's own kind of fault only where this count rose, and then with that kind.
 pub trait FaultCount {
     ghost faults: { Self → ℕ };
+
+    /// The kind of the last of them.
+    ghost last_fault: { Self → Option ErrorKind };
 
     /// Whether want of memory may go uncounted. No call changes it.
     ghost grows: { Self → Bool };
@@ -29,14 +33,19 @@ pub trait Source: Read + FaultCount + Drop {
 
     /// Reads some bytes into the front of `buf` and answers how many, at most its length. 0 for a buffer that isn't empty
     /// comes only at the end of a source whose bytes are known, or that is honest. An `Err` is the kind of the device's
-    /// fault: it raises the count of faults by 1 (want of memory of a source that grows may not) and takes none of the
+    /// fault, the last one then: it raises the count of faults by 1 (want of memory of a source that grows may not) and takes none of the
     /// known bytes, while `buf` may hold anything.
     fn read_some(&mut self, buf: &mut [u8]) -> Result<usize, io::ErrorKind>
         ensures len { length buf.new ≡ length buf.old }
         ensures bound { IfOk result (λ n. n ≤ length buf.new) }
-        ensures bytes { ReadConsumes (Self.remaining self.old) (Self.remaining self.new) result buf.new }
-        ensures counts { Counts (Self.grows self.old) (Self.faults self.old) (Self.faults self.new) result }
-        ensures end { IsTrue (is_honest self.old) → IfOk result (λ n. n ≡ 0 → 0 < length buf.old → IsAtEnd (Self.remaining self.old)) }
+        ensures bytes { ReadConsumes (Self.remaining self.old) (Self.remaining self.new)
+            result buf.new }
+        ensures counts { Counts (Self.grows self.old) (Self.faults self.old)
+            (Self.faults self.new) result }
+        ensures kind { Remembers (Self.faults self.old) (Self.faults self.new)
+            (Self.last_fault self.old) (Self.last_fault self.new) result }
+        ensures end { IsTrue (is_honest self.old) → IfOk result (λ n.
+            n ≡ 0 → 0 < length buf.old → IsAtEnd (Self.remaining self.old)) }
         ensures honest { is_honest self.new ≡ is_honest self.old }
         ensures origin { origin self.new ≡ origin self.old }
         ensures grows { Self.grows self.new ≡ Self.grows self.old };
@@ -45,19 +54,25 @@ pub trait Source: Read + FaultCount + Drop {
 /// A writer, by the one call that the codec makes.
 pub trait Sink: Write + FaultCount + Drop {
     /// Writes some bytes of the front of `bytes`, at least one where there is one, and answers how many. An `Err` is the
-    /// kind of the device's fault: it raises the count of faults by 1 (want of memory of a sink that grows may not) and
+    /// kind of the device's fault, the last one then: it raises the count of faults by 1 (want of memory of a sink that grows may not) and
     /// leaves the known contents as they were.
     fn write_some(&mut self, bytes: &[u8]) -> Result<usize, io::ErrorKind>
         ensures bound { IfOk result (λ n. n ≤ length bytes.now) }
         ensures some { IfOk result (λ n. 0 < length bytes.now → 0 < n) }
-        ensures bytes { WriteAppends (Self.contents self.old) (Self.contents self.new) result bytes.now }
-        ensures counts { Counts (Self.grows self.old) (Self.faults self.old) (Self.faults self.new) result }
+        ensures bytes { WriteAppends (Self.contents self.old) (Self.contents self.new)
+            result bytes.now }
+        ensures counts { Counts (Self.grows self.old) (Self.faults self.old)
+            (Self.faults self.new) result }
+        ensures kind { Remembers (Self.faults self.old) (Self.faults self.new)
+            (Self.last_fault self.old) (Self.last_fault self.new) result }
         ensures grows { Self.grows self.new ≡ Self.grows self.old };
 }
 
 /// A vector has no faults but want of memory.
 impl FaultCount for Vec<u8> {
     ghost faults = { λ _. 0 };
+
+    ghost last_fault = { λ _. None };
 
     ghost grows = { λ _. true };
 }
@@ -75,6 +90,8 @@ impl Sink for Vec<u8> {
 /// A slice has no faults.
 impl FaultCount for &[u8] {
     ghost faults = { λ _. 0 };
+
+    ghost last_fault = { λ _. None };
 
     ghost grows = { λ _. false };
 }
@@ -98,6 +115,8 @@ impl Source for &[u8] {
 impl<T: FaultCount> FaultCount for &mut T {
     ghost faults = { λ t. T.faults t.now };
 
+    ghost last_fault = { λ t. T.last_fault t.now };
+
     ghost grows = { λ t. T.grows t.now };
 }
 
@@ -117,12 +136,14 @@ impl<W: Sink> Sink for &mut W {
     }
 }
 
-/// Any reader or writer, with its faults counted by a counter that takes no bytes. It isn't claimed honest. A write that
-/// takes no byte of some is the fault `WriteZero`. No call retries an `Interrupted` fault.
+/// Any reader or writer, with its faults counted, by a counter that takes no bytes, and the kind of the last of them kept.
+/// It isn't claimed honest. A write that takes no byte of some is the fault `WriteZero`. No call retries an `Interrupted`
+/// fault.
 #[derive(Drop)]
 pub struct Counted<T> {
     inner: T,
     faults: Count,
+    last: Option<io::ErrorKind>,
 }
 
 impl<T> Counted<T> {
@@ -134,6 +155,7 @@ impl<T> Counted<T> {
         Counted {
             inner,
             faults: Count::new(),
+            last: None,
         }
     }
 
@@ -141,13 +163,31 @@ impl<T> Counted<T> {
     pub fn into_inner(self) -> T
         ensures { result ≡ self.inner }
     {
-        let Counted { inner, faults: _ } = self;
+        let Counted {
+            inner,
+            faults: _,
+            last: _,
+        } = self;
         inner
+    }
+
+    /// Counts a fault, and hands on its kind.
+    fn failed(&mut self, kind: io::ErrorKind) -> io::ErrorKind
+        ensures kind { result ≡ kind }
+        ensures faults { self.new.faults.n ≡ self.old.faults.n + 1 }
+        ensures last { self.new.last ≡ Some kind }
+        ensures inner { self.new.inner ≡ self.old.inner }
+    {
+        self.faults.tick();
+        self.last = Some(kind);
+        kind
     }
 }
 
 impl<T> FaultCount for Counted<T> {
     ghost faults = { λ c. c.faults.n };
+
+    ghost last_fault = { λ c. c.last };
 
     ghost grows = { λ _. false };
 }
@@ -168,10 +208,7 @@ impl<T: Read + Drop> Source for Counted<T> {
     fn read_some(&mut self, buf: &mut [u8]) -> Result<usize, io::ErrorKind> {
         match self.inner.read(buf) {
             Ok(n) => Ok(n),
-            Err(e) => {
-                self.faults.tick();
-                Err(e.kind())
-            }
+            Err(e) => { Err(self.failed(e.kind())) }
         }
     }
 }
@@ -193,15 +230,11 @@ impl<T: Write + Drop> Sink for Counted<T> {
         match self.inner.write(bytes) {
             Ok(n) => {
                 if n == 0 && !bytes.is_empty() {
-                    self.faults.tick();
-                    return Err(io::ErrorKind::WriteZero);
+                    return Err(self.failed(io::ErrorKind::WriteZero));
                 }
                 Ok(n)
             }
-            Err(e) => {
-                self.faults.tick();
-                Err(e.kind())
-            }
+            Err(e) => { Err(self.failed(e.kind())) }
         }
     }
 }

@@ -1,6 +1,7 @@
 //! The format codes of AMQP 1.0 (part 1, sections 1.2 and 1.6).
 
-ghost use Rattle.std.specs.Prelude.{◌≡◌, Ok, Err};
+ghost use Rattle.std.specs.Prelude.{◌≡◌, Ok, Err, Some};
+ghost use Rattle.amqp_base.specs.CodeNames.{name_of, text_of};
 ghost use Rattle.amqp_base.specs.Codes.{row, CodeOf, CategoryOf};
 
 use crate::Error;
@@ -229,9 +230,63 @@ impl TryFrom<EncodingCodes> for Category {
     }
 }
 
+impl EncodingCodes {
+    /// The name of a code.
+    fn name(self) -> &'static str
+        ensures { result.now ≡ name_of self }
+    {
+        match self {
+            EncodingCodes::DescribedType => "DescribedType",
+            EncodingCodes::Null => "Null",
+            EncodingCodes::Boolean => "Boolean",
+            EncodingCodes::BooleanTrue => "BooleanTrue",
+            EncodingCodes::BooleanFalse => "BooleanFalse",
+            EncodingCodes::Ubyte => "Ubyte",
+            EncodingCodes::Ushort => "Ushort",
+            EncodingCodes::Uint => "Uint",
+            EncodingCodes::SmallUint => "SmallUint",
+            EncodingCodes::Uint0 => "Uint0",
+            EncodingCodes::Ulong => "Ulong",
+            EncodingCodes::SmallUlong => "SmallUlong",
+            EncodingCodes::Ulong0 => "Ulong0",
+            EncodingCodes::Byte => "Byte",
+            EncodingCodes::Short => "Short",
+            EncodingCodes::Int => "Int",
+            EncodingCodes::SmallInt => "SmallInt",
+            EncodingCodes::Long => "Long",
+            EncodingCodes::SmallLong => "SmallLong",
+            EncodingCodes::Float => "Float",
+            EncodingCodes::Double => "Double",
+            EncodingCodes::Decimal32 => "Decimal32",
+            EncodingCodes::Decimal64 => "Decimal64",
+            EncodingCodes::Decimal128 => "Decimal128",
+            EncodingCodes::Char => "Char",
+            EncodingCodes::Timestamp => "Timestamp",
+            EncodingCodes::Uuid => "Uuid",
+            EncodingCodes::Vbin8 => "Vbin8",
+            EncodingCodes::Vbin32 => "Vbin32",
+            EncodingCodes::Str8 => "Str8",
+            EncodingCodes::Str32 => "Str32",
+            EncodingCodes::Sym8 => "Sym8",
+            EncodingCodes::Sym32 => "Sym32",
+            EncodingCodes::List0 => "List0",
+            EncodingCodes::List8 => "List8",
+            EncodingCodes::List32 => "List32",
+            EncodingCodes::Map8 => "Map8",
+            EncodingCodes::Map32 => "Map32",
+            EncodingCodes::Array8 => "Array8",
+            EncodingCodes::Array32 => "Array32",
+        }
+    }
+}
+
 impl fmt::Display for EncodingCodes {
+    ghost output = { λ e. Some (text_of e) };
+
     /// The name, `:0x` and the byte in lower hexadecimal without leading zeros.
     fn fmt<W: fmt::Write>(&self, f: &mut fmt::Formatter<W>) -> fmt::Result {
-        write!(f, "{:?}:0x{:x}", self, self.byte())
+        let name = self.name();
+        let byte = self.byte();
+        write!(f, "{name}:0x{byte:x}")
     }
 }

@@ -1,6 +1,8 @@
 -- An item without parts: its byte, then its data.
-use Rattle.std.proofs.Common.{◌≡◌, ℕ, ◌+◌, ◌≤◌, Bool, true, false, ◌||◌, List, ◌++◌, Ok, Err, refl, sym, ap, subst, ◌∙◌, arith, inl, inr, ◌⊎◌, IsTrue}
+use Rattle.std.proofs.Common.{◌≡◌, ℕ, ◌+◌, ◌≤◌, Bool, true, false, ◌||◌, List, ◌++◌, Some, Ok, Err, refl, sym, ap, subst, ◌∙◌, arith, inl, inr, ◌⊎◌, IsTrue}
 use Rattle.amqp_base.specs.declared.error.Error.{Error}
+use Rattle.amqp_base.specs.declared.error.Error.TheVariants.{Io}
+use Rattle.std.specs.declared.io.ErrorKind.TheVariants.{UnexpectedEof}
 use Rattle.amqp_base.specs.declared.format_code.EncodingCodes.{EncodingCodes}
 use Rattle.amqp_base.specs.Codes.{Kind, row}
 use Rattle.amqp_base.specs.Item.{Item, Scalar, scalar, list, map, array, described}
@@ -8,12 +10,12 @@ use Rattle.amqp_base.specs.Canon.{kind_of}
 use Rattle.amqp_base.specs.Wire.{Constructor, bare, under, under_pair, Wire, lenient, of_code, of_described}
 use Rattle.amqp_base.specs.Typing.{is_of}
 use Rattle.amqp_base.proofs.KindPlaces.{same_kind_is}
-use Rattle.amqp_read.specs.Reading.{Reading, Steady}
+use Rattle.amqp_read.specs.Reading.{Reading}
 use Rattle.amqp_de.specs.Decoding.{Decoding, stands_under}
-use Rattle.amqp_de.specs.Law.{Found, Missed, Excused, Spent, free, refused_free}
+use Rattle.amqp_de.specs.Law.{Found, Missed, Excused, Advances, Spent, free, refused_free}
 use Rattle.amqp_de.specs.Parse.{Parsed, byte_under, behind_byte, item_at, data_at}
-use Rattle.amqp_de.specs.Steps.{Begins, BeginsNot, IsData, Rejects, Exact, IsDescribed}
-use Rattle.amqp_de.proofs.Readings.{steady_then, takes_then, behind, excused_before, excused_more}
+use Rattle.amqp_de.specs.Steps.{Begins, BeginsNot, IsData, Rejects, Exact, BytesFirst, IsDescribed}
+use Rattle.amqp_de.proofs.Readings.{advances_then, onward, takes_then, behind, excused_before, excused_more}
 use Rattle.amqp_de.proofs.Data.{understands, behind_code}
 
 -- the state once the item's data were consumed
@@ -37,7 +39,7 @@ one_refused (under_pair d e) = omega arith
 pub spent_refused : (old new : Decoding) → Spent (free (stands_under old)) old new → Spent (refused_free (stands_under old)) old new
 spent_refused old new s = record { most = free_refused (stands_under old) _ _ s.most }
 
-pub begun_spent : (old mid new : Decoding) (b : ℕ) → Begins old mid b → Steady mid.reading new.reading → new.begun ≡ mid.begun → Spent (free (stands_under old)) old new
+pub begun_spent : (old mid new : Decoding) (b : ℕ) → Begins old mid b → Advances mid.reading new.reading → new.begun ≡ mid.begun → Spent (free (stands_under old)) old new
 begun_spent old mid new x b s q = record { most = omega (arith, b.begun, b.room, b.step.taken, s.taken, q) }
 
 -- an item of a kind has no parts
@@ -92,8 +94,8 @@ found takes v old mid r x h b d = record {
     described = b.described;
     begun = b.begun ∙ ap (λ (n : ℕ). old.begun + n) (sym (b.counts d.code (scalar v) d.code_is));
   };
-  spent = λ a. begun_spent old mid (answered mid r) x b d.step.steady refl;
-  steady = steady_then old.reading mid.reading r b.step.steady d.step.steady;
+  spent = λ a. begun_spent old mid (answered mid r) x b (onward d.step) refl;
+  steady = advances_then old.reading mid.reading r (onward b.step) (onward d.step);
 }
 
 -- no byte
@@ -106,6 +108,7 @@ missed_byte grows buffers old new e g n = record {
   spent = λ a. record { most = let f = n.few in let t = n.rejects.steady.taken in omega (arith, f, t, one_refused (stands_under old)) };
   steady = n.rejects.steady;
   device = n.rejects.device;
+  memory = λ m. or_right grows buffers (n.rejects.memory m);
 }
 
 -- no data
@@ -120,8 +123,9 @@ missed_data {takes = takes} parse grows buffers old mid r x e g b n = record {
       let parsed = behind_code parse x o.0 (o.1 ++ rest) o.2 ∙ g.understands o.0 o.1 rest p.0 taken v in
       excused_before old.reading mid.reading r b.text e b.step (not_refused mid.reading r _ _ e parsed (n.why (o.1 ++ rest) o.4 (b.step.steady.honest ∙ h)));
   spent = λ a. spent_refused old (refused mid r) (begun_spent old mid (refused mid r) x b n.steady refl);
-  steady = steady_then old.reading mid.reading r b.step.steady n.steady;
+  steady = advances_then old.reading mid.reading r (onward b.step) n.steady;
   device = λ d. let f = b.step.steady.faults in let g = n.device d in omega (arith, f, g);
+  memory = n.memory;
 }
 
 -- the exact answers
@@ -136,3 +140,15 @@ exact_data view parse grows buffers u old mid r x g h b d = record {
       let p = behind mid.reading r o.0 d.text d.step o.1 in
       (p.0, p.1, parsed_item parse (stands_under old) s x o.0 _ o.2 (behind_code parse x d.code o.0 d.code_is ∙ ap (parse d.code) p.2 ∙ g.understands d.code d.text p.0 (view u) h d.spelled));
 }
+
+-- ---- memory is asked for only where no bytes are missing
+
+pub byte_first : {A : Type 0} (parse : EncodingCodes → List ℕ → Parsed A) (buffers : Bool) (old new : Decoding) (e : Error) → BeginsNot buffers old new e → BytesFirst buffers (item_at parse (stands_under old)) old.reading e
+byte_first parse buffers old new e n = record { there = λ m. inl (n.rejects.memory m) }
+
+pub item_first : (parse : EncodingCodes → List ℕ → Parsed Scalar) (buffers : Bool) (old mid : Decoding) (x : ℕ) (e : Error) → Begins old mid x → BytesFirst buffers (behind_byte parse x) mid.reading e → BytesFirst buffers (item_at parse (stands_under old)) old.reading e
+item_first parse buffers old mid x e b f = record { there = λ m. tell (f.there m) }
+  where
+    tell : IsTrue buffers ⊎ ((s : List ℕ) → mid.reading.to_come ≡ Some s → behind_byte parse x s ≡ Err (Io UnexpectedEof) → ⊥) → IsTrue buffers ⊎ ((s : List ℕ) → old.reading.to_come ≡ Some s → item_at parse (stands_under old) s ≡ Err (Io UnexpectedEof) → ⊥)
+    tell (inl y) = inl y
+    tell (inr h) = inr (λ s at p. let o = b.exact s at in h o.0 o.1 (sym (parsed_item parse (stands_under old) s x o.0 _ o.2 refl) ∙ p))

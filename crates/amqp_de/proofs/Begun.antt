@@ -133,5 +133,5 @@ front_err buffers old r (Ok x) c t = tt
 front_err buffers old r (Err e) c u = record {
   rejects = rw c (unread_rejects byte_at 1 old.reading r e no_byte u);
   closed = refl;
-  few = omega arith;
+  few = refl;
 }

@@ -13,7 +13,7 @@ use Rattle.amqp_base.specs.Item.{Scalar, scalar}
 use Rattle.amqp_base.specs.Value.{payload}
 use Rattle.amqp_base.specs.Wire.{lenient, of_data, Data, of_fixed, fixed}
 use Rattle.amqp_base.proofs.KindPlaces.{same_kind_is, kind_same}
-use Rattle.amqp_base.specs.Refusals.{IsDevice}
+use Rattle.amqp_de.specs.Law.{IsCause}
 use Rattle.amqp_read.specs.Reading.{Reading, Takes, Stays}
 use Rattle.amqp_read.specs.Steps.{NotTaken}
 use Rattle.amqp_de.specs.Parse.{Parsed, any_code, behind_byte, bad_payload, data_at, by_category}
@@ -45,7 +45,7 @@ bad_data : (k : Kind) (e : EncodingCodes) (w : ℕ) (x s : List ℕ) → (row e)
 unfolding data_at
 bad_data k e w x s h c l p = rw (kind_same (row e).kind k h, c, bytes_there w x s l, p) refl
 
-pub fixed_bad : {grows buffers : Bool} (k : Kind) (b : ℕ) (e : EncodingCodes) (w : ℕ) (x : List ℕ) (old new : Reading) → code_of b ≡ Some e → (row e).kind ≡ k → (row e).category ≡ Fixed w → length x ≡ w → payload e x ≡ None → (IsDevice (bad_payload (row e).kind) → ⊥)
+pub fixed_bad : {grows buffers : Bool} (k : Kind) (b : ℕ) (e : EncodingCodes) (w : ℕ) (x : List ℕ) (old new : Reading) → code_of b ≡ Some e → (row e).kind ≡ k → (row e).category ≡ Fixed w → length x ≡ w → payload e x ≡ None → (IsCause (bad_payload (row e).kind) → ⊥)
     → Takes old new x → Rejects grows buffers (behind_byte (data_at k) b) old new (bad_payload (row e).kind)
 fixed_bad k b e w x old new c h f l p d t = rejects_after (behind_byte (data_at k) b) old new x (bad_payload (row e).kind) t d (λ s. behind_code (data_at k) b e (x ++ s) c ∙ bad_data k e w x s h f l p)
 
@@ -81,7 +81,7 @@ other_byte {A} parse b s n = tell (by_code b (code_of b) refl)
     tell (inl h) = no_code_here parse b s h
     tell (inr h) = a_code_here parse b h.0 s h.1 ∙ n h.0 h.2
 
-pub not_device : IsDevice InvalidFormatCode → ⊥
+pub not_device : IsCause InvalidFormatCode → ⊥
 not_device d = d
 
 pub other_refused : {grows buffers : Bool} (k : Kind) (b : ℕ) (r : Reading) → (k ≡ Kind.described → ⊥) → ((e : EncodingCodes) → code_of b ≡ Some e → (row e).kind ≡ k → ⊥) → Rejects grows buffers (behind_byte (data_at k) b) r r InvalidFormatCode

@@ -22,7 +22,7 @@ use Rattle.amqp_de.proofs.LookedFirst.{same_place, takes_behind, excused_kept, m
 use Rattle.amqp_de.proofs.MapHeaders.{map_codes}
 use Rattle.amqp_de.proofs.Pairs.{pairs_start}
 use Rattle.amqp_de.proofs.ReadParts.{progress_start}
-use Rattle.amqp_de.proofs.Readings.{steady_then}
+use Rattle.amqp_de.proofs.Readings.{advances_then, stayed}
 use Rattle.amqp_de.proofs.Received.{keeps_known}
 use Rattle.amqp_de.proofs.StructForms.{struct_is_map, struct_is_row}
 use Rattle.amqp_de.proofs.StructRead.{map_unopened}
@@ -93,8 +93,9 @@ module _ (old mid : Decoding) (x : EncodingCodes) (l : Looks old mid x) where
   rejects_behind : {buffers : Bool} (F G : EncodingCodes → List ℕ → Parsed ℕ) → ((s : List ℕ) → F x s ≡ G x s) → (last : Reading) (e : Error) → Rejects buffers buffers (item_at G (stands_under mid)) mid.reading last e → Rejects buffers buffers (item_at F (stands_under old)) old.reading last e
   rejects_behind {buffers} F G same last e n = record {
     why = λ s at h. tell s at (n.why s (known s at) (l.looked.stays.steady.honest ∙ h));
-    steady = steady_then old.reading mid.reading last l.looked.stays.steady n.steady;
+    steady = advances_then old.reading mid.reading last (stayed l.looked.stays) n.steady;
     device = λ d. let f = l.looked.stays.steady.faults in let g = n.device d in omega (arith, f, g);
+    memory = n.memory;
   }
     where
       tell : (s : List ℕ) → old.reading.to_come ≡ Some s → (item_at G (stands_under mid) s ≡ Err e) ⊎ Excused buffers buffers mid.reading last e → (item_at F (stands_under old) s ≡ Err e) ⊎ Excused buffers buffers old.reading last e
@@ -165,7 +166,7 @@ refused_code e = Err e
 pub no_form : (len : ℕ) (buffers : Bool) (old last : Decoding) (e : Error) → LooksNot buffers old last e → Stops old (refused_code e) last → NoStruct len buffers old last e
 no_form len buffers old last e n s = record {
   unanswered = λ u. let p = s.unanswered u in (err_is p.0, p.1);
-  rejects = λ a. let r = n.rejects a in record { why = λ t at h. tell t (r.why t at h); steady = r.steady; device = r.device };
+  rejects = λ a. let r = n.rejects a in record { why = λ t at h. tell t (r.why t at h); steady = r.steady; device = r.device; memory = r.memory };
   closed = s.err;
   missed = λ names fields h. missed_unseen (takes_struct names fields) buffers buffers old last e (λ b. b) n;
 }

@@ -1,7 +1,7 @@
 -- Sizes and counts, and the data of a list.
-use Rattle.std.proofs.Common.{◌≡◌, ℕ, zero, suc, ◌+◌, ◌<◌, ◌≤◌, Bool, true, false, List, [], ◌++◌, length, Some, None, Ok, Err, refl, sym, ap, ◌∙◌, arith, inl, inr, ◌⊎◌, append_assoc, IsTrue}
+use Rattle.std.proofs.Common.{◌≡◌, ℕ, ◌+◌, ◌<◌, ◌≤◌, Bool, true, false, List, [], ◌++◌, length, Some, None, Ok, Err, refl, sym, ap, ◌∙◌, arith, inl, inr, ◌⊎◌, append_assoc, IsTrue, nat_lt, ◌&&◌}
 use Rattle.std.proofs.lemmas.List.{length-append}
-use Rattle.std.proofs.lemmas.Bool.{le-ltb, lt-ltb}
+use Rattle.std.proofs.lemmas.Bool.{le-ltb, lt-ltb, ltb-false}
 use Rattle.std.specs.declared.io.ErrorKind.TheVariants.{UnexpectedEof}
 use Rattle.amqp_base.specs.declared.error.Error.{Error}
 use Rattle.amqp_base.specs.declared.error.Error.TheVariants.{Io, InvalidValue, InvalidLength, InvalidFormatCode}
@@ -13,11 +13,11 @@ use Rattle.amqp_base.specs.Codes.{Kind, row, code_of}
 use Rattle.amqp_base.specs.Item.{Item, list, Items, none, more, count, items, items_in}
 use Rattle.amqp_base.specs.Value.{number}
 use Rattle.amqp_base.specs.Wire.{bare, under, Wire, lenient, of_data, Data, of_fixed, of_variable, list0, of_list, of_map, of_array, empty_array, Parts, no_part}
-use Rattle.amqp_base.specs.Refusals.{IsDevice}
+use Rattle.amqp_de.specs.Law.{IsCause}
 use Rattle.amqp_base.proofs.Lists.{cut}
 use Rattle.amqp_read.specs.Reading.{Reading}
 use Rattle.amqp_de.specs.Law.{Excused}
-use Rattle.amqp_de.specs.Parse.{Parsed, ◌>>=◌, number_at, header_rule, header_at, count_at, list_data, behind_byte}
+use Rattle.amqp_de.specs.Parse.{Parsed, ◌>>=◌, number_at, header_rule, least_size, header_at, count_at, list_data, behind_byte}
 use Rattle.amqp_de.specs.Steps.{Number, Unread, Rejects, ParsesAs}
 use Rattle.amqp_de.specs.Access.{Within, HasParts, HasPairs, items_of_all, shared_by, OpensData, Header}
 use Rattle.amqp_de.proofs.Readings.{takes_nothing, takes_then, behind, unread_rejects, rejects_then, rejects_after, rejects_here}
@@ -58,7 +58,7 @@ no_count w a z buffers old mid new e n u =
     rejects_then (header_at w a) (λ s. number_at w s >>= λ k. header_rule w a z k.0 k.1) old mid new n.digits e n.step (λ s h. behind_size w z a n.digits s n.len n.value ∙ h)
     (unread_rejects (λ s. number_at w s >>= λ k. header_rule w a z k.0 k.1) w mid new e (count_short w z a) u)
 
-pub bad_header : (w : ℕ) (a : Bool) (z k : ℕ) (buffers : Bool) (old mid new : Reading) (e : Error) → Number w z old mid → Number w k mid new → (IsDevice e → ⊥)
+pub bad_header : (w : ℕ) (a : Bool) (z k : ℕ) (buffers : Bool) (old mid new : Reading) (e : Error) → Number w z old mid → Number w k mid new → (IsCause e → ⊥)
     → ((s : List ℕ) → header_rule w a z k s ≡ Err e) → Rejects buffers buffers (header_at w a) old new e
 bad_header w a z k buffers old mid new e n m d h =
     rejects_after (header_at w a) old new (n.digits ++ m.digits) e (takes_then old mid new n.digits m.digits n.step m.step) d
@@ -67,20 +67,20 @@ bad_header w a z k buffers old mid new e n m d h =
 pub too_many : (w : ℕ) (a : Bool) (z k : ℕ) (s : List ℕ) → 65536 < k → header_rule w a z k s ≡ Err InvalidValue
 too_many w a z k s h = rw (lt-ltb 65536 k h) refl
 
-pub above_size : (w z k : ℕ) (s : List ℕ) → k ≤ 65536 → z < k → header_rule w true z k s ≡ Err InvalidValue
-above_size w z k s h l = rw (le-ltb 65536 k h, lt-ltb z k l) refl
+pub above_size : (w : ℕ) (a : Bool) (z k : ℕ) (s : List ℕ) → k ≤ 65536 → (a && nat_lt z k) ≡ true → header_rule w a z k s ≡ Err InvalidValue
+above_size w a z k s h l = rw (le-ltb 65536 k h, l) refl
 
-pub small_array : (w z k : ℕ) (s : List ℕ) → k ≤ 65536 → k ≤ z → z < w → 0 < k → header_rule w true z k s ≡ Err InvalidLength
-small_array w z zero s h l m n = absurd (omega arith)
-small_array w z (suc k) s h l m n = rw (le-ltb 65536 (suc k) h, le-ltb z (suc k) l, lt-ltb z w m) refl
-
-pub small_list : (w z k : ℕ) (s : List ℕ) → k ≤ 65536 → z < w → header_rule w false z k s ≡ Err InvalidLength
-small_list w z k s h m = rw (le-ltb 65536 k h, lt-ltb z w m) refl
+pub small_size : (w : ℕ) (a : Bool) (z k : ℕ) (s : List ℕ) → k ≤ 65536 → (a && nat_lt z k) ≡ false → z < least_size w a k → header_rule w a z k s ≡ Err InvalidLength
+small_size w a z k s h l m = rw (le-ltb 65536 k h, l, lt-ltb z (least_size w a k) m) refl
 
 good_list : (w z k : ℕ) (s : List ℕ) → k ≤ 65536 → w ≤ z → header_rule w false z k s ≡ Ok ((z, k), s)
 good_list w z k s h m = rw (le-ltb 65536 k h, le-ltb z w m) refl
 
-pub header_of : (w : ℕ) (a : Bool) (z k : ℕ) (old mid new : Reading) → Number w z old mid → Number w k mid new → k ≤ 65536 → (IsTrue a → k ≤ z) → (w ≤ z) ⊎ (IsTrue a × (k ≡ 0)) → Header w a z k old new
+pub within_size : (a : Bool) (z k : ℕ) → (a && nat_lt z k) ≡ false → IsTrue a → k ≤ z
+within_size true z k h t = ltb-false z k h
+within_size false z k h t = absurd cc t
+
+pub header_of : (w : ℕ) (a : Bool) (z k : ℕ) (old mid new : Reading) → Number w z old mid → Number w k mid new → k ≤ 65536 → (a && nat_lt z k) ≡ false → least_size w a k ≤ z → Header w a z k old new
 header_of w a z k old mid new n m few fits wide = record {
   zs = n.digits;
   ks = m.digits;
@@ -90,7 +90,7 @@ header_of w a z k old mid new n m few fits wide = record {
   count = m.value;
   step = takes_then old mid new n.digits m.digits n.step m.step;
   few = few;
-  fits = fits;
+  fits = within_size a z k fits;
   small = m.small;
   wide = wide;
 }
@@ -142,10 +142,6 @@ map_body (empty_array z k b lz lk nk f) w is q m = absurd m
 pub under_data : {e : EncodingCodes} {t : List ℕ} {i : Item} → Wire lenient (under e) t i → Data lenient e (row e).kind (row e).category t i
 under_data (of_data h) = h
 
-wide_of : (w z k : ℕ) → (w ≤ z) ⊎ (IsTrue false × (k ≡ 0)) → w ≤ z
-wide_of w z k (inl h) = h
-wide_of w z k (inr h) = absurd cc
-
 -- behind the header of a list or a map stand its parts
 pub header_opens : (Has : Item → Items → Type 0) (x : ℕ) (e : EncodingCodes) (w z k : ℕ) (old new : Reading) → code_of x ≡ Some e → 1 ≤ w → Header w false z k old new
     → ((zs ks b : List ℕ) (is : Items) → length zs ≡ w → length ks ≡ w → number ks ≡ count is → count is ≡ k → Parts lenient bare b is → (w ≤ number zs) × (number ks ≤ 65536)
@@ -158,7 +154,7 @@ header_opens Has x e w z k old new code_is some h makes splits = record {
   text = h.zs ++ h.ks;
   step = h.step;
   whole = λ b is ps n fits.
-      let m = makes h.zs h.ks b is h.len_z h.len_k (h.count ∙ sym n) n ps (rw h.size (wide_of w z k h.wide), rw h.count h.few) in
+      let m = makes h.zs h.ks b is h.len_z h.len_k (h.count ∙ sym n) n ps (rw h.size h.wide, rw h.count h.few) in
       (m.0, rw (append_assoc h.zs h.ks b) m.1, m.2, omega (arith, bare_items is, m.3));
   only = λ t rest' i is m y at.
       let l = splits t i is m y in
@@ -211,7 +207,7 @@ list0_opens r = record {
 
 -- a header that is refused, whatever is looked at behind it
 pub header_rejected : (next : (ℕ × ℕ) × List ℕ → Parsed ℕ) (w : ℕ) (buffers : Bool) (old new : Reading) (err : Error) → Rejects buffers buffers (header_at w false) old new err → Rejects buffers buffers (λ s. header_at w false s >>= next) old new err
-header_rejected next w buffers old new err n = record { why = λ s at h. tell s (n.why s at h); steady = n.steady; device = n.device }
+header_rejected next w buffers old new err n = record { why = λ s at h. tell s (n.why s at h); steady = n.steady; device = n.device; memory = n.memory }
   where
     tell : (s : List ℕ) → (header_at w false s ≡ Err err) ⊎ Excused buffers buffers old new err → ((header_at w false s >>= next) ≡ Err err) ⊎ Excused buffers buffers old new err
     tell s (inl p) = inl (rw p refl)
@@ -220,7 +216,7 @@ header_rejected next w buffers old new err n = record { why = λ s at h. tell s 
 -- data behind their code that are refused
 pub data_refused : (parse : EncodingCodes → List ℕ → Parsed ℕ) (front : List ℕ → Parsed ℕ) (x : ℕ) (e : EncodingCodes) (buffers : Bool) (old new : Reading) (err : Error) → code_of x ≡ Some e → ((s : List ℕ) → parse e s ≡ front s)
     → Rejects buffers buffers front old new err → Rejects buffers buffers (behind_byte parse x) old new err
-data_refused parse front x e buffers old new err c is n = record { why = λ s at h. tell s (n.why s at h); steady = n.steady; device = n.device }
+data_refused parse front x e buffers old new err c is n = record { why = λ s at h. tell s (n.why s at h); steady = n.steady; device = n.device; memory = n.memory }
   where
     tell : (s : List ℕ) → (front s ≡ Err err) ⊎ Excused buffers buffers old new err → (behind_byte parse x s ≡ Err err) ⊎ Excused buffers buffers old new err
     tell s (inl p) = inl (behind_code parse x e s c ∙ (is s ∙ p))
@@ -285,7 +281,7 @@ list_parses e t rest' i is m w = tell (list_codes e (list_kind (under_data w) is
 
 -- a header of a list or a map that was consumed is good
 pub header_good : (w z k : ℕ) (old new : Reading) → (h : Header w false z k old new) → (r : List ℕ) → header_at w false ((h.zs ++ h.ks) ++ r) ≡ Ok ((z, k), r)
-header_good w z k old new h r = behind_count w z k false h.zs h.ks r h.len_z h.size h.len_k h.count ∙ good_list w z k r h.few (wide_of w z k h.wide)
+header_good w z k old new h r = behind_count w z k false h.zs h.ks r h.len_z h.size h.len_k h.count ∙ good_list w z k r h.few h.wide
 
 -- the header that was consumed
 pub header_exact : (parse : EncodingCodes → List ℕ → Parsed ℕ) (next : (ℕ × ℕ) × List ℕ → Parsed ℕ) (x : ℕ) (e : EncodingCodes) (w z k : ℕ) (old new : Reading) → code_of x ≡ Some e → ((s : List ℕ) → parse e s ≡ (header_at w false s >>= next)) → Header w false z k old new

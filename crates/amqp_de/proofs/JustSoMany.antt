@@ -12,6 +12,7 @@ use Rattle.amqp_de.specs.Law.{Excused}
 use Rattle.amqp_de.specs.Parse.{Parsed, ◌>>=◌, byte_under, any_code, with_rest, behind_byte, item_at, list_data, of_length, tuple_data}
 use Rattle.amqp_de.specs.Access.{Listing, HasParts, Opens, OpensExactly, OpensNot}
 use Rattle.amqp_de.specs.ReadParts.{NoTuple, RefusesTuple}
+use Rattle.amqp_de.proofs.Readings.{onward}
 use Rattle.amqp_de.proofs.PartsRead.{right_of, missed_more}
 use Rattle.amqp_de.proofs.ReadParts.{fields_unopened, progress_start, not_taken}
 
@@ -51,7 +52,7 @@ tuple_exactly len old l o h = record {
 pub tuple_unopened : (len : ℕ) (buffers : Bool) (old last : Decoding) (e : Error) → OpensNot HasParts list_data buffers buffers old last e → NoTuple len buffers old last e
 tuple_unopened len buffers old last e o = record {
   unanswered = o.unanswered;
-  rejects = λ a. let r = o.rejects a in record { why = λ s at h. tell s (r.why s at h); steady = r.steady; device = r.device };
+  rejects = λ a. let r = o.rejects a in record { why = λ s at h. tell s (r.why s at h); steady = r.steady; device = r.device; memory = r.memory };
   closed = o.closed;
   missed = λ fields n. fields_unopened fields buffers buffers old last e o;
 }
@@ -68,8 +69,9 @@ other_tuple len buffers old l o x h = record {
     why = λ s at f.
         let p = x.exact s at in
         inl (tuple_item len (stands_under old) s ∙ (ap (λ (y : Parsed ℕ). y >>= λ n. of_length len n.0 n.1) p.2 ∙ other_length len l.left p.0 h));
-    steady = o.step.steady;
+    steady = (onward o.step);
     device = λ d. absurd d;
+    memory = λ m. absurd cc;
   };
   closed = o.closed;
   missed = λ fields n. not_taken old fields fields none l (progress_start old l o fields) buffers buffers l.state refl refl (λ js c t. h (sym c ∙ (count_fields fields js t ∙ n)));

@@ -2,6 +2,7 @@ pub mod Received
 pub mod Readings
 pub mod Weaker
 pub mod Begun
+pub mod ChosenRead
 pub mod Data
 pub mod Answered
 pub mod FixedWidth

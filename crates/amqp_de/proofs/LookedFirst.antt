@@ -15,7 +15,7 @@ use Rattle.amqp_de.specs.Decoding.{Decoding, stands_under}
 use Rattle.amqp_de.specs.Law.{Found, Missed, Excused, Overfull, Spent, refused_free, no_memory, faulted, uncounted}
 use Rattle.amqp_de.specs.Look.{item_kind, looked_at, Looks, LooksNot}
 use Rattle.amqp_de.proofs.Received.{agree_front, left_behind, keeps_known, may_known, may_taken}
-use Rattle.amqp_de.proofs.Readings.{steady_then, excused_more}
+use Rattle.amqp_de.proofs.Readings.{advances_then, steady_then, stayed, excused_more}
 use Rattle.amqp_de.proofs.Answered.{of_kind_is, not_refused, spent_refused}
 use Rattle.amqp_de.proofs.Looking.{own_byte, code_stands}
 
@@ -32,7 +32,7 @@ keeps_consumes (Some t) (Some u) (Some v) x h c = sym h ∙ c
 
 pub excused_kept : {grows buffers : Bool} (old mid new : Reading) (e : Error) → Stays old mid → Excused grows buffers mid new e → Excused grows buffers old new e
 excused_kept old mid new e s (no_memory p q) = no_memory p q
-excused_kept old mid new e s (faulted p q) = faulted (let f = s.steady.faults in omega (arith, f, p)) q
+excused_kept old mid new e s (faulted i p q) = faulted i (let f = s.steady.faults in omega (arith, f, p)) q
 excused_kept old mid new e s (uncounted p q o) = uncounted p q (keeps_overfull old.taken old.to_come mid.to_come s.to_come (rw s.taken at o))
 
 -- the next item stands under the same
@@ -70,7 +70,7 @@ found_behind takes means old mid new x l f = record {
         begun = rw (← same, ← l.begun) o.begun;
       };
   spent = λ a. let same = same_place old mid x l in let s = f.spent l.answers in spent_behind old mid new x _ l (rw same at s);
-  steady = steady_then old.reading mid.reading new.reading l.looked.stays.steady f.steady;
+  steady = advances_then old.reading mid.reading new.reading (stayed l.looked.stays) f.steady;
 }
 
 pub missed_of_kind : (takes some : Item → Bool) (more grows buffers : Bool) (old mid new : Decoding) (x : EncodingCodes) (e : Error) → (IsTrue more → IsTrue grows) → ((i : Item) → (row x).kind ≡ item_kind i → IsTrue (some i) → IsTrue (takes i)) → Looks old mid x → Missed takes more buffers mid new e
@@ -82,8 +82,9 @@ missed_of_kind takes some more grows buffers old mid new x e g h l m = record {
       let known = keeps_known old.reading.to_come mid.reading.to_come (t ++ rest) l.looked.stays.to_come at in
       excused_kept old.reading mid.reading new.reading e l.looked.stays (excused_more mid.reading new.reading e g (m.why l.answers i t rest v (h i (l.kind i t w (may_known mid.reading t rest known)) q) known (l.looked.stays.steady.honest ∙ f)));
   spent = λ a. let same = same_place old mid x l in let s = m.spent l.answers in spent_behind old mid new x _ l (rw same at s);
-  steady = steady_then old.reading mid.reading new.reading l.looked.stays.steady m.steady;
+  steady = advances_then old.reading mid.reading new.reading (stayed l.looked.stays) m.steady;
   device = λ d. let f = l.looked.stays.steady.faults in let n = m.device d in omega (arith, f, n);
+  memory = λ n. g (m.memory n);
 }
 
 pub missed_behind : (takes some : Item → Bool) (more grows buffers : Bool) (old mid new : Decoding) (x : EncodingCodes) (e : Error) → (IsTrue more → IsTrue grows) → ((i : Item) → IsTrue (some i) → IsTrue (takes i)) → Looks old mid x → Missed takes more buffers mid new e
@@ -104,8 +105,9 @@ missed_unseen takes grows buffers old new e g n = record {
       let r = n.rejects a in
       excused_more old.reading new.reading e g (not_refused old.reading new.reading _ s.0 e s.1 (r.why (t ++ rest) at h));
   spent = λ a. none_spent old new n.begun n.stays;
-  steady = n.stays.steady;
+  steady = (stayed n.stays);
   device = n.device;
+  memory = λ m. g (n.memory m);
 }
 
 pub missed_look : (k : Kind) (buffers : Bool) (old new : Decoding) (e : Error) → LooksNot buffers old new e → Missed (is_of k) true buffers old new e
@@ -122,8 +124,9 @@ pub missed_custom : (k : Kind) (buffers : Bool) (old new : Decoding) (x : Encodi
 missed_custom k buffers old new x text e l n c = record {
   why = λ a i t rest w q at h. absurd (n (l.kind i t w (may_known new.reading t rest (keeps_known old.reading.to_come new.reading.to_come (t ++ rest) l.looked.stays.to_come at)) ∙ kind_is k i q));
   spent = λ a. none_spent old new l.begun l.looked.stays;
-  steady = l.looked.stays.steady;
+  steady = (stayed l.looked.stays);
   device = λ d. absurd (custom_device text e c d);
+  memory = λ _. refl;
 }
 
 -- an item of another kind was read
@@ -137,6 +140,7 @@ missed_other k buffers takes means old mid new x l f n = record {
       let v : Wire lenient (stands_under old) o.text o.item = rw same at (o.spelled) in
       absurd (n o.item o.value (sym (l.kind o.item o.text v (may_taken mid.reading new.reading o.text o.step)) ∙ l.kind i t w (may_known mid.reading t rest known) ∙ kind_is k i q));
   spent = λ a. let same = same_place old mid x l in let s = f.spent l.answers in spent_refused old new (spent_behind old mid new x _ l (rw same at s));
-  steady = steady_then old.reading mid.reading new.reading l.looked.stays.steady f.steady;
+  steady = advances_then old.reading mid.reading new.reading (stayed l.looked.stays) f.steady;
   device = λ d. absurd d;
+  memory = λ _. refl;
 }

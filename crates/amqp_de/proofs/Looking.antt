@@ -18,7 +18,7 @@ use Rattle.amqp_de.specs.Decoding.{Decoding, stands_under}
 use Rattle.amqp_de.specs.Parse.{Parsed, any_code, code_or_refusal, behind_byte, code_at}
 use Rattle.amqp_de.specs.Look.{item_kind, looked_at, Peeks, PeeksNot, Looks}
 use Rattle.amqp_de.proofs.Received.{keeps_known, shown_known, shown_first}
-use Rattle.amqp_de.proofs.Readings.{steady_same}
+use Rattle.amqp_de.proofs.Readings.{steady_same, stayed}
 use Rattle.amqp_de.proofs.Data.{any_code_is, data_kind}
 use Rattle.amqp_de.proofs.KindCodes.{code_byte}
 use Rattle.amqp_de.proofs.FixedWidth.{not_device}
@@ -59,8 +59,9 @@ peeks_not buffers b (Err e) old new c s l = record {
   looked = l;
   rejects = record {
     why = λ t at h. let f = shown_known new t b s (keeps_known old.to_come new.to_come t l.stays.to_come at) in inl (no_code_here b t f.0 f.1 (any_none b c.1) ∙ ap Err (sym c.0));
-    steady = l.stays.steady;
+    steady = (stayed l.stays);
     device = λ d. absurd (not_device (rw c.0 at d));
+    memory = λ m. absurd cc (m, c.0);
   };
 }
 

@@ -13,7 +13,7 @@ use Rattle.amqp_de.specs.Parse.{Parsed, byte_under, behind_byte, item_at}
 use Rattle.amqp_de.specs.Steps.{Begins, BeginsNot, IsDescribed, Rejects, ParsesAs}
 use Rattle.amqp_de.specs.Look.{looked_at}
 use Rattle.amqp_de.specs.Access.{Listing, HasParts, HasPairs, shared_by, cost, OpensData, Opens, OpensExactly, OpensNot}
-use Rattle.amqp_de.proofs.Readings.{steady_then, takes_then, excused_before}
+use Rattle.amqp_de.proofs.Readings.{advances_then, onward, takes_then, excused_before}
 use Rattle.amqp_de.proofs.Answered.{byte_stands, not_refused}
 use Rattle.amqp_de.proofs.Data.{behind_code}
 
@@ -95,7 +95,7 @@ opens_exactly parse old mid r x c begun left limit b d = record {
 }
 
 refused_byte : {buffers : Bool} (parse : EncodingCodes → List ℕ → Parsed ℕ) (old new : Decoding) (e : Error) → BeginsNot buffers old new e → Rejects buffers buffers (item_at parse (stands_under old)) old.reading new.reading e
-refused_byte {buffers = buffers} parse old new e n = record { why = λ s at h. tell s (n.rejects.why s at h); steady = n.rejects.steady; device = n.rejects.device }
+refused_byte {buffers = buffers} parse old new e n = record { why = λ s at h. tell s (n.rejects.why s at h); steady = n.rejects.steady; device = n.rejects.device; memory = n.rejects.memory }
   where
     tell : (s : List ℕ) → (byte_under (stands_under old) s ≡ Err e) ⊎ Excused buffers buffers old.reading new.reading e → (item_at parse (stands_under old) s ≡ Err e) ⊎ Excused buffers buffers old.reading new.reading e
     tell s (inl p) = inl (no_byte parse (stands_under old) s e p)
@@ -110,8 +110,9 @@ opens_no_item Has plain parse buffers old new e a n = record {
       not_refused old.reading new.reading _ s.0 e s.1 (n.rejects.why (t ++ rest) at h);
   steady = n.rejects.steady;
   device = n.rejects.device;
+  memory = n.rejects.memory;
   closed = n.closed;
-  few = n.few;
+  few = λ _. n.few;
 }
 
 -- the state where the data were refused
@@ -125,17 +126,19 @@ opens_no_data Has plain parse parses buffers old mid r x e a b n = record {
   unanswered = λ c. absurd cc (a, c);
   rejects = λ _. record {
     why = λ s at h. let o = b.exact s at in tell s o.0 o.2 (n.why o.0 o.1 (b.step.steady.honest ∙ h));
-    steady = steady_then old.reading mid.reading r b.step.steady n.steady;
+    steady = advances_then old.reading mid.reading r (onward b.step) n.steady;
     device = device;
+    memory = n.memory;
   };
   why = λ t rest i is p w at h _.
       let o = b.only t rest i (plain i is p) w at in
       let q = parses o.0 o.1 rest i is p o.3 in
       excused_before old.reading mid.reading r b.text e b.step (not_refused mid.reading r _ q.0 e (behind_code parse x o.0 (o.1 ++ rest) o.2 ∙ q.1) (n.why (o.1 ++ rest) o.4 (b.step.steady.honest ∙ h)));
-  steady = steady_then old.reading mid.reading r b.step.steady n.steady;
+  steady = advances_then old.reading mid.reading r (onward b.step) n.steady;
   device = device;
+  memory = n.memory;
   closed = b.closed;
-  few = omega (arith, b.begun);
+  few = λ _. b.begun;
 }
   where
     device : IsDevice e → old.reading.faults < r.faults

@@ -1,5 +1,5 @@
 -- Reading a map, key by key and value by value.
-use Rattle.std.proofs.Common.{◌≡◌, ◌%◌, Bool, true, ◌&&◌, ◌||◌, List, [], ◌∷◌, ◌++◌, Option, Some, None, Result, Ok, Err, IfOk, IfErr, OnOk, refl, sym, ap, subst, ◌∙◌, arith, IsTrue}
+use Rattle.std.proofs.Common.{◌≡◌, ◌%◌, Bool, true, ◌&&◌, List, [], ◌∷◌, ◌++◌, Some, Result, Ok, Err, IfOk, IfErr, refl, sym, ap, ◌∙◌, arith, IsTrue}
 use Rattle.std.proofs.lemmas.List.Sums.{fold-append}
 use Rattle.amqp_base.specs.declared.error.Error.{Error}
 use Rattle.amqp_base.specs.declared.error.Error.TheVariants.{InvalidValue, OutOfMemory}
@@ -8,14 +8,13 @@ use Rattle.amqp_base.specs.Maps.{all_pairs_taken, is_map_of, all_pairs_mean, Mea
 use Rattle.amqp_de.specs.Decoding.{Decoding}
 use Rattle.amqp_de.specs.Law.{Found, Missed}
 use Rattle.amqp_de.specs.Parse.{map_data}
-use Rattle.amqp_de.specs.Access.{Listing, HasPairs, Opens, OpensNot, Part, NoPart, Ends, ended}
+use Rattle.amqp_de.specs.Access.{Listing, HasPairs, Opens, OpensNot, Part, NoPart, AllRead, Ends, ended}
 use Rattle.amqp_de.specs.ReadParts.{and_last, joined}
-use Rattle.amqp_de.specs.ReadPairs.{KeyNext, ValueNext, broken_off, OutOfTurn, NextKey, NextValue, NextPair, NextEntry, no_key, no_value, and_pair, PairsRead, KeyRead, MoreKey, MoreValue, MorePair, NoMap}
+use Rattle.amqp_de.specs.ReadPairs.{KeyNext, ValueNext, broken_off, OutOfTurn, NextPair, NoEntry, no_key, no_value, and_pair, PairsRead, KeyRead, MorePair, NoMap}
 use Rattle.amqp_de.proofs.Weaker.{found_as}
 use Rattle.amqp_de.proofs.Turns.{and_pairs, pair_turn, one_turn, key_and_value, own_value}
 use Rattle.amqp_de.proofs.PartsRead as read
 use Rattle.amqp_de.proofs.PartsRead.{both, left_of, right_of, missed_more}
-use Rattle.amqp_de.proofs.ReadParts.{or_left, or_right, or_more}
 
 module _ (key value : Item → Bool) where
   taken_pair : (ps : Pairs) (k v : Item) → IsTrue (all_pairs_taken key value ps) → IsTrue (key k) → IsTrue (value v) → IsTrue (all_pairs_taken key value (and_pair ps k v))
@@ -61,21 +60,21 @@ module _ (key value : Item → Bool) where
   pub map_unopened : {grows buffers : Bool} {old last : Decoding} {e : Error} → OpensNot HasPairs map_data grows buffers old last e → Missed (is_map_of key value) grows buffers old last e
   map_unopened o = read.unopened (is_map_of key value) Taken sorts o
 
-  pub key_more : (old : Decoding) (pairs : Pairs) (now next : Listing) (s : PairsRead old key value pairs now) {means : Item → Type 0} → (p : Part key means now next) → next.outer ≡ now.outer → next.limit ≡ now.limit → KeyRead old key value pairs p.front.item next
-  key_more old pairs now next s p outer limit = record {
+  pub key_more : (old : Decoding) (pairs : Pairs) (now next : Listing) (s : PairsRead old key value pairs now) {means : Item → Type 0} → (p : Part key means now next) → KeyRead old key value pairs p.front.item next
+  key_more old pairs now next s p = record {
     from = s.from;
     opened = s.opened;
-    reads = read.parts_more s.from (in_turn pairs) now next s.reads p outer limit;
+    reads = read.parts_more s.from (in_turn pairs) now next s.reads p;
     taken = s.taken;
     key_taken = p.front.taken;
     turn = let t = s.turn in omega (arith, t, p.left);
   }
 
-  pub value_more : (old : Decoding) (pairs : Pairs) (last : Item) (now next : Listing) (s : KeyRead old key value pairs last now) {means : Item → Type 0} → (p : Part value means now next) → next.outer ≡ now.outer → next.limit ≡ now.limit → PairsRead old key value (and_pair pairs last p.front.item) next
-  value_more old pairs last now next s p outer limit = record {
+  pub value_more : (old : Decoding) (pairs : Pairs) (last : Item) (now next : Listing) (s : KeyRead old key value pairs last now) {means : Item → Type 0} → (p : Part value means now next) → PairsRead old key value (and_pair pairs last p.front.item) next
+  value_more old pairs last now next s p = record {
     from = s.from;
     opened = s.opened;
-    reads = rw (pair_turn pairs last p.front.item) (read.parts_more s.from (and_last (in_turn pairs) last) now next s.reads p outer limit);
+    reads = rw (pair_turn pairs last p.front.item) (read.parts_more s.from (and_last (in_turn pairs) last) now next s.reads p);
     taken = taken_pair pairs last p.front.item s.taken s.key_taken p.front.taken;
     turn = let t = s.turn in omega (arith, t, p.left);
   }
@@ -114,73 +113,39 @@ turned_away Turn takes grows buffers old new not_now n = record {
   other = λ _. (refl, n);
   refused = λ t. absurd (not_now t);
   closed = ap (λ (l : Listing). l.answers) n;
+  silent = λ u. ap (λ (l : Listing). l.state.answers) n ∙ u;
 }
 
 -- in turn, but refused
 pub part_refused : (Turn : Listing → Type 0) (takes : Item → Bool) (grows buffers : Bool) (old new : Listing) (e : Error) → Turn old → NoPart takes grows buffers old new e → OutOfTurn Turn takes grows buffers old new e
-part_refused Turn takes grows buffers old new e t n = record { unanswered = n.unanswered; other = λ no. absurd (no t); refused = λ _. n; closed = n.closed }
+part_refused Turn takes grows buffers old new e t n = record { unanswered = n.unanswered; other = λ no. absurd (no t); refused = λ _. n; closed = n.closed; silent = n.silent }
 
-module _ (buffers : Bool) (now : Listing) where
-  pub key_part : {K : Type 0} (t : Item → Bool) (means : Item → K → Type 0) (grows : Bool) (next : Listing) (r : Result (Option K) Error) → NextKey t means grows buffers now r next → next.outer ≡ now.outer → next.limit ≡ now.limit
-      → IfOk r (λ o. (k : K) → o ≡ Some k → (old : Decoding) (value : Item → Bool) (pairs : Pairs) → PairsRead old t value pairs now → MoreKey old t value pairs (λ i. means i k) next)
-  key_part t means grows next (Ok None) n outer limit = λ k e. absurd cc
-  key_part {K} t means grows next (Ok (Some w)) n outer limit = λ k e old value pairs s.
-      let p = subst (λ (x : K). Part t (λ i. means i x) now next) (some_same e) n.0 in
-      record { item = p.front.item; meant = p.front.value; more = key_more t value old pairs now next s p outer limit }
-  key_part t means grows next (Err e) n outer limit = tt
+-- ---- what callers say of an access
 
-  pub key_refused : {K : Type 0} (t : Item → Bool) (means : Item → K → Type 0) (grows : Bool) (next : Listing) (r : Result (Option K) Error) → NextKey t means grows buffers now r next
-      → IfErr r (λ e. (old : Decoding) (value : Item → Bool) (pairs : Pairs) → PairsRead old t value pairs now → Missed (is_map_of t value) grows buffers old next.state e)
-  key_refused t means grows next (Ok o) n = tt
-  key_refused t means grows next (Err e) n = λ old value pairs s. key_missed t value old pairs now next s grows buffers e n
-
-  pub value_part : {V : Type 0} (t : Item → Bool) (means : Item → V → Type 0) (grows : Bool) (next : Listing) (r : Result V Error) → NextValue t means grows buffers now r next → next.outer ≡ now.outer → next.limit ≡ now.limit
-      → IfOk r (λ v. (old : Decoding) (key : Item → Bool) (pairs : Pairs) (last : Item) → KeyRead old key t pairs last now → MoreValue old key t pairs last (λ i. means i v) next)
-  value_part t means grows next (Ok v) n outer limit = λ old key pairs last s.
-      record { item = n.0.front.item; meant = n.0.front.value; more = value_more key t old pairs last now next s n.0 outer limit }
-  value_part t means grows next (Err e) n outer limit = tt
-
-  pub value_refused : {V : Type 0} (t : Item → Bool) (means : Item → V → Type 0) (grows : Bool) (next : Listing) (r : Result V Error) → NextValue t means grows buffers now r next
-      → IfErr r (λ e. (old : Decoding) (key : Item → Bool) (pairs : Pairs) (last : Item) → KeyRead old key t pairs last now → Missed (is_map_of key t) grows buffers old next.state e)
-  value_refused t means grows next (Ok v) n = tt
-  value_refused t means grows next (Err e) n = λ old key pairs last s. value_missed key t old pairs last now next s grows buffers e n
-
+module _ {old : Decoding} {key value : Item → Bool} {pairs : Pairs} {now : Listing} where
   -- a pair is the next two parts
-  pub entry_part : {K V : Type 0} (kt vt : Item → Bool) (km : Item → K → Type 0) (vm : Item → V → Type 0) (kg vg : Bool) (next : Listing) (r : Result (Option (K × V)) Error) → NextEntry kt vt km vm kg vg buffers now r next → next.outer ≡ now.outer → next.limit ≡ now.limit
-      → IfOk r (λ o. (k : K) (v : V) → o ≡ Some (k, v) → (old : Decoding) (pairs : Pairs) → PairsRead old kt vt pairs now → MorePair old kt vt pairs (λ i. km i k) (λ i. vm i v) next)
-  entry_part kt vt km vm kg vg next (Ok None) n outer limit = λ k v e. absurd cc
-  entry_part {K} {V} kt vt km vm kg vg next (Ok (Some w)) n outer limit = λ k v e old pairs s.
-      let n' = subst (λ (x : K × V). NextPair kt vt km vm kg vg buffers now x.0 x.1 next) (some_same e) n in
-      let p = n'.key_read.0 in
-      let q = n'.value_read.0 in
-      let a = key_more kt vt old pairs now n'.between s p n'.same_outer n'.same_limit in
+  pub pair_read : {K V : Type 0} {km : Item → K → Type 0} {vm : Item → V → Type 0} {kg vg buffers : Bool} {next : Listing} {k : K} {v : V} → PairsRead old key value pairs now → NextPair key value km vm kg vg buffers now k v next
+      → MorePair old key value pairs (λ i. km i k) (λ i. vm i v) next
+  pair_read {next = next} s n =
+      let p = n.key_read.0 in
+      let q = n.value_read.0 in
+      let a = key_more key value old pairs now n.between s p in
       record {
         key_item = p.front.item;
         value_item = q.front.item;
         key_meant = p.front.value;
         value_meant = q.front.value;
-        more = value_more kt vt old pairs p.front.item n'.between next a q (outer ∙ sym n'.same_outer) (limit ∙ sym n'.same_limit);
+        more = value_more key value old pairs p.front.item n.between next a q;
       }
-  entry_part kt vt km vm kg vg next (Err e) n outer limit = tt
 
-  pub entry_refused : {K V : Type 0} (kt vt : Item → Bool) (km : Item → K → Type 0) (vm : Item → V → Type 0) (kg vg : Bool) (next : Listing) (r : Result (Option (K × V)) Error) → NextEntry kt vt km vm (kg || buffers) (vg || buffers) buffers now r next
-      → IfErr r (λ e. (old : Decoding) (pairs : Pairs) → PairsRead old kt vt pairs now → Missed (is_map_of kt vt) ((kg || vg) || buffers) buffers old next.state e)
-  entry_refused kt vt km vm kg vg next (Ok o) n = tt
-  entry_refused kt vt km vm kg vg next (Err e) (no_key n) = λ old pairs s. missed_more (or_more kg (kg || vg) buffers (or_left kg vg)) (key_missed kt vt old pairs now next s (kg || buffers) buffers e n)
-  entry_refused kt vt km vm kg vg next (Err e) (no_value k mid p outer limit n) = λ old pairs s.
-      missed_more (or_more vg (kg || vg) buffers (or_right kg vg)) (value_missed kt vt old pairs p.0.front.item mid next (key_more kt vt old pairs now mid s p.0 outer limit) (vg || buffers) buffers e n)
+  -- one is refused
+  pub pair_refused : {K : Type 0} {km : Item → K → Type 0} {kg vg buffers : Bool} {next : Listing} {e : Error} → PairsRead old key value pairs now → NoEntry key value km kg vg buffers now next e → Missed (is_map_of key value) true buffers old next.state e
+  pair_refused {next = next} {e = e} s (no_key n) = missed_more (λ _. refl) (key_missed key value old pairs now next s _ _ e n)
+  pair_refused {next = next} {e = e} s (no_value k mid p n) = missed_more (λ _. refl) (value_missed key value old pairs p.0.front.item mid next (key_more key value old pairs now mid s p.0) _ _ e n)
 
-  -- none is left: nothing changes
-  pub entry_none : {K V : Type 0} (kt vt : Item → Bool) (km : Item → K → Type 0) (vm : Item → V → Type 0) (kg vg : Bool) (next : Listing) (r : Result (Option (K × V)) Error) → NextEntry kt vt km vm kg vg buffers now r next
-      → IfOk r (λ o. o ≡ None → (old : Decoding) (key value : Item → Bool) (pairs : Pairs) → PairsRead old key value pairs now → PairsRead old key value pairs next)
-  entry_none kt vt km vm kg vg next (Ok None) n = λ e old key value pairs s. subst (λ (l : Listing). PairsRead old key value pairs l) (sym n.1) s
-  entry_none kt vt km vm kg vg next (Ok (Some w)) n = λ e. absurd cc
-  entry_none kt vt km vm kg vg next (Err e) n = tt
-
-  pub map_end : (r : Result (Unit {0}) Error) (last : Decoding) → Ends now r last
-      → OnOk r ((old : Decoding) (key value : Item → Bool) (pairs : Pairs) → PairsRead old key value pairs now → Found (is_map_of key value) (λ i. i ≡ map pairs) old last)
-  map_end (Ok u) last n = λ old key value pairs s. pairs_found key value old pairs now s last n.1 n.2
-  map_end (Err e) last n = tt
+  -- none is left, and the end was answered
+  pub pairs_end : {last : Decoding} {next : Listing} → PairsRead old key value pairs now → next ≡ now → AllRead next last → Found (is_map_of key value) (λ i. i ≡ map pairs) old last
+  pairs_end {last = last} s same n = pairs_found key value old pairs now s last (rw same at n.left) (rw same at n.is)
 
 -- where all was read the end isn't refused
 pub end_stands : {takes : Item → Bool} {grows buffers : Bool} (old : Decoding) (key value : Item → Bool) (pairs : Pairs) (now : Listing) → PairsRead old key value pairs now → (last x : Decoding) (e : Error) → now.left ≡ 0 → Ends now (Err e) x → Missed takes grows buffers old last e

@@ -9,14 +9,13 @@ use Rattle.amqp_base.specs.Laws.{items_under}
 use Rattle.amqp_base.specs.Refusals.{IsDevice}
 use Rattle.amqp_base.proofs.Lists.{rest}
 use Rattle.amqp_base.proofs.OneFront.{same_wire}
-use Rattle.amqp_read.specs.Reading.{Steady}
 use Rattle.amqp_de.specs.Decoding.{Decoding, stands_under, behind_descriptor, ready}
-use Rattle.amqp_de.specs.Law.{Front, Found, Missed, Excused, no_memory, Spent, free, refused_free}
+use Rattle.amqp_de.specs.Law.{Front, Found, Missed, Excused, Advances, no_memory, Spent, free, refused_free}
 use Rattle.amqp_de.specs.Access.{Listing, Within, items_of_all, cost, Opens, OpensNot, Part, NoPart, Ends, ended}
 use Rattle.amqp_de.specs.ReadParts.{PartsRead, and_last, joined}
 use Rattle.amqp_de.specs.Parse.{Parsed}
 use Rattle.amqp_base.specs.declared.format_code.EncodingCodes.{EncodingCodes}
-use Rattle.amqp_de.proofs.Readings.{takes_nothing, steady_then, takes_then, behind, excused_before, excused_more}
+use Rattle.amqp_de.proofs.Readings.{takes_nothing, advances_then, onward, takes_then, behind, excused_before, excused_more}
 use Rattle.amqp_de.proofs.Answered.{free_refused, one_refused}
 
 pub both : (a b : Bool) → IsTrue a → IsTrue b → IsTrue (a && b)
@@ -68,12 +67,14 @@ refused_two (under_pair d e) = omega arith
 
 -- an element behind the end of its array
 pub over_long : (takes : Item → Bool) (means : Item → Type 0) (grows buffers : Bool) (old new : Listing) (next : Decoding) → IsTrue old.answers → 0 < old.left → Found takes means (ready old.state) next → (Within old.limit next.reading.taken → ⊥)
-    → new.answers ≡ false → new.state.reading ≡ next.reading → new.state.begun ≡ next.begun → NoPart takes grows buffers old new InvalidValue
-over_long takes means grows buffers old new next a some f n c r b = record {
+    → new.answers ≡ false → new.state.answers ≡ false → new.state.reading ≡ next.reading → new.state.begun ≡ next.begun → NoPart takes grows buffers old new InvalidValue
+over_long takes means grows buffers old new next a some f n c q r b = record {
   unanswered = λ u. absurd cc (a, u);
   closed = c;
+  silent = λ _. q;
   steady = rw r f.steady;
   device = λ d. absurd d;
+  memory = λ m. absurd cc;
   spent = λ _. record { most = free_refused (stands_under old.state) _ _ (rw (r, b) (f.spent refl).most) };
   some_left = λ _. some;
   why = λ i text rest' w t at fits h _.
@@ -117,13 +118,14 @@ parts_begun old l o = record {
   outer = refl;
   limit = refl;
   answers = o.answers;
+  closed = o.closed;
   within = o.starts;
   spent = omega arith;
   tracks = λ is x rest' w n at. (is, x, w, refl, n, at, refl);
 }
 
-pub parts_more : (from : Listing) (parts : Items) (now next : Listing) (s : PartsRead from parts now) {t : Item → Bool} {m : Item → Type 0} → (p : Part t m now next) → next.outer ≡ now.outer → next.limit ≡ now.limit → PartsRead from (and_last parts p.front.item) next
-parts_more from parts now next s p outer limit = record {
+pub parts_more : (from : Listing) (parts : Items) (now next : Listing) (s : PartsRead from parts now) {t : Item → Bool} {m : Item → Type 0} → (p : Part t m now next) → PartsRead from (and_last parts p.front.item) next
+parts_more from parts now next s p = record {
   text = s.text ++ p.front.text;
   step = takes_then from.state.reading now.state.reading next.state.reading s.text p.front.text s.step p.front.step;
   spelled = parts_last s.text p.front.text s.spelled spelled;
@@ -134,9 +136,10 @@ parts_more from parts now next s p outer limit = record {
       omega (arith, b, c, s.begun);
   inherited = p.front.inherited ∙ s.inherited;
   described = p.front.described;
-  outer = outer ∙ s.outer;
-  limit = limit ∙ s.limit;
+  outer = p.outer ∙ s.outer;
+  limit = p.limit ∙ s.limit;
   answers = p.answers;
+  closed = p.closed;
   within = subst (λ (l : Option ℕ). Within l next.state.reading.taken) s.limit p.within;
   spent =
       let c = cost_step from.state.inherited next.left in
@@ -173,6 +176,7 @@ missed_more {old = old} {last = last} {e = e} g m = record {
   spent = m.spent;
   steady = m.steady;
   device = m.device;
+  memory = λ x. g (m.memory x);
 }
 
 -- no item with parts was opened
@@ -180,17 +184,18 @@ pub unopened : {Has : Item → Items → Type 0} {parse : EncodingCodes → List
     → OpensNot Has parse grows buffers old last e → Missed takes grows buffers old last e
 unopened {old = old} takes Taken sorts o = record {
   why = λ a i text rest' w t at h. let p = sorts i t in o.why text rest' i p.0 p.1 w at h a;
-  spent = λ _. record { most = let f = o.few in let s = o.steady.taken in omega (arith, f, s, one_refused (stands_under old)) };
+  spent = λ a. record { most = let f = o.few a in let s = o.steady.taken in omega (arith, f, s, one_refused (stands_under old)) };
   steady = o.steady;
   device = o.device;
+  memory = o.memory;
 }
 
 module _ {Has : Item → Items → Type 0} (old : Decoding) (from : Listing) (parts : Items) (now : Listing) (o : Opens Has old from) (s : PartsRead from parts now) where
   here : stands_under now.state ≡ from.state.inherited
   here = stands_is now.state s.described ∙ s.inherited
 
-  pub all_steady : Steady old.reading now.state.reading
-  all_steady = steady_then old.reading from.state.reading now.state.reading o.step.steady s.step.steady
+  pub all_steady : Advances old.reading now.state.reading
+  all_steady = advances_then old.reading from.state.reading now.state.reading (onward o.step) (onward s.step)
 
   pub all_spent : (last : Decoding) → last.begun ≡ now.state.begun → last.reading ≡ now.state.reading → Spent (free (stands_under old)) old last
   all_spent last b r = record { most = rw (b, r) (omega (arith, s.spent, o.spent)) }
@@ -224,11 +229,12 @@ module _ {Has : Item → Items → Type 0} (old : Decoding) (from : Listing) (pa
     spent = λ _. record { most = free_refused (stands_under old) _ _ (all_spent last (ap (λ (d : Decoding). d.begun) l) (ap (λ (d : Decoding). d.reading) l)).most };
     steady = rw l all_steady;
     device = λ d. absurd d;
+    memory = λ _. refl;
   }
 
   -- the end was refused, as parts are left
   pub end_refused : (last : Decoding) (e : Error) → Ends now (Err e) last → (now.left ≡ 0 → ⊥) × (e ≡ SequenceLengthMismatch)
-  end_refused last e n = tell n.3
+  end_refused last e n = tell n.why
     where
       tell : ((now.answers ≡ false) × (e ≡ InvalidValue)) ⊎ (IsTrue now.answers × (now.left ≡ 0 → ⊥) × (e ≡ SequenceLengthMismatch)) → (now.left ≡ 0 → ⊥) × (e ≡ SequenceLengthMismatch)
       tell (inl p) = absurd cc (p.0, s.answers)
@@ -244,8 +250,9 @@ module _ {Has : Item → Items → Type 0} (old : Decoding) (from : Listing) (pa
           let r = s.tracks p.0 q.0 rest' q.1 q.2 q.4 in
           go r.0 r.1 rest' r.2 (subst Taken r.3 p.2) r.4 r.5 (within_all from.limit _ _ r.6 q.3) (all_steady.honest ∙ h);
       spent = λ _. record { most = free_refused (stands_under old) _ _ (rw l (let m = (n.spent s.answers).most in let k = n.some_left s.answers in omega (arith, m, k, refused_two (stands_under now.state), s.spent, o.spent))) };
-      steady = rw l (steady_then old.reading now.state.reading next.state.reading all_steady n.steady);
+      steady = rw l (advances_then old.reading now.state.reading next.state.reading all_steady n.steady);
       device = λ d. rw l (let f = all_steady.faults in let g = n.device d in omega (arith, f, g));
+      memory = n.memory;
     }
       where
         tell : Excused grows buffers now.state.reading next.state.reading e → Excused grows buffers old.reading last.reading e
@@ -259,9 +266,9 @@ module _ {Has : Item → Items → Type 0} (old : Decoding) (from : Listing) (pa
             tell (n.why j a (b' ++ rest') k' (heads j js t') (at ∙ ap Some (append_assoc a b' rest')) f' h s.answers)
 
     -- what is refused, as it isn't taken
-    pub not_taken : (grows buffers : Bool) (last : Decoding) (e : Error) → (IsDevice e → ⊥) → last.reading ≡ now.state.reading → last.begun ≡ now.state.begun
+    pub not_taken : (grows buffers : Bool) (last : Decoding) (e : Error) → (IsDevice e → ⊥) → (e ≡ OutOfMemory → IsTrue grows) → last.reading ≡ now.state.reading → last.begun ≡ now.state.begun
         → ((js : Items) → count js ≡ now.left → Taken (joined parts js) → ⊥) → Missed takes grows buffers old last e
-    not_taken grows buffers last e calm r b absent = record {
+    not_taken grows buffers last e calm memory r b absent = record {
       why = λ a i text rest' w t' at h.
           let p = sorts i t' in
           let q = o.only text rest' i p.0 p.1 w at in
@@ -270,4 +277,5 @@ module _ {Has : Item → Items → Type 0} (old : Decoding) (from : Listing) (pa
       spent = λ _. record { most = free_refused (stands_under old) _ _ (all_spent last b r).most };
       steady = rw r all_steady;
       device = λ d. absurd (calm d);
+      memory = memory;
     }

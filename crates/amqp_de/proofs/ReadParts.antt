@@ -1,5 +1,5 @@
 -- Reading an item part by part, each part by a type of its own.
-use Rattle.std.proofs.Common.{◌≡◌, Bool, true, false, ◌||◌, List, [], ◌∷◌, Option, Some, None, Result, Ok, Err, IfOk, IfErr, IsErrAnd, OnOk, refl, sym, ap, subst, ◌∙◌, arith, IsTrue}
+use Rattle.std.proofs.Common.{◌≡◌, Bool, true, false, ◌||◌, List, [], ◌∷◌, Result, Ok, Err, IfOk, IfErr, IsErrAnd, OnErr, refl, sym, ap, ◌∙◌, arith, IsTrue}
 use Rattle.amqp_base.specs.declared.error.Error.{Error}
 use Rattle.amqp_base.specs.declared.error.Error.TheVariants.{SequenceLengthMismatch}
 use Rattle.amqp_base.specs.Item.{Item, scalar, list, map, array, described, Items, none, more, count}
@@ -7,8 +7,10 @@ use Rattle.amqp_base.specs.Fields.{all_fields, takes_fields, all_meanings, means
 use Rattle.amqp_de.specs.Decoding.{Decoding, stands_under}
 use Rattle.amqp_de.specs.Law.{Found, Missed}
 use Rattle.amqp_de.specs.Parse.{item_at, list_data}
-use Rattle.amqp_de.specs.Access.{Listing, HasParts, Opens, OpensNot, Part, NoPart, Next, Ends, ended}
-use Rattle.amqp_de.specs.ReadParts.{Progress, HasRead, MoreRead, RefusesParts, and_last, joined}
+use Rattle.amqp_de.specs.Access.{Listing, HasParts, Opens, OpensNot, Part, NoPart, AllRead, NoEnd, Ends, ended}
+use Rattle.amqp_de.specs.declared.list.Access.{Access}
+use Rattle.amqp_de.specs.declared.list.Open.{Open}
+use Rattle.amqp_de.specs.ReadParts.{open_list, Progress, MoreRead, RefusesParts, and_last, joined}
 use Rattle.amqp_de.proofs.Readings.{excused_more, rejects_more}
 use Rattle.amqp_de.proofs.Weaker.{found_as}
 use Rattle.amqp_de.proofs.PartsRead as read
@@ -54,6 +56,7 @@ opens_not_more buffers old last e o = record {
   why = λ t rest' i is p w at h a. excused_more old.reading last.reading e (λ _. refl) (o.why t rest' i is p w at h a);
   steady = o.steady;
   device = o.device;
+  memory = λ _. refl;
   closed = o.closed;
   few = o.few;
 }
@@ -65,15 +68,12 @@ parts_refused buffers old last (Err e) o = let m = opens_not_more buffers old la
 pub progress_start : (old : Decoding) (l : Listing) → Opens HasParts old l → (all : List (Item → Bool)) → Progress old all all none l
 progress_start old l o all = record { from = l; opened = o; reads = read.parts_begun old l o; fields = λ js. refl }
 
-pub reads_start : (old : Decoding) (l : Listing) → Opens HasParts old l → (all : List (Item → Bool)) → HasRead old all all l
-reads_start old l o all = record { parts = none; progress = progress_start old l o all }
-
 module _ (old : Decoding) (all others : List (Item → Bool)) (parts : Items) (now : Listing) (s : Progress old all others parts now) where
-  pub progress_more : (t : Item → Bool) (m : Item → Type 0) (behind_it : List (Item → Bool)) (next : Listing) → others ≡ t ∷ behind_it → (p : Part t m now next) → next.outer ≡ now.outer → next.limit ≡ now.limit → Progress old all behind_it (and_last parts p.front.item) next
-  progress_more t m behind_it next split p outer limit = record {
+  pub progress_more : (t : Item → Bool) (m : Item → Type 0) (behind_it : List (Item → Bool)) (next : Listing) → others ≡ t ∷ behind_it → (p : Part t m now next) → Progress old all behind_it (and_last parts p.front.item) next
+  progress_more t m behind_it next split p = record {
     from = s.from;
     opened = s.opened;
-    reads = read.parts_more s.from parts now next s.reads p outer limit;
+    reads = read.parts_more s.from parts now next s.reads p;
     fields = λ js. ap (λ (x : Items). all_fields all x) (read.join_last parts js p.front.item) ∙ (s.fields (more p.front.item js) ∙ (ap (λ (x : List (Item → Bool)). all_fields x (more p.front.item js)) split ∙ rw p.front.taken refl));
   }
 
@@ -87,11 +87,11 @@ module _ (old : Decoding) (all others : List (Item → Bool)) (parts : Items) (n
   -- what is refused, as it isn't taken
   pub not_taken : (grows buffers : Bool) (last : Decoding) → last.reading ≡ now.state.reading → last.begun ≡ now.state.begun
       → ((js : Items) → count js ≡ now.left → IsTrue (all_fields others js) → ⊥) → Missed (takes_fields all) grows buffers old last SequenceLengthMismatch
-  not_taken grows buffers last r b absent = read.not_taken old s.from parts now s.opened s.reads (takes_fields all) (λ is. IsTrue (all_fields all is)) (parts_of_fields all) grows buffers last SequenceLengthMismatch (λ d. d) r b (λ js n t. absent js n (rw (s.fields js) at t))
+  not_taken grows buffers last r b absent = read.not_taken old s.from parts now s.opened s.reads (takes_fields all) (λ is. IsTrue (all_fields all is)) (parts_of_fields all) grows buffers last SequenceLengthMismatch (λ d. d) (λ m. absurd cc) r b (λ js n t. absent js n (rw (s.fields js) at t))
 
   -- the parts are used up, and a field is left
-  pub too_few : (t : Item → Bool) (behind_it : List (Item → Bool)) (buffers : Bool) (last : Decoding) → others ≡ t ∷ behind_it → now.left ≡ 0 → last ≡ now.state → Missed (takes_fields all) false buffers old last SequenceLengthMismatch
-  too_few t behind_it buffers last split z l = not_taken false buffers last (ap (λ (d : Decoding). d.reading) l) (ap (λ (d : Decoding). d.begun) l) absent
+  pub too_few : (t : Item → Bool) (behind_it : List (Item → Bool)) (grows buffers : Bool) (last : Decoding) → others ≡ t ∷ behind_it → now.left ≡ 0 → last ≡ now.state → Missed (takes_fields all) grows buffers old last SequenceLengthMismatch
+  too_few t behind_it grows buffers last split z l = not_taken grows buffers last (ap (λ (d : Decoding). d.reading) l) (ap (λ (d : Decoding). d.begun) l) absent
     where
       absent : (js : Items) → count js ≡ now.left → IsTrue (all_fields others js) → ⊥
       absent none c t' = cc (ap (λ (x : List (Item → Bool)). all_fields x none) split, t')
@@ -105,8 +105,8 @@ module _ (old : Decoding) (all others : List (Item → Bool)) (parts : Items) (n
       taken = ap (λ (x : Items). all_fields all x) (sym (read.join_none parts)) ∙ (s.fields none ∙ ap (λ (x : List (Item → Bool)). all_fields x none) e)
 
   -- the end was refused
-  pub too_many : (buffers : Bool) (last : Decoding) (e : Error) → others ≡ [] → Ends now (Err e) last → Missed (takes_fields all) false buffers old last e
-  too_many buffers last e o n = let p = read.end_refused old s.from parts now s.opened s.reads last e n in rw p.1 (not_taken false buffers last n.1 n.2 (absent p.0))
+  pub too_many : (grows buffers : Bool) (last : Decoding) (e : Error) → others ≡ [] → Ends now (Err e) last → Missed (takes_fields all) grows buffers old last e
+  too_many grows buffers last e o n = let p = read.end_refused old s.from parts now s.opened s.reads last e n in rw p.1 (not_taken grows buffers last n.reading n.begun (absent p.0))
     where
       absent : (now.left ≡ 0 → ⊥) → (js : Items) → count js ≡ now.left → IsTrue (all_fields others js) → ⊥
       absent some none c t' = some (sym c)
@@ -131,61 +131,49 @@ pub or_more : (a b c : Bool) → (IsTrue a → IsTrue b) → IsTrue (a || c) →
 or_more true b c p h = or_left b c (p refl)
 or_more false b c p h = or_right b c h
 
-some_same : {A : Type 0} {x y : A} → Some x ≡ Some y → x ≡ y
-some_same e = cc
+-- ---- what callers say of an access
 
-module _ (buffers : Bool) (now : Listing) where
-  -- a value is the next part
-  pub next_part : {T : Type 0} (t : Item → Bool) (means : Item → T → Type 0) (grows : Bool) (next : Listing) (r : Result (Option T) Error) → Next t means grows buffers now r next → next.outer ≡ now.outer → next.limit ≡ now.limit
-      → IfOk r (λ o. (v : T) → o ≡ Some v → (old : Decoding) (all rest : List (Item → Bool)) (parts : Items) → Progress old all (t ∷ rest) parts now → MoreRead old all rest parts (λ i. means i v) next)
-  next_part t means grows next (Ok None) n outer limit = λ v e. absurd cc
-  next_part {T} t means grows next (Ok (Some w)) n outer limit = λ v e old all rest parts s.
-      let p = subst (λ (x : T). Part t (λ i. means i x) now next) (some_same e) n.0 in
-      record { item = p.front.item; meant = p.front.value; more = progress_more old all (t ∷ rest) parts now s t (λ i. means i v) rest next refl p outer limit }
-  next_part t means grows next (Err e) n outer limit = tt
+-- nothing was read yet
+pub progress_from : {old : Decoding} {all : List (Item → Bool)} {l m : Listing} → m ≡ l → Opens HasParts old l → Progress old all all none m
+progress_from {old = old} {all = all} {l = l} same o = rw same (progress_start old l o all)
 
-  pub next_reads : {T : Type 0} (t : Item → Bool) (means : Item → T → Type 0) (grows : Bool) (next : Listing) (r : Result (Option T) Error) → Next t means grows buffers now r next → next.outer ≡ now.outer → next.limit ≡ now.limit
-      → IfOk r (λ o. (v : T) → o ≡ Some v → (old : Decoding) (all rest : List (Item → Bool)) → HasRead old all (t ∷ rest) now → HasRead old all rest next)
-  next_reads t means grows next (Ok None) n outer limit = λ v e. absurd cc
-  next_reads t means grows next (Ok (Some w)) n outer limit = λ v e old all rest s.
-      record { parts = and_last s.parts n.0.front.item; progress = progress_more old all (t ∷ rest) s.parts now s.progress t (λ i. means i w) rest next refl n.0 outer limit }
-  next_reads t means grows next (Err e) n outer limit = tt
+module _ {X F : Type 0} {old : Decoding} {all : List (Item → Bool)} {parts : Items} (a : Access X F Open) where
+  -- one more part was read
+  pub part_read : {rest : List (Item → Bool)} {t : Item → Bool} {means : Item → Type 0} {next : Listing} → Progress old all (t ∷ rest) parts (open_list a) → Part t means (open_list a) next → MoreRead old all rest parts means next
+  part_read {rest = rest} {t = t} {means = means} {next = next} s p = record { item = p.front.item; meant = p.front.value; more = progress_more old all (t ∷ rest) parts (open_list a) s t means rest next refl p }
+
+  -- it was refused
+  pub part_refused : {rest : List (Item → Bool)} {t : Item → Bool} {grows buffers : Bool} {e : Error} (b : Access X F Open) → Progress old all (t ∷ rest) parts (open_list a) → NoPart t grows buffers (open_list a) (open_list b) e → Missed (takes_fields all) grows buffers old b.de.now e
+  unfolding open_list
+  part_refused {rest = rest} {t = t} {grows = grows} {buffers = buffers} {e = e} b s n = field_missed old all (t ∷ rest) parts (open_list a) s t rest grows buffers (open_list b) b.de.now e refl n refl
 
   -- none is left, though one is wanted
-  pub next_none : {T : Type 0} (t : Item → Bool) (means : Item → T → Type 0) (grows : Bool) (next : Listing) (r : Result (Option T) Error) → Next t means grows buffers now r next
-      → IfOk r (λ o. o ≡ None → (old : Decoding) (all rest : List (Item → Bool)) → HasRead old all (t ∷ rest) now → Missed (takes_fields all) false buffers old next.state SequenceLengthMismatch)
-  next_none t means grows next (Ok None) n = λ e old all rest s. too_few old all (t ∷ rest) s.parts now s.progress t rest buffers next.state refl n.0 (ap (λ (l : Listing). l.state) n.1)
-  next_none t means grows next (Ok (Some w)) n = λ e. absurd cc
-  next_none t means grows next (Err e) n = tt
+  pub none_left : {rest : List (Item → Bool)} {t : Item → Bool} {grows buffers : Bool} (b : Access X F Open) → Progress old all (t ∷ rest) parts (open_list a) → (open_list a).left ≡ 0 → open_list b ≡ open_list a → Missed (takes_fields all) grows buffers old b.de.now SequenceLengthMismatch
+  unfolding open_list
+  none_left {rest = rest} {t = t} {grows = grows} {buffers = buffers} b s z n = too_few old all (t ∷ rest) parts (open_list a) s t rest grows buffers b.de.now refl z (ap (λ (l : Listing). l.state) n)
 
-  -- the next part is refused
-  pub next_missed : {T : Type 0} (t : Item → Bool) (means : Item → T → Type 0) (grows : Bool) (next : Listing) (r : Result (Option T) Error) → Next t means grows buffers now r next
-      → IfErr r (λ e. (old : Decoding) (all rest : List (Item → Bool)) → HasRead old all (t ∷ rest) now → Missed (takes_fields all) grows buffers old next.state e)
-  next_missed t means grows next (Ok o) n = tt
-  next_missed t means grows next (Err e) n = λ old all rest s. field_missed old all (t ∷ rest) s.parts now s.progress t rest grows buffers next next.state e refl n refl
+  -- all were read, and the end was answered or refused
+  pub end_answered : {last : Decoding} → Progress old all [] parts (open_list a) → AllRead (open_list a) last → Found (takes_fields all) (λ i. HasParts i parts) old last
+  end_answered {last = last} s n = fields_found old all [] parts (open_list a) s last refl n.left n.is
 
-  -- the end of what was read
-  pub end_found : (r : Result (Unit {0}) Error) (last : Decoding) → Ends now r last
-      → OnOk r ((old : Decoding) (all : List (Item → Bool)) (parts : Items) → Progress old all [] parts now → Found (takes_fields all) (λ i. HasParts i parts) old last)
-  end_found (Ok u) last n = λ old all parts s. fields_found old all [] parts now s last refl n.1 n.2
-  end_found (Err e) last n = tt
-
-  pub end_missed : (r : Result (Unit {0}) Error) (last : Decoding) → Ends now r last
-      → IfErr r (λ e. (old : Decoding) (all : List (Item → Bool)) → HasRead old all [] now → Missed (takes_fields all) false buffers old last e)
-  end_missed (Ok u) last n = tt
-  end_missed (Err e) last n = λ old all s. too_many old all [] s.parts now s.progress buffers last e refl n
+  pub end_refused : {grows buffers : Bool} {last : Decoding} {e : Error} → Progress old all [] parts (open_list a) → NoEnd (open_list a) last e → Missed (takes_fields all) grows buffers old last e
+  end_refused {grows = grows} {buffers = buffers} {last = last} {e = e} s n = too_many old all [] parts (open_list a) s grows buffers last e refl n
 
 pub progress_begun : {A : Type 0} (old : Decoding) (r : Result A Error) (l : A → Listing) → IfOk r (λ o. Opens HasParts old (l o)) → IfOk r (λ o. (all : List (Item → Bool)) → Progress old all all none (l o))
 progress_begun old (Ok o) l p = progress_start old (l o) p
 progress_begun old (Err e) l p = p
 
-pub reads_begun : {A : Type 0} (old : Decoding) (r : Result A Error) (l : A → Listing) → IfOk r (λ o. Opens HasParts old (l o)) → IfOk r (λ o. (all : List (Item → Bool)) → HasRead old all all (l o))
-reads_begun old (Ok o) l p = reads_start old (l o) p
-reads_begun old (Err e) l p = p
-
 -- where the deserializer stands in the end
 pub missed_here : {takes : Item → Bool} {more grows buffers : Bool} {old : Decoding} {e : Error} (last x : Decoding) → (IsTrue more → IsTrue grows) → last ≡ x → Missed takes more buffers old x e → Missed takes grows buffers old last e
 missed_here last x g l m = rw l (missed_more g m)
+
+pub on_err : {A : Type 0} {Q : Type 0} (r : Result A Error) → Q → OnErr r Q
+on_err (Ok v) q = tt
+on_err (Err e) q = q
+
+-- no call is answered where it stands
+pub closed_at : {a b : Bool} → a ≡ b → b ≡ false → a ≡ false
+closed_at l c = l ∙ c
 
 -- the same of a type that takes memory
 pub missed_at : {takes : Item → Bool} {more buffers : Bool} {old : Decoding} {e : Error} (last x : Decoding) → last ≡ x → Missed takes more buffers old x e → Missed takes true buffers old last e

@@ -38,10 +38,10 @@ module _ {T : Type 0} (takes : Item → Bool) (means : Item → T → Type 0) (f
   pub sofar_start : (old : Decoding) (vs : List T) → Opens HasParts old from → vs ≡ [] → Sofar from vs
   sofar_start old vs o e = rw e record { parts = none; reads = read.parts_begun old from o; taken = refl; meant = tt }
 
-  pub sofar_step : (now next : Listing) (vs : List T) (v : T) → Sofar now vs → Part takes (λ i. means i v) now next → next.outer ≡ now.outer → next.limit ≡ now.limit → Sofar next (vs ++ v ∷ [])
-  sofar_step now next vs v s p outer limit = record {
+  pub sofar_step : (now next : Listing) (vs : List T) (v : T) → Sofar now vs → Part takes (λ i. means i v) now next → Sofar next (vs ++ v ∷ [])
+  sofar_step now next vs v s p = record {
     parts = and_last s.parts p.front.item;
-    reads = read.parts_more from s.parts now next s.reads p outer limit;
+    reads = read.parts_more from s.parts now next s.reads p;
     taken = taken_last takes s.parts p.front.item s.taken p.front.taken;
     meant = mean_last means s.parts vs p.front.item v s.meant p.front.value;
   }

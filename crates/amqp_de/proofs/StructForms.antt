@@ -83,8 +83,8 @@ pub row_opened : (old : Decoding) (l : Listing) → Opens HasParts old l → (fi
 row_opened old l o fields = rw append-nil (progress_start old l o fields)
 
 -- it has another number of elements
-pub other_row : (buffers : Bool) (old last : Decoding) (l : Listing) → Opens HasParts old l → (fields : List (Item → Bool)) → (length fields ≡ l.left → ⊥) → last ≡ l.state → Missed (takes_fields fields) true buffers old last SequenceLengthMismatch
-other_row buffers old last l o fields n same = rw same (not_taken old fields fields none l (progress_start old l o fields) true buffers l.state refl refl (λ js c t. n (sym (count_fields fields js t) ∙ c)))
+pub other_row : (grows buffers : Bool) (old last : Decoding) (l : Listing) → Opens HasParts old l → (fields : List (Item → Bool)) → (length fields ≡ l.left → ⊥) → last ≡ l.state → Missed (takes_fields fields) grows buffers old last SequenceLengthMismatch
+other_row grows buffers old last l o fields n same = rw same (not_taken old fields fields none l (progress_start old l o fields) grows buffers l.state refl refl (λ js c t. n (sym (count_fields fields js t) ∙ c)))
 
 -- a field without a value isn't one of fields that all have one
 pub unread : (b : Bool) → b ≡ false → IsTrue b → ⊥

@@ -70,24 +70,28 @@ struct_start old all key value now s = record {
   meant = λ vs h. (h, λ ps m. m);
 }
 
+pub no_field_closed : {V : Type 0} {name : List ℕ} {s : Slots V} {buffers : Bool} {old new : Listing} {e : Error} → NoField name s buffers old new e → old.state.answers ≡ false → new.state.answers ≡ false
+no_field_closed (unknown same calm absent) c = rw same c
+no_field_closed (refused kind grows n u) c = n.silent c
+
 module _ {V : Type 0} (old : Decoding) (all s : Slots V) (now : Listing) where
-  pub name_read : (r : StructRead old all s now) (key : String Global) (next : Listing) → (p : Part (is_of Kind.string) (λ i. i ≡ scalar (string (string_bytes key))) now next) → next.outer ≡ now.outer → next.limit ≡ now.limit → NameRead old all s (string_bytes key) next
-  name_read r key next p outer limit = record {
+  pub name_read : (r : StructRead old all s now) (key : String Global) (next : Listing) → (p : Part (is_of Kind.string) (λ i. i ≡ scalar (string (string_bytes key))) now next) → NameRead old all s (string_bytes key) next
+  name_read r key next p = record {
     from = r.from;
     pairs = r.pairs;
     opened = r.opened;
-    reads = rw (← p.front.value) (read.parts_more r.from (in_turn r.pairs) now next r.reads p outer limit);
+    reads = rw (← p.front.value) (read.parts_more r.from (in_turn r.pairs) now next r.reads p);
     turn = let t = r.turn in omega (arith, t, p.left);
     picked = r.picked;
     meant = r.meant;
   }
 
-  pub field_read : (name : List ℕ) (t : Slots V) (next : Listing) → NameRead old all s name now → FieldRead name s t now next → next.outer ≡ now.outer → next.limit ≡ now.limit → StructRead old all t next
-  field_read name t next r f outer limit = record {
+  pub field_read : (name : List ℕ) (t : Slots V) (next : Listing) → NameRead old all s name now → FieldRead name s t now next → StructRead old all t next
+  field_read name t next r f = record {
     from = r.from;
     pairs = and_pair r.pairs key item;
     opened = r.opened;
-    reads = rw (pair_turn r.pairs key item) (read.parts_more r.from (and_last (in_turn r.pairs) key) now next r.reads f.part outer limit);
+    reads = rw (pair_turn r.pairs key item) (read.parts_more r.from (and_last (in_turn r.pairs) key) now next r.reads f.part);
     turn = let k = r.turn in omega (arith, k, f.part.left);
     picked = λ ps. ap (takes_named all.names all.kinds) (pairs_last r.pairs key item ps) ∙ (r.picked (under_name name item ps) ∙ (f.picked item ps ∙ rw f.part.front.taken refl));
     meant = λ vs h.
@@ -152,7 +156,7 @@ module _ {V : Type 0} (old : Decoding) (all s : Slots V) (now : Listing) where
           let k = own_value r.pairs t.0 (scalar (string name)) j js t.1 in
           let v : IsTrue (takes_named all.names all.kinds (and_pairs r.pairs (under_name name j k.0))) = rw k.1 at t.2 in
           u j k.0 (sym (r.picked (under_name name j k.0)) ∙ v)
-  field_missed name r next buffers e (unknown same calm absent) = rw same (read.not_taken old r.from (and_last (in_turn r.pairs) (scalar (string name))) now r.opened r.reads (takes_map all.names all.kinds) (Taken all.names all.kinds) (sorts all.names all.kinds) true buffers now.state e calm refl refl nobody)
+  field_missed name r next buffers e (unknown same calm absent) = rw same (read.not_taken old r.from (and_last (in_turn r.pairs) (scalar (string name))) now r.opened r.reads (takes_map all.names all.kinds) (Taken all.names all.kinds) (sorts all.names all.kinds) true buffers now.state e calm (λ _. refl) refl refl nobody)
     where
       nobody : (js : Items) → count js ≡ now.left → Taken all.names all.kinds (joined (and_last (in_turn r.pairs) (scalar (string name))) js) → ⊥
       nobody none c t = let k = r.turn in absurd (omega (arith, c, k))
@@ -165,7 +169,7 @@ module _ {V : Type 0} (old : Decoding) (all s : Slots V) (now : Listing) where
 
   -- a field is missing
   pub missing : StructRead old all s now → now.left ≡ 0 → all_read s ≡ false → (buffers : Bool) (last : Decoding) (e : Error) → (IsDevice e → ⊥) → last ≡ now.state → Missed (takes_map all.names all.kinds) true buffers old last e
-  missing r z few buffers last e calm l = read.not_taken old r.from (in_turn r.pairs) now r.opened r.reads (takes_map all.names all.kinds) (Taken all.names all.kinds) (sorts all.names all.kinds) true buffers last e calm (ap (λ (d : Decoding). d.reading) l) (ap (λ (d : Decoding). d.begun) l) nobody
+  missing r z few buffers last e calm l = read.not_taken old r.from (in_turn r.pairs) now r.opened r.reads (takes_map all.names all.kinds) (Taken all.names all.kinds) (sorts all.names all.kinds) true buffers last e calm (λ _. refl) (ap (λ (d : Decoding). d.reading) l) (ap (λ (d : Decoding). d.begun) l) nobody
     where
       nobody : (js : Items) → count js ≡ now.left → Taken all.names all.kinds (joined (in_turn r.pairs) js) → ⊥
       nobody none c t =

@@ -8,11 +8,11 @@ use Rattle.amqp_base.specs.Wire.{Constructor, bare, under, under_pair, Wire, len
 use Rattle.amqp_base.specs.Laws.{items_under}
 use Rattle.amqp_base.specs.Refusals.{IsDevice}
 use Rattle.amqp_base.specs.declared.error.Error.{Error}
-use Rattle.amqp_base.specs.declared.error.Error.TheVariants.{InvalidValue, SequenceLengthMismatch}
-use Rattle.amqp_read.specs.Reading.{Reading, Takes, Steady}
+use Rattle.amqp_base.specs.declared.error.Error.TheVariants.{InvalidValue, OutOfMemory, SequenceLengthMismatch}
+use Rattle.amqp_read.specs.Reading.{Reading, Takes}
 use Rattle.amqp_de.specs.Decoding.{Decoding, stands_under, ready}
-use Rattle.amqp_de.specs.Law.{Front, Excused, Spent, free, refused_free}
-use Rattle.amqp_de.specs.Parse.{Parsed, item_at}
+use Rattle.amqp_de.specs.Law.{Front, Excused, Advances, Spent, free, refused_free}
+use Rattle.amqp_de.specs.Parse.{Parsed, item_at, least_size}
 use Rattle.amqp_de.specs.Look.{looked_at}
 use Rattle.amqp_de.specs.Steps.{Rejects}
 
@@ -111,10 +111,11 @@ pub record OpensNot (Has : Item → Items → Type 0) (parse : EncodingCodes →
   pub unanswered : old.answers ≡ false → (err ≡ InvalidValue) × (new ≡ old)
   pub rejects : IsTrue old.answers → Rejects grows buffers (item_at parse (stands_under old)) old.reading new.reading err
   pub why : (t rest : List ℕ) (i : Item) (is : Items) → Has i is → Wire lenient (stands_under old) t i → old.reading.to_come ≡ Some (t ++ rest) → IsTrue old.reading.honest → IsTrue old.answers → Excused grows buffers old.reading new.reading err
-  pub steady : Steady old.reading new.reading
+  pub steady : Advances old.reading new.reading
   pub device : IsDevice err → old.reading.faults < new.reading.faults
+  pub memory : err ≡ OutOfMemory → IsTrue grows
   pub closed : new.answers ≡ false
-  pub few : new.begun ≤ old.begun + 1
+  pub few : IsTrue old.answers → new.begun ≡ old.begun + 1
 
 -- the next part
 pub record Part (takes : Item → Bool) (means : Item → Type 0) (old new : Listing) : Type 0 where
@@ -123,13 +124,18 @@ pub record Part (takes : Item → Bool) (means : Item → Type 0) (old new : Lis
   pub spent : Spent (free (stands_under old.state)) (ready old.state) (ready new.state)
   pub left : old.left ≡ suc new.left
   pub answers : IsTrue new.answers
+  pub closed : new.state.answers ≡ false
+  pub outer : new.outer ≡ old.outer
+  pub limit : new.limit ≡ old.limit
 
 -- a part that is refused
 pub record NoPart (takes : Item → Bool) (grows buffers : Bool) (old new : Listing) (err : Error) : Type 0 where
   pub unanswered : old.answers ≡ false → (err ≡ InvalidValue) × (new ≡ old)
   pub closed : new.answers ≡ false
-  pub steady : Steady old.state.reading new.state.reading
+  pub silent : old.state.answers ≡ false → new.state.answers ≡ false
+  pub steady : Advances old.state.reading new.state.reading
   pub device : IsDevice err → old.state.reading.faults < new.state.reading.faults
+  pub memory : err ≡ OutOfMemory → IsTrue grows
   pub spent : IsTrue old.answers → Spent (refused_free (stands_under old.state)) (ready old.state) (ready new.state)
   pub some_left : IsTrue old.answers → 0 < old.left
   pub why : (i : Item) (text rest : List ℕ) → Wire lenient (stands_under old.state) text i → IsTrue (takes i) → old.state.reading.to_come ≡ Some (text ++ rest) → Within old.limit (old.state.reading.taken + length text)
@@ -145,10 +151,23 @@ Next takes means grows buffers old (Err e) new = NoPart takes grows buffers old 
 abbrev pub ended : Listing → Decoding
 ended l = record { reading = l.state.reading; answers = true; inherited = l.outer; described = l.state.described; begun = l.state.begun }
 
+-- all parts were read
+pub record AllRead (l : Listing) (new : Decoding) : Type 0 where
+  pub answered : IsTrue l.answers
+  pub left : l.left ≡ 0
+  pub is : new ≡ ended l
+
+-- the end is refused: after a refusal, or as parts are left
+pub record NoEnd (l : Listing) (new : Decoding) (err : Error) : Type 0 where
+  pub closed : new.answers ≡ false
+  pub reading : new.reading ≡ l.state.reading
+  pub begun : new.begun ≡ l.state.begun
+  pub why : ((l.answers ≡ false) × (err ≡ InvalidValue)) ⊎ (IsTrue l.answers × (l.left ≡ 0 → ⊥) × (err ≡ SequenceLengthMismatch))
+
 -- the end of an access: all parts were read, or a refusal, after which no call is answered
 abbrev pub Ends : Listing → Result (Unit {0}) Error → Decoding → Type 0
-Ends l (Ok u) new = IsTrue l.answers × (l.left ≡ 0) × (new ≡ ended l)
-Ends l (Err e) new = (new.answers ≡ false) × (new.reading ≡ l.state.reading) × (new.begun ≡ l.state.begun) × (((l.answers ≡ false) × (e ≡ InvalidValue)) ⊎ (IsTrue l.answers × (l.left ≡ 0 → ⊥) × (e ≡ SequenceLengthMismatch)))
+Ends l (Ok u) new = AllRead l new
+Ends l (Err e) new = NoEnd l new e
 
 -- w bytes of size and w of count were consumed, which keep the rule of every header
 pub record Header (w : ℕ) (is_array : Bool) (z k : ℕ) (old new : Reading) : Type 0 where
@@ -162,4 +181,4 @@ pub record Header (w : ℕ) (is_array : Bool) (z k : ℕ) (old new : Reading) : 
   pub few : k ≤ 65536
   pub fits : IsTrue is_array → k ≤ z
   pub small : k < 256 ^ w
-  pub wide : (w ≤ z) ⊎ (IsTrue is_array × (k ≡ 0))
+  pub wide : least_size w is_array k ≤ z

@@ -8,15 +8,15 @@ use Rattle.amqp_base.specs.NamedFields.{takes_struct}
 use Rattle.amqp_base.specs.Structs.{is_described_name}
 use Rattle.amqp_de.specs.Decoding.{Decoding, stands_under, silenced}
 use Rattle.amqp_de.specs.Law.{Missed}
-use Rattle.amqp_de.specs.Access.{Listing, HasParts, HasPairs, Opens, OpensExactly, Next}
+use Rattle.amqp_de.specs.Access.{Listing, HasParts, HasPairs, Opens, OpensExactly}
 use Rattle.amqp_de.specs.Parse.{item_at, tuple_data, struct_data}
-use Rattle.amqp_de.specs.Places.{constructor_of, limit_of}
-use Rattle.amqp_de.specs.Seq.{listing}
+use Rattle.amqp_de.specs.Seq.{listing, at_open}
 use Rattle.amqp_de.specs.Steps.{Rejects}
 use Rattle.amqp_de.specs.ReadParts.{Progress, NoTuple, open_list}
-use Rattle.amqp_de.specs.ReadPairs.{map_listing, open_map, PairsRead, NextKey, NextValue, NextEntry, broken_off}
+use Rattle.amqp_base.specs.Meaning.{Meaning}
+use Rattle.amqp_de.specs.Calls.{NextElement, KeyAnswer, ValueAnswer, EntryAnswer}
+use Rattle.amqp_de.specs.ReadPairs.{PairsRead, broken_off}
 use Rattle.amqp_de.specs.declared.deserializer.Deserializer.{Deserializer}
-use Rattle.amqp_de.specs.declared.list.Opened.{Opened}
 use Rattle.amqp_de.specs.declared.structs.OpenedStruct.{OpenedStruct}
 use Rattle.amqp_de.specs.declared.structs.OpenedStruct.TheVariants as opened
 use Rattle.amqp_de.specs.declared.structs.StructAccess.{StructAccess}
@@ -24,7 +24,7 @@ use Rattle.amqp_de.specs.declared.structs.StructAccess.TheVariants as form
 
 abbrev pub struct_listing : {X : Type 0} → StructAccess X → Listing
 struct_listing (form.List a) = listing a
-struct_listing (form.Map a) = map_listing a
+struct_listing (form.Map a) = listing a
 
 -- the deserializer that the access borrows
 abbrev pub struct_lender : {X : Type 0} → StructAccess X → MutBor (Deserializer X)
@@ -54,16 +54,13 @@ pub record MapOpened (len : ℕ) (old : Decoding) (l : Listing) : Type 0 where
   pub exact : OpensExactly (struct_data len) old l
   pub pairs : (key value : Item → Bool) → PairsRead old key value no_pairs l
 
-abbrev pub of_opened : Decoding → Opened → Listing
-of_opened new o = record { state = new; left = o.left; answers = true; outer = constructor_of o.beyond.outer; limit = limit_of o.beyond.limit }
-
 abbrev pub FormOpened : ℕ → Decoding → Decoding → OpenedStruct → Type 0
-FormOpened len old new (opened.Row o) = RowOpened len old (of_opened new o)
-FormOpened len old new (opened.Pairs o) = MapOpened len old (of_opened new o)
+FormOpened len old new (opened.Row o) = RowOpened len old (at_open new o)
+FormOpened len old new (opened.Pairs o) = MapOpened len old (at_open new o)
 
 abbrev pub StructOpened : {X : Type 0} → ℕ → Decoding → StructAccess X → Type 0
 StructOpened len old (form.List a) = RowOpened len old (open_list a)
-StructOpened len old (form.Map a) = MapOpened len old (open_map a)
+StructOpened len old (form.Map a) = MapOpened len old (open_list a)
 
 -- no struct was opened: so one of as many fields is missed, and want of memory is no excuse
 pub record NoStruct (len : ℕ) (buffers : Bool) (old last : Decoding) (e : Error) : Type 0 where
@@ -88,26 +85,26 @@ pub record RefusesRow {A : Type 0} (name : List ℕ) (len : ℕ) (buffers : Bool
 abbrev pub WrongForm : {A : Type 0} → Listing → Result A Error → Listing → Type 0
 WrongForm old r new = (r ≡ Err InvalidValue) × (new ≡ broken_off old)
 
-abbrev pub FormElement : {X T : Type 0} → (Item → Bool) → (Item → T → Type 0) → Bool → Bool → StructAccess X → Result (Option T) Error → StructAccess X → Type 0
-FormElement takes means grows buffers (form.List a) r (form.List b) = Next takes means grows buffers (listing a) r (listing b)
-FormElement takes means grows buffers (form.Map a) r (form.Map b) = WrongForm (map_listing a) r (map_listing b)
-FormElement takes means grows buffers (form.List a) r (form.Map b) = ⊥
-FormElement takes means grows buffers (form.Map a) r (form.List b) = ⊥
+abbrev pub FormElement : {X T : Type 0} → Meaning T → Bool → StructAccess X → Result (Option T) Error → StructAccess X → Type 0
+FormElement m buffers (form.List a) r (form.List b) = NextElement m buffers (open_list a) r (open_list b)
+FormElement m buffers (form.Map a) r (form.Map b) = WrongForm (listing a) r (listing b)
+FormElement m buffers (form.List a) r (form.Map b) = ⊥
+FormElement m buffers (form.Map a) r (form.List b) = ⊥
 
-abbrev pub FormKey : {X K : Type 0} → (Item → Bool) → (Item → K → Type 0) → Bool → Bool → StructAccess X → Result (Option K) Error → StructAccess X → Type 0
-FormKey takes means grows buffers (form.Map a) r (form.Map b) = NextKey takes means grows buffers (map_listing a) r (map_listing b)
-FormKey takes means grows buffers (form.List a) r (form.List b) = WrongForm (listing a) r (listing b)
-FormKey takes means grows buffers (form.List a) r (form.Map b) = ⊥
-FormKey takes means grows buffers (form.Map a) r (form.List b) = ⊥
+abbrev pub FormKey : {X K : Type 0} → Meaning K → Bool → StructAccess X → Result (Option K) Error → StructAccess X → Type 0
+FormKey m buffers (form.Map a) r (form.Map b) = KeyAnswer m buffers (open_list a) r (open_list b)
+FormKey m buffers (form.List a) r (form.List b) = WrongForm (listing a) r (listing b)
+FormKey m buffers (form.List a) r (form.Map b) = ⊥
+FormKey m buffers (form.Map a) r (form.List b) = ⊥
 
-abbrev pub FormValue : {X V : Type 0} → (Item → Bool) → (Item → V → Type 0) → Bool → Bool → StructAccess X → Result V Error → StructAccess X → Type 0
-FormValue takes means grows buffers (form.Map a) r (form.Map b) = NextValue takes means grows buffers (map_listing a) r (map_listing b)
-FormValue takes means grows buffers (form.List a) r (form.List b) = WrongForm (listing a) r (listing b)
-FormValue takes means grows buffers (form.List a) r (form.Map b) = ⊥
-FormValue takes means grows buffers (form.Map a) r (form.List b) = ⊥
+abbrev pub FormValue : {X V : Type 0} → Meaning V → Bool → StructAccess X → Result V Error → StructAccess X → Type 0
+FormValue m buffers (form.Map a) r (form.Map b) = ValueAnswer m buffers (open_list a) r (open_list b)
+FormValue m buffers (form.List a) r (form.List b) = WrongForm (listing a) r (listing b)
+FormValue m buffers (form.List a) r (form.Map b) = ⊥
+FormValue m buffers (form.Map a) r (form.List b) = ⊥
 
-abbrev pub FormEntry : {X K V : Type 0} → (Item → Bool) → (Item → Bool) → (Item → K → Type 0) → (Item → V → Type 0) → Bool → Bool → Bool → StructAccess X → Result (Option (K × V)) Error → StructAccess X → Type 0
-FormEntry key value means_key means_value grows_key grows_value buffers (form.Map a) r (form.Map b) = NextEntry key value means_key means_value grows_key grows_value buffers (map_listing a) r (map_listing b)
-FormEntry key value means_key means_value grows_key grows_value buffers (form.List a) r (form.List b) = WrongForm (listing a) r (listing b)
-FormEntry key value means_key means_value grows_key grows_value buffers (form.List a) r (form.Map b) = ⊥
-FormEntry key value means_key means_value grows_key grows_value buffers (form.Map a) r (form.List b) = ⊥
+abbrev pub FormEntry : {X K V : Type 0} → Meaning K → Meaning V → Bool → StructAccess X → Result (Option (K × V)) Error → StructAccess X → Type 0
+FormEntry k v buffers (form.Map a) r (form.Map b) = EntryAnswer k v buffers (open_list a) r (open_list b)
+FormEntry k v buffers (form.List a) r (form.List b) = WrongForm (listing a) r (listing b)
+FormEntry k v buffers (form.List a) r (form.Map b) = ⊥
+FormEntry k v buffers (form.Map a) r (form.List b) = ⊥

@@ -7,8 +7,19 @@ use Rattle.amqp_base.specs.Item.{Item}
 use Rattle.amqp_base.specs.Wire.{Wire, lenient, Constructor, bare, under, under_pair}
 use Rattle.amqp_base.specs.Laws.{items_under}
 use Rattle.amqp_base.specs.Refusals.{IsDevice}
-use Rattle.amqp_read.specs.Reading.{Reading, Takes, Steady}
+use Rattle.amqp_read.specs.Reading.{Reading, Takes}
+use Rattle.std.specs.Io.KnownBytes.{Consumes}
+use Rattle.amqp_base.specs.Faults.{IsFault}
 use Rattle.amqp_de.specs.Decoding.{Decoding, stands_under}
+
+-- Some of the bytes to come were consumed, and the others are to come still.
+pub record Advances (old new : Reading) : Type 0 where
+  pub consumed : List ℕ
+  pub rest : Consumes old.to_come new.to_come consumed
+  pub taken : new.taken ≡ old.taken + length consumed
+  pub honest : new.honest ≡ old.honest
+  pub origin : new.origin ≡ old.origin
+  pub faults : old.faults ≤ new.faults
 
 -- A front of the bytes to come spells an item that the type takes, and means the value. Just this front was consumed,
 -- nothing behind it was received, and just its items were begun.
@@ -24,6 +35,11 @@ pub record Front (takes : Item → Bool) (means : Item → Type 0) (old new : De
   pub described : new.described ≡ false
   pub begun : new.begun ≡ old.begun + items_under (stands_under old) item
 
+-- what no bytes call for: a device's fault, or want of memory
+abbrev pub IsCause : Error → Type 0
+IsCause OutOfMemory = ⊤
+IsCause e = IsDevice e
+
 -- the reader's bytes can't all be counted
 abbrev pub Overfull : ℕ → Option (List ℕ) → Type 0
 Overfull n None = ⊤
@@ -32,7 +48,7 @@ Overfull n (Some s) = 2 ^ 64 ≤ n + length s
 -- a refusal that the bytes do not call for
 pub data Excused (grows buffers : Bool) (old new : Reading) (e : Error) : Type 0 where
   no_memory : e ≡ OutOfMemory → IsTrue grows → Excused grows buffers old new e
-  faulted : old.faults < new.faults → IsTrue buffers → Excused grows buffers old new e
+  faulted : IsFault new.last_fault e → old.faults < new.faults → IsTrue buffers → Excused grows buffers old new e
   uncounted : e ≡ Io Other → IsTrue buffers → Overfull old.taken old.to_come → Excused grows buffers old new e
 
 -- how many items an item without bytes may begin
@@ -55,7 +71,7 @@ pub record Spent (more : ℕ) (old new : Decoding) : Type 0 where
 pub record Found (takes : Item → Bool) (means : Item → Type 0) (old new : Decoding) : Type 0 where
   pub front : IsTrue old.answers → Front takes means old new
   pub spent : IsTrue old.answers → Spent (free (stands_under old)) old new
-  pub steady : Steady old.reading new.reading
+  pub steady : Advances old.reading new.reading
 
 -- What a type answers with a refusal: where calls are answered and an item that it takes stands at the front, there is
 -- an excuse. A device's fault was counted.
@@ -63,5 +79,7 @@ pub record Missed (takes : Item → Bool) (grows buffers : Bool) (old new : Deco
   pub why : IsTrue old.answers → (i : Item) (text rest : List ℕ) → Wire lenient (stands_under old) text i → IsTrue (takes i) → old.reading.to_come ≡ Some (text ++ rest) → IsTrue old.reading.honest
       → Excused grows buffers old.reading new.reading e
   pub spent : IsTrue old.answers → Spent (refused_free (stands_under old)) old new
-  pub steady : Steady old.reading new.reading
+  pub steady : Advances old.reading new.reading
   pub device : IsDevice e → old.reading.faults < new.reading.faults
+  -- and only where memory is taken there may be none
+  pub memory : e ≡ OutOfMemory → IsTrue grows

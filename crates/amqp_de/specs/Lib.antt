@@ -2,12 +2,14 @@ pub mod Decoding
 pub mod Parse
 pub mod Law
 pub mod Steps
+pub mod Scalars
 pub mod Places
 pub mod Look
 pub mod Access
 pub mod Seq
 pub mod ReadParts
 pub mod ReadPairs
+pub mod Calls
 pub mod ReadFields
 pub mod Forms
 pub mod OneCode

@@ -1,6 +1,7 @@
 -- What a look at the next item shows.
 use Rattle.std.specs.Prelude.{◌≡◌, ℕ, ◌<◌, Bool, IsTrue, List, [], ◌∷◌, Some, Ok, ⊤}
 use Rattle.amqp_base.specs.declared.error.Error.{Error}
+use Rattle.amqp_base.specs.declared.error.Error.TheVariants.{OutOfMemory}
 use Rattle.amqp_base.specs.declared.format_code.EncodingCodes.{EncodingCodes}
 use Rattle.amqp_base.specs.Codes.{Kind, row}
 use Rattle.amqp_base.specs.Canon.{kind_of}
@@ -60,4 +61,5 @@ pub record LooksNot (buffers : Bool) (old new : Decoding) (err : Error) : Type 0
   pub stays : Stays old.reading new.reading
   pub begun : new.begun ≡ old.begun
   pub device : IsDevice err → old.reading.faults < new.reading.faults
+  pub memory : err ≡ OutOfMemory → IsTrue buffers
   pub rejects : IsTrue old.answers → Rejects buffers buffers (code_at (stands_under old)) old.reading new.reading err

@@ -1,5 +1,5 @@
 -- What stands at the front of the bytes, or the first rule that they break.
-use Rattle.std.specs.Prelude.{ℕ, zero, suc, ◌==◌, ◌%◌, Bool, true, false, ◌&&◌, nat_lt, if◌then◌else◌, List, [], ◌∷◌, length, take, drop, Option, Some, None, Result, Ok, Err}
+use Rattle.std.specs.Prelude.{ℕ, zero, suc, ◌+◌, ◌==◌, ◌%◌, Bool, true, false, ◌&&◌, nat_lt, if◌then◌else◌, List, [], ◌∷◌, length, take, drop, Option, Some, None, Result, Ok, Err}
 use Rattle.std.specs.Str.{is_utf8}
 use Rattle.std.specs.declared.io.ErrorKind.TheVariants.{UnexpectedEof}
 use Rattle.amqp_base.specs.declared.error.Error.{Error}
@@ -101,19 +101,20 @@ item_at data_of c s = byte_under c s >>= λ b. behind_byte data_of b.0 b.1
 abbrev pub code_at : Constructor → List ℕ → Parsed EncodingCodes
 code_at c s = item_at (λ e t. Ok (e, t)) c s
 
--- what must have room for its count: all but an array without elements
-abbrev pub not_empty : Bool → ℕ → Bool
-not_empty true zero = false
-not_empty true (suc n) = true
-not_empty false n = true
+-- what a size must cover: the count's own bytes, and in an array with elements the first byte of their constructor; in one
+-- without elements nothing
+abbrev pub least_size : ℕ → Bool → ℕ → ℕ
+least_size w true zero = 0
+least_size w true (suc n) = w + 1
+least_size w false n = w
 
 -- The rule of every header, in this order: the count is not above the cap; in an array it is not above the size; the
--- size covers the count, save in an array without elements.
+-- size covers what it must.
 abbrev pub header_rule : ℕ → Bool → ℕ → ℕ → List ℕ → Parsed (ℕ × ℕ)
 header_rule w is_array size count s =
     if nat_lt 65536 count then Err InvalidValue
     else (if is_array && nat_lt size count then Err InvalidValue
-    else (if nat_lt size w && not_empty is_array count then Err InvalidLength
+    else (if nat_lt size (least_size w is_array count) then Err InvalidLength
     else Ok ((size, count), s)))
 
 unfoldable pub header_at : ℕ → Bool → List ℕ → Parsed (ℕ × ℕ)

@@ -3,10 +3,11 @@ use Rattle.std.specs.Prelude.{◌≡◌, ℕ, Bool, false, ◌&&◌, IsTrue, Lis
 use Rattle.std.specs.Str.{bytes_eq}
 use Rattle.amqp_base.specs.declared.error.Error.{Error}
 use Rattle.amqp_base.specs.Item.{Item, Items, scalar, string, Pairs, no_pairs, pair}
-use Rattle.amqp_base.specs.Fields.{all_meanings, field}
+use Rattle.amqp_base.specs.Fields.{all_meanings, field, takes_fields}
 use Rattle.amqp_base.specs.NamedFields.{takes_named, means_named}
 use Rattle.amqp_base.specs.Refusals.{IsDevice}
 use Rattle.amqp_de.specs.Decoding.{Decoding}
+use Rattle.amqp_de.specs.Law.{Missed}
 use Rattle.amqp_de.specs.Access.{Listing, Part}
 use Rattle.amqp_de.specs.ReadParts.{Progress, joined}
 use Rattle.amqp_de.specs.ReadPairs.{OutOfTurn, ValueNext}
@@ -69,6 +70,11 @@ pub record FieldRead {V : Type 0} (name : List ℕ) (s t : Slots V) (old new : L
 pub data NoField {V : Type 0} (name : List ℕ) (s : Slots V) (buffers : Bool) (old new : Listing) (e : Error) : Type 0 where
   unknown : new ≡ old → (IsDevice e → ⊥) → ((v : Item) (ps : Pairs) → takes_named s.names s.kinds (under_name name v ps) ≡ false) → NoField name s buffers old new e
   refused : (kind : Item → Bool) (grows : Bool) → OutOfTurn ValueNext kind grows buffers old new e → ((v : Item) (ps : Pairs) → IsTrue (takes_named s.names s.kinds (under_name name v ps)) → IsTrue (kind v)) → NoField name s buffers old new e
+
+-- fields of a list weren't all read: a list of the fields `all` is missed, and no call is answered any more
+pub record NoRow (all : List (Item → Bool)) (grows buffers : Bool) (old last : Decoding) (e : Error) : Type 0 where
+  pub missed : Missed (takes_fields all) grows buffers old last e
+  pub closed : last.answers ≡ false
 
 -- Since `old` a list was opened, and all fields that were awaited were read of it, in order.
 pub record RowRead {V : Type 0} (old : Decoding) (all rest : List (Item → Bool)) (parts : Items) (s t : Slots V) (new : Listing) : Type 0 where

@@ -7,18 +7,8 @@ use Rattle.amqp_base.specs.Maps.{all_pairs_taken, is_map_of}
 use Rattle.amqp_de.specs.Decoding.{Decoding}
 use Rattle.amqp_de.specs.Law.{Missed}
 use Rattle.amqp_de.specs.Parse.{map_data}
-use Rattle.amqp_de.specs.Places.{constructor_of, limit_of}
 use Rattle.amqp_de.specs.Access.{Listing, HasPairs, Opens, OpensNot, Part, NoPart}
 use Rattle.amqp_de.specs.ReadParts.{PartsRead, and_last}
-use Rattle.amqp_de.specs.declared.list.Beyond.{Beyond}
-use Rattle.amqp_de.specs.declared.map.MapAccess.{MapAccess}
-
-abbrev pub map_listing : {X : Type 0} → MapAccess X Beyond → Listing
-map_listing a = record { state = a.de.now; left = a.left; answers = a.answers; outer = constructor_of a.beyond.outer; limit = limit_of a.beyond.limit }
-
--- an access, as contracts see what was read of it
-unfoldable pub open_map : {X : Type 0} → MapAccess X Beyond → Listing
-open_map a = map_listing a
 
 -- A key comes next where as many keys as values are left; else the value of the last key.
 abbrev pub KeyNext : Listing → Type 0
@@ -37,6 +27,7 @@ pub record OutOfTurn (Turn : Listing → Type 0) (takes : Item → Bool) (grows 
   pub other : (Turn old → ⊥) → (err ≡ InvalidValue) × (new ≡ broken_off old)
   pub refused : Turn old → NoPart takes grows buffers old new err
   pub closed : new.answers ≡ false
+  pub silent : old.state.answers ≡ false → new.state.answers ≡ false
 
 -- the next key, or none where none is left
 abbrev pub NextKey : {K : Type 0} → (Item → Bool) → (Item → K → Type 0) → Bool → Bool → Listing → Result (Option K) Error → Listing → Type 0
@@ -54,13 +45,11 @@ pub record NextPair {K V : Type 0} (key value : Item → Bool) (means_key : Item
   pub between : Listing
   pub key_read : NextKey key means_key grows_key buffers old (Ok (Some k)) between
   pub value_read : NextValue value means_value grows_value buffers between (Ok v) new
-  pub same_outer : between.outer ≡ old.outer
-  pub same_limit : between.limit ≡ old.limit
 
 -- a pair that is refused: its key, or the value behind a key
 pub data NoEntry {K : Type 0} (key value : Item → Bool) (means_key : Item → K → Type 0) (grows_key grows_value buffers : Bool) (old new : Listing) (e : Error) : Type 0 where
   no_key : OutOfTurn KeyNext key grows_key buffers old new e → NoEntry key value means_key grows_key grows_value buffers old new e
-  no_value : (k : K) (mid : Listing) → NextKey key means_key grows_key buffers old (Ok (Some k)) mid → mid.outer ≡ old.outer → mid.limit ≡ old.limit → OutOfTurn ValueNext value grows_value buffers mid new e → NoEntry key value means_key grows_key grows_value buffers old new e
+  no_value : (k : K) (mid : Listing) → NextKey key means_key grows_key buffers old (Ok (Some k)) mid → OutOfTurn ValueNext value grows_value buffers mid new e → NoEntry key value means_key grows_key grows_value buffers old new e
 
 abbrev pub NextEntry : {K V : Type 0} → (Item → Bool) → (Item → Bool) → (Item → K → Type 0) → (Item → V → Type 0) → Bool → Bool → Bool → Listing → Result (Option (K × V)) Error → Listing → Type 0
 NextEntry key value means_key means_value grows_key grows_value buffers old (Ok None) new = (old.left ≡ 0) × (new ≡ old) × IsTrue old.answers

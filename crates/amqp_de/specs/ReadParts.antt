@@ -12,8 +12,8 @@ use Rattle.amqp_de.specs.Parse.{item_at, list_data, tuple_data}
 use Rattle.amqp_de.specs.Steps.{Rejects}
 use Rattle.amqp_de.specs.Seq.{listing, seq_listing}
 use Rattle.amqp_de.specs.Access.{Listing, Within, HasParts, Opens, OpensNot, items_of_all, cost}
-use Rattle.amqp_de.specs.declared.list.ListAccess.{ListAccess}
-use Rattle.amqp_de.specs.declared.list.Beyond.{Beyond}
+use Rattle.amqp_de.specs.declared.list.Access.{Access}
+use Rattle.amqp_de.specs.declared.list.Open.{Open}
 use Rattle.amqp_de.specs.declared.seq.SeqAccess.{SeqAccess}
 
 -- one more part behind these
@@ -27,7 +27,7 @@ joined none js = js
 joined (more i is) js = more i (joined is js)
 
 -- an access, as contracts see what was read of it
-unfoldable pub open_list : {X : Type 0} → ListAccess X Beyond → Listing
+unfoldable pub open_list : {X F : Type 0} → Access X F Open → Listing
 open_list a = listing a
 
 unfoldable pub open_seq : {X : Type 0} → SeqAccess X → Listing
@@ -46,6 +46,7 @@ pub record PartsRead (from : Listing) (parts : Items) (now : Listing) : Type 0 w
   pub outer : now.outer ≡ from.outer
   pub limit : now.limit ≡ from.limit
   pub answers : IsTrue now.answers
+  pub closed : now.state.answers ≡ false
   pub within : Within from.limit now.state.reading.taken
   pub spent : now.state.begun + 16384 * from.state.reading.taken + cost from.state.inherited now.left + min 2 (2 * now.left) ≤ from.state.begun + 16384 * now.state.reading.taken + cost from.state.inherited from.left + min 2 (2 * from.left)
   pub tracks : (is : Items) (x behind : List ℕ) → Parts lenient from.state.inherited x is → count is ≡ from.left → from.state.reading.to_come ≡ Some (x ++ behind)
@@ -58,11 +59,6 @@ pub record Progress (old : Decoding) (all rest : List (Item → Bool)) (parts : 
   pub opened : Opens HasParts old from
   pub reads : PartsRead from parts now
   pub fields : (js : Items) → all_fields all (joined parts js) ≡ all_fields rest js
-
--- Of an item with the fields `all`, which was opened since `old`, all but the fields `rest` were read.
-pub record HasRead (old : Decoding) (all rest : List (Item → Bool)) (now : Listing) : Type 0 where
-  pub parts : Items
-  pub progress : Progress old all rest parts now
 
 -- one more part was read, of this meaning
 pub record MoreRead (old : Decoding) (all rest : List (Item → Bool)) (parts : Items) (means : Item → Type 0) (now : Listing) : Type 0 where

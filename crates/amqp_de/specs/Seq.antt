@@ -2,14 +2,19 @@
 use Rattle.std.specs.Borrow.{MutBor}
 use Rattle.amqp_de.specs.Places.{constructor_of, limit_of}
 use Rattle.amqp_de.specs.Access.{Listing}
+use Rattle.amqp_de.specs.Decoding.{Decoding}
 use Rattle.amqp_de.specs.declared.deserializer.Deserializer.{Deserializer}
-use Rattle.amqp_de.specs.declared.list.ListAccess.{ListAccess}
-use Rattle.amqp_de.specs.declared.list.Beyond.{Beyond}
+use Rattle.amqp_de.specs.declared.list.Access.{Access}
+use Rattle.amqp_de.specs.declared.list.Open.{Open}
 use Rattle.amqp_de.specs.declared.seq.SeqAccess.{SeqAccess}
 use Rattle.amqp_de.specs.declared.seq.SeqAccess.TheVariants as seq
 
-abbrev pub listing : {X : Type 0} → ListAccess X Beyond → Listing
-listing a = record { state = a.de.now; left = a.left; answers = a.answers; outer = constructor_of a.beyond.outer; limit = limit_of a.beyond.limit }
+-- what is open, behind this deserializer
+abbrev pub at_open : Decoding → Open → Listing
+at_open d o = record { state = d; left = o.left; answers = o.answers; outer = constructor_of o.outer; limit = limit_of o.limit }
+
+abbrev pub listing : {X F : Type 0} → Access X F Open → Listing
+listing a = at_open a.de.now a.inner
 
 abbrev pub seq_listing : {X : Type 0} → SeqAccess X → Listing
 seq_listing (seq.List a) = listing a

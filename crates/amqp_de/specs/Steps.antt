@@ -2,7 +2,8 @@
 use Rattle.std.specs.Prelude.{◌≡◌, ℕ, ◌+◌, ◌^◌, ◌<◌, ◌≤◌, ◌⊎◌, Bool, true, false, IsTrue, List, ◌++◌, length, Some, Result, Ok, Err, OnErr}
 use Rattle.std.specs.Str.{is_utf8}
 use Rattle.amqp_base.specs.declared.error.Error.{Error}
-use Rattle.amqp_base.specs.declared.error.Error.TheVariants.{InvalidValue}
+use Rattle.std.specs.declared.io.ErrorKind.TheVariants.{UnexpectedEof}
+use Rattle.amqp_base.specs.declared.error.Error.TheVariants.{Io, InvalidValue, OutOfMemory}
 use Rattle.amqp_base.specs.declared.format_code.EncodingCodes.{EncodingCodes}
 use Rattle.amqp_base.specs.Codes.{code_of}
 use Rattle.amqp_base.specs.Item.{Item, described, items}
@@ -10,10 +11,10 @@ use Rattle.amqp_base.specs.Value.{number}
 use Rattle.amqp_base.specs.Wire.{under, Wire, lenient}
 use Rattle.amqp_base.specs.Laws.{items_under}
 use Rattle.amqp_base.specs.Refusals.{IsDevice}
-use Rattle.amqp_read.specs.Reading.{Reading, Takes, Steady, Stays}
+use Rattle.amqp_read.specs.Reading.{Reading, Takes, Stays}
 use Rattle.amqp_read.specs.Steps.{NotTaken}
 use Rattle.amqp_de.specs.Decoding.{Decoding, stands_under}
-use Rattle.amqp_de.specs.Law.{Excused, free}
+use Rattle.amqp_de.specs.Law.{Excused, Advances, free}
 use Rattle.amqp_de.specs.Parse.{Parsed, byte_under}
 
 -- the answer that the bytes call for, where they parse so
@@ -32,8 +33,13 @@ pub record ParsesAs {A : Type 0} (parse : List ℕ → Parsed A) (old new : Read
 -- the refusal that the bytes call for
 pub record Rejects {A : Type 0} (grows buffers : Bool) (parse : List ℕ → Parsed A) (old new : Reading) (e : Error) : Type 0 where
   pub why : (s : List ℕ) → old.to_come ≡ Some s → IsTrue old.honest → (parse s ≡ Err e) ⊎ Excused grows buffers old new e
-  pub steady : Steady old new
+  pub steady : Advances old new
   pub device : IsDevice e → old.faults < new.faults
+  pub memory : e ≡ OutOfMemory → IsTrue grows
+
+-- memory is asked for only where no bytes are missing; a reader over a source asks for some of its own
+pub record BytesFirst {A : Type 0} (buffers : Bool) (parse : List ℕ → Parsed A) (old : Reading) (e : Error) : Type 0 where
+  pub there : e ≡ OutOfMemory → IsTrue buffers ⊎ ((s : List ℕ) → old.to_come ≡ Some s → parse s ≡ Err (Io UnexpectedEof) → ⊥)
 
 -- a call of the deserializer's own: a refusal ends it, and then each call is refused
 pub record Stops {A : Type 0} (old : Decoding) (result : Result A Error) (new : Decoding) : Type 0 where
@@ -91,7 +97,7 @@ pub record Begins (old new : Decoding) (byte : ℕ) : Type 0 where
 pub record BeginsNot (buffers : Bool) (old new : Decoding) (e : Error) : Type 0 where
   pub rejects : Rejects buffers buffers (byte_under (stands_under old)) old.reading new.reading e
   pub closed : new.answers ≡ false
-  pub few : new.begun ≤ old.begun + 1
+  pub few : new.begun ≡ old.begun + 1
 
 -- data of the byte's code were consumed, which spell the item
 pub record IsData (byte : ℕ) (i : Item) (old new : Reading) : Type 0 where

@@ -1,11 +1,9 @@
 //! Calls that look at any item, or pass it on.
 
-ghost use Rattle.std.specs.Prelude.{◌≡◌, Bool, true, false, ◌||◌, ◌∷◌, [], IsTrue, IfOk, IfErr, Some};
-ghost use Rattle.amqp_read.specs.Reading.{Reading};
-ghost use Rattle.amqp_read.specs.Steps.{Looked, Shows};
-ghost use Rattle.amqp_de.specs.Law.{Found, Missed};
+ghost use Rattle.std.specs.Prelude.{false, IfOk, IfErr, Some};
 ghost use Rattle.amqp_de.specs.Look.{Looks, LooksNot, Peeks, PeeksNot};
 ghost use Rattle.amqp_de.specs.Steps.{Stops};
+ghost use Rattle.amqp_de.specs.Calls.{IsRead, IsRefused};
 
 use crate::constructor::Constructor;
 use crate::{Deserialize, Deserializer};
@@ -18,7 +16,8 @@ use std::io::ErrorKind;
 /// The code of the next byte, which stays.
 fn code_ahead<R: Read>(reader: &mut R) -> Result<EncodingCodes, Error>
     ensures ok { IfOk result (λ e. Peeks e (R.reading reader.old) (R.reading reader.new)) }
-    ensures err { IfErr result (λ e. PeeksNot R.buffers (R.reading reader.old) (R.reading reader.new) e) }
+    ensures err { IfErr result (λ e.
+        PeeksNot R.buffers (R.reading reader.old) (R.reading reader.new) e) }
 {
     match reader.peek() {
         Ok(Some(byte)) => EncodingCodes::try_from(byte),
@@ -69,8 +68,8 @@ impl<R: Read> Deserializer<R> {
         alloc: Global,
         name: &'static str,
     ) -> Result<T, Error>
-        ensures ok { IfOk result (λ v. Found T.takes (λ i. T.means i v) self.old self.new) }
-        ensures err { IfErr result (λ e. Missed T.takes (T.grows || R.buffers) R.buffers self.old self.new e) }
+        ensures ok { IfOk result (λ v. IsRead T.meaning v self.old self.new) }
+        ensures err { IfErr result (λ e. IsRefused T.meaning R.buffers self.old self.new e) }
         ensures stops { Stops self.old result self.new }
     {
         let _ = name;

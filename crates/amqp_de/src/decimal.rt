@@ -22,8 +22,10 @@ use std::alloc::Global;
 /// The data of a decimal's code, given its byte.
 #[inline(always)]
 fn data<R: Read>(reader: &mut R, code: u8) -> Result<Decimal, Error>
-    ensures ok { IfOk result (λ d. IsData code (scalar (decimal d)) (R.reading reader.old) (R.reading reader.new)) }
-    ensures err { IfErr result (λ e. Rejects R.buffers R.buffers (behind_byte decimal_at code) (R.reading reader.old) (R.reading reader.new) e) }
+    ensures ok { IfOk result (λ d.
+        IsData code (scalar (decimal d)) (R.reading reader.old) (R.reading reader.new)) }
+    ensures err { IfErr result (λ e. Rejects R.buffers R.buffers (behind_byte decimal_at code)
+        (R.reading reader.old) (R.reading reader.new) e) }
 {
     match code {
         0x74 => match read_const_bytes::<R, 4>(reader) {
@@ -49,9 +51,12 @@ impl<R: Read> Deserializer<R> {
     /// deserializer.
     #[inline(always)]
     pub fn deserialize_decimal(&mut self) -> Result<Decimal, Error>
-        ensures ok { IfOk result (λ d. Found is_decimal (λ i. i ≡ scalar (decimal d)) self.old self.new) }
-        ensures err { IfErr result (λ e. Missed is_decimal R.buffers R.buffers self.old self.new e) }
-        ensures exact { IsTrue self.old.answers → Exact decimal R.buffers R.buffers (item_at decimal_at (stands_under self.old)) self.old.reading result self.new.reading }
+        ensures ok { IfOk result (λ d.
+            Found is_decimal (λ i. i ≡ scalar (decimal d)) self.old self.new) }
+        ensures err { IfErr result (λ e.
+            Missed is_decimal R.buffers R.buffers self.old self.new e) }
+        ensures exact { IsTrue self.old.answers → Exact decimal R.buffers R.buffers
+            (item_at decimal_at (stands_under self.old)) self.old.reading result self.new.reading }
         ensures stops { Stops self.old result self.new }
     {
         if !self.answers {
@@ -78,10 +83,13 @@ fn of_width<R: Read>(
     wanted: EncodingCodes,
     refusal: &'static str,
 ) -> Result<Decimal, Error>
-    requires { IsTrue (alone (row wanted).kind (row wanted).byte codes) × IsTrue (is_decimal_kind (row wanted).kind) }
+    requires { IsTrue (alone (row wanted).kind (row wanted).byte codes) ×
+        IsTrue (is_decimal_kind (row wanted).kind) }
     ensures ok { IfOk result (λ d. Found is_decimal (λ i. i ≡ scalar (decimal d)) de.old de.new) }
-    ensures other { IfOk result (λ d. (kind_of (decimal d) ≡ (row wanted).kind → ⊥) → Missed (is_of (row wanted).kind) true R.buffers de.old de.new InvalidFormatCode) }
-    ensures err { IfErr result (λ e. Missed (is_of (row wanted).kind) true R.buffers de.old de.new e) }
+    ensures other { IfOk result (λ d. (kind_of (decimal d) ≡ (row wanted).kind → ⊥) →
+        Missed (is_of (row wanted).kind) true R.buffers de.old de.new InvalidFormatCode) }
+    ensures err { IfErr result (λ e.
+        Missed (is_of (row wanted).kind) true R.buffers de.old de.new e) }
 {
     match de.deserialize_any() {
         Ok(code) => {

@@ -1,8 +1,7 @@
 //! The trait of the types that are read.
 
-ghost use Rattle.std.specs.Prelude.{Bool, true, false, ◌||◌, IfOk, IfErr};
-ghost use Rattle.amqp_de.specs.Decoding.{Decoding};
-ghost use Rattle.amqp_de.specs.Law.{Found, Missed};
+ghost use Rattle.std.specs.Prelude.{IfOk, IfErr};
+ghost use Rattle.amqp_de.specs.Calls.{IsRead, IsRefused};
 
 use crate::Deserializer;
 use amqp_base::{Error, Typed};
@@ -20,8 +19,8 @@ pub trait Deserialize<R: Read>: Typed + Sized {
     /// fault of the source, and `Io(Other)` where the bytes can't be counted. An error leaves the reader at most behind
     /// the item.
     fn deserialize(alloc: Global, de: &mut Deserializer<R>) -> Result<Self, Error>
-        ensures ok { IfOk result (λ v. Found Self.takes (λ i. Self.means i v) de.old de.new) }
-        ensures err { IfErr result (λ e. Missed Self.takes (Self.grows || R.buffers) R.buffers de.old de.new e) };
+        ensures ok { IfOk result (λ v. IsRead Self.meaning v de.old de.new) }
+        ensures err { IfErr result (λ e. IsRefused Self.meaning R.buffers de.old de.new e) };
 }
 
 impl<R: Read> Deserialize<R> for () {

@@ -1,14 +1,10 @@
 //! The deserializer: a reader, and where in an item it stands.
 
-ghost use Rattle.std.specs.Prelude.{◌≡◌, ◌<◌, ℕ, Bool, true, false, ◌||◌, IsTrue, IfOk, IfErr, IsOk, [], ◌∷◌};
+ghost use Rattle.std.specs.Prelude.{◌≡◌, ◌<◌, true, false, IfOk, IfErr, [], ◌∷◌};
 ghost use Rattle.amqp_base.specs.Wire.{bare};
-ghost use Rattle.amqp_base.specs.Refusals.{IsDevice};
-ghost use Rattle.amqp_base.specs.Codes.{row};
-ghost use Rattle.amqp_read.specs.Reading.{Reading, Takes, Stays, Steady};
-ghost use Rattle.amqp_de.specs.Decoding.{Decoding, stands_under};
-ghost use Rattle.amqp_de.specs.Law.{Found, Missed};
-ghost use Rattle.amqp_de.specs.Steps.{Begins, BeginsNot, Stops, Unread};
-ghost use Rattle.amqp_de.specs.Parse.{byte_under};
+ghost use Rattle.amqp_read.specs.Reading.{Takes};
+ghost use Rattle.amqp_de.specs.Decoding.{Decoding};
+ghost use Rattle.amqp_de.specs.Steps.{Begins, BeginsNot, Unread};
 
 use crate::constructor::Constructor;
 use amqp_base::{Count, Error};
@@ -45,7 +41,13 @@ impl<R: Read> Model for Deserializer<R> {
 impl<R: Read> Deserializer<R> {
     /// A deserializer that reads from where `reader` stands. Nothing is consumed.
     pub fn new(reader: R) -> Deserializer<R>
-        ensures { result ≡ record { reading = R.reading reader; answers = true; inherited = bare; described = false; begun = 0 } }
+        ensures { result ≡ record {
+          reading = R.reading reader;
+          answers = true;
+          inherited = bare;
+          described = false;
+          begun = 0;
+        } }
     {
         Deserializer {
             reader,
@@ -104,7 +106,8 @@ impl<R: Read> Deserializer<R> {
 #[inline(always)]
 pub(crate) fn byte<R: Read>(reader: &mut R) -> Result<u8, Error>
     ensures ok { IfOk result (λ b. Takes (R.reading reader.old) (R.reading reader.new) (b ∷ [])) }
-    ensures err { IfErr result (λ e. Unread R.buffers R.buffers 1 (R.reading reader.old) (R.reading reader.new) e) }
+    ensures err { IfErr result (λ e.
+        Unread R.buffers R.buffers 1 (R.reading reader.old) (R.reading reader.new) e) }
 {
     match reader.next() {
         Ok(Some(byte)) => Ok(byte),

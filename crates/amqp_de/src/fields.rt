@@ -1,14 +1,10 @@
 //! The fields of a struct, read by their names or in order.
 
-ghost use Rattle.std.specs.Prelude.{◌≡◌, Bool, true, false, IsTrue, Option, Some, None, List, ◌++◌, length, IfErr, OnOk};
+ghost use Rattle.std.specs.Prelude.{◌≡◌, Bool, false, ◌||◌, IsTrue, Option, Some, None, List, ◌++◌, length, IfErr, OnOk};
 ghost use Rattle.amqp_base.specs.Item.{Item, Items};
-ghost use Rattle.amqp_base.specs.Fields.{takes_fields};
 ghost use Rattle.amqp_de.specs.Decoding.{Decoding};
-ghost use Rattle.amqp_de.specs.Law.{Missed};
-ghost use Rattle.amqp_de.specs.Places.{constructor_of, limit_of};
-ghost use Rattle.amqp_de.specs.ReadParts.{Progress, HasRead, open_list};
-ghost use Rattle.amqp_de.specs.ReadPairs.{map_listing};
-ghost use Rattle.amqp_de.specs.ReadFields.{Slots, no_slots, slot, awaits, all_read, HaveValues, FieldRead, NoField, RowRead};
+ghost use Rattle.amqp_de.specs.ReadParts.{Progress, open_list};
+ghost use Rattle.amqp_de.specs.ReadFields.{Slots, no_slots, slot, awaits, all_read, HaveValues, FieldRead, NoField, RowRead, NoRow};
 
 use crate::{Deserialize, ListAccess, MapAccess};
 use amqp_base::Error;
@@ -17,6 +13,7 @@ use std::alloc::Global;
 
 /// The fields of a struct while it is read: a `Field` and the fields behind it, and `()` behind the last.
 pub trait Fields<R: Read>: Drop {
+    ghost use Rattle.std.specs.Prelude.{Bool};
     ghost use Rattle.amqp_de.specs.ReadFields.{Slots};
 
     /// Their values: that of the first field and those of the fields behind it, and `()` behind the last.
@@ -24,6 +21,9 @@ pub trait Fields<R: Read>: Drop {
 
     /// The fields that have no value yet.
     ghost slots: { Self → Slots Self.Values };
+
+    /// Whether one of them takes memory.
+    ghost grows: { Bool };
 
     /// Whether so many fields have no value yet.
     fn are(&self, count: u32) -> bool
@@ -41,11 +41,10 @@ pub trait Fields<R: Read>: Drop {
         map: &mut MapAccess<'_, R>,
     ) -> Result<(), Error>
         ensures same_reference { map.new.de.ghost_name ≡ map.old.de.ghost_name }
-        ensures kept_outer { constructor_of map.new.beyond.outer ≡ constructor_of map.old.beyond.outer }
-        ensures kept_limit { limit_of map.new.beyond.limit ≡ limit_of map.old.beyond.limit }
-        ensures closed { map.old.de.now.answers ≡ false → map.new.de.now.answers ≡ false }
-        ensures read { OnOk result (FieldRead name.now (slots self.old) (slots self.new) (map_listing map.old) (map_listing map.new)) }
-        ensures refused { IfErr result (λ e. NoField name.now (slots self.old) R.buffers (map_listing map.old) (map_listing map.new) e) };
+        ensures read { OnOk result (FieldRead name.now (slots self.old) (slots self.new)
+            (open_list map.old) (open_list map.new)) }
+        ensures refused { IfErr result (λ e. NoField name.now (slots self.old) R.buffers
+            (open_list map.old) (open_list map.new) e) };
 
     /// Reads the next elements of a list as the fields without a value, in order.
     ///
@@ -53,11 +52,14 @@ pub trait Fields<R: Read>: Drop {
     /// behind a refusal: its deserializer is ended then.
     fn read_elements(&mut self, alloc: Global, list: &mut ListAccess<'_, R>) -> Result<(), Error>
         ensures same_reference { list.new.de.ghost_name ≡ list.old.de.ghost_name }
-        ensures closed { list.old.de.now.answers ≡ false → list.new.de.now.answers ≡ false }
-        ensures read { OnOk result ((old : Decoding) (all rest : List (Item → Bool)) (parts : Items) → Progress old all ((slots self.old).kinds ++ rest) parts (open_list list.old) →
+        ensures read { OnOk result ((old : Decoding) (all rest : List (Item → Bool))
+            (parts : Items) → Progress old all ((slots self.old).kinds ++ rest) parts
+            (open_list list.old) →
             RowRead old all rest parts (slots self.old) (slots self.new) (open_list list.new)) }
-        ensures refused { IfErr result (λ e. (old : Decoding) (all rest : List (Item → Bool)) → HasRead old all ((slots self.old).kinds ++ rest) (open_list list.old) →
-            Missed (takes_fields all) true R.buffers old list.new.de.now e) };
+        ensures refused { IfErr result (λ e. (old : Decoding) (all rest : List (Item → Bool))
+            (parts : Items) → Progress old all ((slots self.old).kinds ++ rest) parts
+            (open_list list.old) →
+            NoRow all (grows || R.buffers) R.buffers old list.new.de.now e) };
 
     /// The values, where every field has one.
     fn into_values(self) -> Option<Self::Values>
@@ -69,6 +71,8 @@ impl<R: Read> Fields<R> for () {
     type Values = ();
 
     ghost slots = { λ _. no_slots };
+
+    ghost grows = { false };
 
     #[inline(always)]
     fn are(&self, count: u32) -> bool {
@@ -102,9 +106,12 @@ impl<R: Read> Fields<R> for () {
 /// A field under its name, and the fields behind it: `Field::new("bar", Field::new("is_fool", ()))`.
 #[derive(Drop)]
 pub struct Field<'n, T, Rest> {
-    name: &'n str,
-    value: Option<T>,
-    rest: Rest,
+    /// Its name.
+    pub name: &'n str,
+    /// Its value, once it was read.
+    pub value: Option<T>,
+    /// The fields behind it.
+    pub rest: Rest,
 }
 
 impl<'n, T: Drop, Rest: Drop> Field<'n, T, Rest> {
@@ -145,7 +152,9 @@ impl<'n, T: Drop, Rest: Drop> Field<'n, T, Rest> {
 impl<'n, R: Read, T: Deserialize<R>, Rest: Fields<R>> Fields<R> for Field<'n, T, Rest> {
     type Values = (T, Rest::Values);
 
-    ghost slots = { λ f. slot f.name.now T.takes T.means f.value (Rest.slots f.rest) };
+    ghost slots = { λ f. slot f.name.now T.meaning.takes T.meaning.means f.value (Rest.slots f.rest) };
+
+    ghost grows = { T.meaning.grows || Rest.grows };
 
     #[inline(always)]
     fn are(&self, count: u32) -> bool {

@@ -1,14 +1,10 @@
 //! Floating point numbers, timestamps and uuids.
 #![tactic(auto, unfolding(amqp_base::specs::Codes::row, amqp_base::specs::SameKind::same_kind, amqp_base::specs::SameKind::place, crate::specs::OneCode::is_only))]
 
-ghost use Rattle.std.specs.Prelude.{◌≡◌, ℕ, ℤ, List, false, ◌||◌, IsTrue, IfOk, IfErr};
+ghost use Rattle.std.specs.Prelude.{false};
 ghost use Rattle.amqp_base.specs.Codes.{Kind};
-ghost use Rattle.amqp_base.specs.Item.{scalar, float, double, timestamp, uuid};
-ghost use Rattle.amqp_base.specs.Typing.{is_of};
-ghost use Rattle.amqp_de.specs.Decoding.{stands_under};
-ghost use Rattle.amqp_de.specs.Law.{Found, Missed};
-ghost use Rattle.amqp_de.specs.Parse.{item_at, data_at};
-ghost use Rattle.amqp_de.specs.Steps.{Exact, Stops};
+ghost use Rattle.amqp_base.specs.Item.{float, double, timestamp, uuid};
+ghost use Rattle.amqp_de.specs.Scalars.{ReadsScalar};
 
 use crate::Deserializer;
 use crate::leaf::{Leaf, fixed};
@@ -131,10 +127,7 @@ impl<R: Read> Deserializer<R> {
     /// deserializer.
     #[inline(always)]
     pub fn deserialize_f32(&mut self) -> Result<Float, Error>
-        ensures ok { IfOk result (λ n. Found (is_of Kind.float) (λ i. i ≡ scalar (float n)) self.old self.new) }
-        ensures err { IfErr result (λ e. Missed (is_of Kind.float) R.buffers R.buffers self.old self.new e) }
-        ensures exact { IsTrue self.old.answers → Exact float R.buffers R.buffers (item_at (data_at Kind.float) (stands_under self.old)) self.old.reading result self.new.reading }
-        ensures stops { Stops self.old result self.new }
+        ensures { ReadsScalar Kind.float float R.buffers R.buffers self.old result self.new }
     {
         self.leaf(AsFloat)
     }
@@ -145,10 +138,7 @@ impl<R: Read> Deserializer<R> {
     /// deserializer.
     #[inline(always)]
     pub fn deserialize_f64(&mut self) -> Result<Double, Error>
-        ensures ok { IfOk result (λ n. Found (is_of Kind.double) (λ i. i ≡ scalar (double n)) self.old self.new) }
-        ensures err { IfErr result (λ e. Missed (is_of Kind.double) R.buffers R.buffers self.old self.new e) }
-        ensures exact { IsTrue self.old.answers → Exact double R.buffers R.buffers (item_at (data_at Kind.double) (stands_under self.old)) self.old.reading result self.new.reading }
-        ensures stops { Stops self.old result self.new }
+        ensures { ReadsScalar Kind.double double R.buffers R.buffers self.old result self.new }
     {
         self.leaf(AsDouble)
     }
@@ -159,10 +149,8 @@ impl<R: Read> Deserializer<R> {
     /// deserializer.
     #[inline(always)]
     pub fn deserialize_timestamp(&mut self) -> Result<Timestamp, Error>
-        ensures ok { IfOk result (λ n. Found (is_of Kind.timestamp) (λ i. i ≡ scalar (timestamp n)) self.old self.new) }
-        ensures err { IfErr result (λ e. Missed (is_of Kind.timestamp) R.buffers R.buffers self.old self.new e) }
-        ensures exact { IsTrue self.old.answers → Exact timestamp R.buffers R.buffers (item_at (data_at Kind.timestamp) (stands_under self.old)) self.old.reading result self.new.reading }
-        ensures stops { Stops self.old result self.new }
+        ensures { ReadsScalar Kind.timestamp timestamp R.buffers R.buffers self.old
+            result self.new }
     {
         self.leaf(AsTimestamp)
     }
@@ -173,10 +161,7 @@ impl<R: Read> Deserializer<R> {
     /// deserializer.
     #[inline(always)]
     pub fn deserialize_uuid(&mut self) -> Result<Uuid, Error>
-        ensures ok { IfOk result (λ b. Found (is_of Kind.uuid) (λ i. i ≡ scalar (uuid b)) self.old self.new) }
-        ensures err { IfErr result (λ e. Missed (is_of Kind.uuid) R.buffers R.buffers self.old self.new e) }
-        ensures exact { IsTrue self.old.answers → Exact uuid R.buffers R.buffers (item_at (data_at Kind.uuid) (stands_under self.old)) self.old.reading result self.new.reading }
-        ensures stops { Stops self.old result self.new }
+        ensures { ReadsScalar Kind.uuid uuid R.buffers R.buffers self.old result self.new }
     {
         self.leaf(AsUuid)
     }

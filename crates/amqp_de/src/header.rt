@@ -1,17 +1,17 @@
 //! Sizes and counts in front of a body: the one place where they are read.
 
-ghost use Rattle.std.specs.Prelude.{◌≡◌, ◌⊎◌, ◌%◌, ℕ, ◌∷◌, Bool, true, false, None, IfOk, IfErr};
+ghost use Rattle.std.specs.Prelude.{nat_lt, ◌&&◌, ◌≡◌, ◌⊎◌, ◌%◌, false, None, IfOk, IfErr};
 ghost use Rattle.amqp_base.specs.Wire.{bare};
 ghost use Rattle.amqp_de.specs.Access.{Header, HasParts, HasPairs, OpensData};
-ghost use Rattle.amqp_de.specs.Parse.{header_at, behind_byte, list_data, count_at, pairs_at, map_data};
+ghost use Rattle.amqp_de.specs.Parse.{header_at, least_size, behind_byte, list_data, pairs_at, map_data};
 ghost use Rattle.amqp_de.specs.Steps.{Rejects, ParsesAs};
 
 use crate::payloads::number;
-use amqp_base::Error;
+use amqp_base::{Error, MAX_ARRAY_COUNT};
 use amqp_read::Read;
 
 /// The most elements of a list or an array, and keys and values of a map.
-const MOST: u32 = 65_536;
+const MOST: u32 = MAX_ARRAY_COUNT as u32;
 
 /// The size and the count, which keep the rule of every header.
 #[inline(always)]
@@ -21,8 +21,10 @@ pub(crate) fn header<R: Read>(
     is_array: bool,
 ) -> Result<(u32, u32), Error>
     requires { (width ≡ 1) ⊎ (width ≡ 4) }
-    ensures ok { IfOk result (λ h. Header width is_array h.0 h.1 (R.reading reader.old) (R.reading reader.new)) }
-    ensures err { IfErr result (λ e. Rejects R.buffers R.buffers (header_at width is_array) (R.reading reader.old) (R.reading reader.new) e) }
+    ensures ok { IfOk result (λ h.
+        Header width is_array h.0 h.1 (R.reading reader.old) (R.reading reader.new)) }
+    ensures err { IfErr result (λ e. Rejects R.buffers R.buffers (header_at width is_array)
+        (R.reading reader.old) (R.reading reader.new) e) }
 {
     let size = match number(reader, width) {
         Ok(size) => size,
@@ -35,29 +37,45 @@ pub(crate) fn header<R: Read>(
     if count > MOST {
         return Err(Error::InvalidValue);
     }
-    if is_array {
-        if count > size {
-            return Err(Error::InvalidValue);
-        }
-        if count > 0 {
-            if size < width {
-                return Err(Error::InvalidLength);
-            }
-        }
-        return Ok((size, count));
+    if passes_size(is_array, size, count) {
+        return Err(Error::InvalidValue);
     }
-    if size < width {
+    if size < least_size(width, is_array, count) {
         return Err(Error::InvalidLength);
     }
     Ok((size, count))
 }
 
+/// Whether an array has more elements than its size has bytes.
+#[inline(always)]
+fn passes_size(is_array: bool, size: u32, count: u32) -> bool
+    ensures { result ≡ (is_array && nat_lt size count) }
+{
+    is_array && size < count
+}
+
+/// What a size must cover: the count's own bytes, and in an array with elements the first byte of their constructor; in one
+/// without elements nothing.
+#[inline(always)]
+fn least_size(width: u32, is_array: bool, count: u32) -> u32
+    requires { (width ≡ 1) ⊎ (width ≡ 4) }
+    ensures { result ≡ least_size width is_array count }
+{
+    if !is_array {
+        return width;
+    }
+    if count == 0 { 0 } else { width + 1 }
+}
+
 /// The data of a list up to its elements: how many there are.
 #[inline(always)]
 pub(crate) fn list_count<R: Read>(reader: &mut R, code: u8) -> Result<u32, Error>
-    ensures ok { IfOk result (λ n. OpensData HasParts code (R.reading reader.old) (R.reading reader.new) bare n None) }
-    ensures exact { IfOk result (λ n. ParsesAs (behind_byte list_data code) (R.reading reader.old) (R.reading reader.new) n) }
-    ensures err { IfErr result (λ e. Rejects R.buffers R.buffers (behind_byte list_data code) (R.reading reader.old) (R.reading reader.new) e) }
+    ensures ok { IfOk result (λ n.
+        OpensData HasParts code (R.reading reader.old) (R.reading reader.new) bare n None) }
+    ensures exact { IfOk result (λ n.
+        ParsesAs (behind_byte list_data code) (R.reading reader.old) (R.reading reader.new) n) }
+    ensures err { IfErr result (λ e. Rejects R.buffers R.buffers (behind_byte list_data code)
+        (R.reading reader.old) (R.reading reader.new) e) }
 {
     match code {
         0x45 => Ok(0),
@@ -77,9 +95,11 @@ pub(crate) fn list_count<R: Read>(reader: &mut R, code: u8) -> Result<u32, Error
 #[inline(always)]
 fn map_header<R: Read>(reader: &mut R, width: u32) -> Result<(u32, u32), Error>
     requires { (width ≡ 1) ⊎ (width ≡ 4) }
-    ensures ok { IfOk result (λ h. Header width false h.0 h.1 (R.reading reader.old) (R.reading reader.new)) }
+    ensures ok { IfOk result (λ h.
+        Header width false h.0 h.1 (R.reading reader.old) (R.reading reader.new)) }
     ensures even { IfOk result (λ h. h.1 % 2 ≡ 0) }
-    ensures err { IfErr result (λ e. Rejects R.buffers R.buffers (pairs_at width) (R.reading reader.old) (R.reading reader.new) e) }
+    ensures err { IfErr result (λ e. Rejects R.buffers R.buffers (pairs_at width)
+        (R.reading reader.old) (R.reading reader.new) e) }
 {
     match header(reader, width, false) {
         Ok((size, count)) => {
@@ -95,10 +115,13 @@ fn map_header<R: Read>(reader: &mut R, width: u32) -> Result<(u32, u32), Error>
 /// The data of a map up to its first key: how many keys and values there are.
 #[inline(always)]
 pub(crate) fn map_count<R: Read>(reader: &mut R, code: u8) -> Result<u32, Error>
-    ensures ok { IfOk result (λ n. OpensData HasPairs code (R.reading reader.old) (R.reading reader.new) bare n None) }
+    ensures ok { IfOk result (λ n.
+        OpensData HasPairs code (R.reading reader.old) (R.reading reader.new) bare n None) }
     ensures even { IfOk result (λ n. n % 2 ≡ 0) }
-    ensures exact { IfOk result (λ n. ParsesAs (behind_byte map_data code) (R.reading reader.old) (R.reading reader.new) n) }
-    ensures err { IfErr result (λ e. Rejects R.buffers R.buffers (behind_byte map_data code) (R.reading reader.old) (R.reading reader.new) e) }
+    ensures exact { IfOk result (λ n.
+        ParsesAs (behind_byte map_data code) (R.reading reader.old) (R.reading reader.new) n) }
+    ensures err { IfErr result (λ e. Rejects R.buffers R.buffers (behind_byte map_data code)
+        (R.reading reader.old) (R.reading reader.new) e) }
 {
     match code {
         0xc1 => match map_header(reader, 1) {

@@ -9,7 +9,7 @@ ghost use Rattle.amqp_de.specs.Decoding.{stands_under};
 ghost use Rattle.amqp_de.specs.Law.{Found, Missed};
 ghost use Rattle.amqp_de.specs.Parse.{behind_byte, item_at, data_at};
 ghost use Rattle.amqp_de.specs.OneCode.{is_only, OnlyData};
-ghost use Rattle.amqp_de.specs.Steps.{IsData, Rejects, Exact, Stops};
+ghost use Rattle.amqp_de.specs.Steps.{IsData, Rejects, Exact, BytesFirst, Stops};
 
 use crate::Deserializer;
 use amqp_base::{EncodingCodes, Error};
@@ -28,8 +28,12 @@ pub(crate) trait Leaf: Drop {
 
     /// Reads the data of a code, given its byte.
     fn read<R: Read>(self, reader: &mut R, code: u8) -> Result<Self::Value, Error>
-        ensures ok { IfOk result (λ v. IsData code (scalar (shows v)) (R.reading reader.old) (R.reading reader.new)) }
-        ensures err { IfErr result (λ e. Rejects (grows || R.buffers) R.buffers (behind_byte (data_at kind) code) (R.reading reader.old) (R.reading reader.new) e) };
+        ensures ok { IfOk result (λ v.
+            IsData code (scalar (shows v)) (R.reading reader.old) (R.reading reader.new)) }
+        ensures err { IfErr result (λ e. Rejects (grows || R.buffers) R.buffers
+            (behind_byte (data_at kind) code) (R.reading reader.old) (R.reading reader.new) e) }
+        ensures bytes_first { IsTrue grows → IfErr result (λ e.
+            BytesFirst R.buffers (behind_byte (data_at kind) code) (R.reading reader.old) e) };
 
     ghost of_kind: { (v : Self.Value) → kind_of (shows v) ≡ kind };
 }
@@ -37,9 +41,17 @@ pub(crate) trait Leaf: Drop {
 impl<R: Read> Deserializer<R> {
     #[inline(always)]
     pub(crate) fn leaf<L: Leaf>(&mut self, leaf: L) -> Result<L::Value, Error>
-        ensures ok { IfOk result (λ v. Found (is_of L.kind) (λ i. i ≡ scalar (L.shows v)) self.old self.new) }
-        ensures err { IfErr result (λ e. Missed (is_of L.kind) (L.grows || R.buffers) R.buffers self.old self.new e) }
-        ensures exact { IsTrue self.old.answers → Exact L.shows (L.grows || R.buffers) R.buffers (item_at (data_at L.kind) (stands_under self.old)) self.old.reading result self.new.reading }
+        ensures ok { IfOk result (λ v. Found (is_of L.kind) (λ i.
+            i ≡ scalar (L.shows v)) self.old self.new) }
+        ensures err { IfErr result (λ e.
+            Missed (is_of L.kind) (L.grows || R.buffers) R.buffers self.old self.new e) }
+        ensures exact { IsTrue self.old.answers → Exact L.shows (L.grows || R.buffers) R.buffers
+            (item_at (data_at L.kind) (stands_under self.old)) self.old.reading result
+            self.new.reading }
+        ensures bytes_first { IsTrue L.grows → IsTrue self.old.answers →
+            IfErr result (λ e.
+            BytesFirst R.buffers (item_at (data_at L.kind) (stands_under self.old))
+            self.old.reading e) }
         ensures stops { Stops self.old result self.new }
     {
         if !self.answers {
@@ -66,8 +78,11 @@ pub(crate) fn fixed<R: Read, const N: usize>(
     code: EncodingCodes,
 ) -> Result<[u8; N], Error>
     requires { IsTrue (is_only code N) }
-    ensures ok { IfOk result (λ b. OnlyData byte code N b (R.reading reader.old) (R.reading reader.new)) }
-    ensures err { IfErr result (λ e. Rejects R.buffers R.buffers (behind_byte (data_at (row code).kind) byte) (R.reading reader.old) (R.reading reader.new) e) }
+    ensures ok { IfOk result (λ b.
+        OnlyData byte code N b (R.reading reader.old) (R.reading reader.new)) }
+    ensures err { IfErr result (λ e. Rejects R.buffers R.buffers
+        (behind_byte (data_at (row code).kind) byte) (R.reading reader.old)
+        (R.reading reader.new) e) }
 {
     if byte != code.byte() {
         return Err(Error::InvalidFormatCode);

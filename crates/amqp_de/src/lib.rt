@@ -1,7 +1,8 @@
 //! Reading values from the wire.
-#![tactic(auto, unfolding(crate::specs::ReadParts::open_list, crate::specs::ReadParts::open_seq, crate::specs::ReadPairs::open_map))]
+#![tactic(auto, unfolding(crate::specs::ReadParts::open_list, crate::specs::ReadParts::open_seq))]
 
 mod any;
+mod chosen;
 mod constructor;
 mod decimal;
 mod deserialize;
@@ -23,10 +24,10 @@ mod seq;
 mod structs;
 mod tuples;
 
+pub use chosen::Chosen;
 pub use deserialize::Deserialize;
 pub use deserializer::Deserializer;
 pub use fields::{Field, Fields};
-pub use list::{Ended, ListAccess};
-pub use map::MapAccess;
+pub use list::{Access, Ended, ListAccess, MapAccess};
 pub use seq::SeqAccess;
 pub use structs::StructAccess;

@@ -1,20 +1,18 @@
 //! The parts of a list, one at a time.
 
-ghost use Rattle.std.specs.Prelude.{◌≡◌, ℕ, ◌+◌, Bool, true, false, ◌||◌, Option, Some, None, List, [], ◌∷◌, IsTrue, OnOk, Ok, Err, IfOk, IfErr};
+ghost use Rattle.std.specs.Prelude.{◌≡◌, Bool, true, false, Option, Some, None, List, IsTrue, Ok, Err, IfOk, IfErr};
 ghost use Rattle.std.specs.Borrow.{sem, RestsIfErr};
-ghost use Rattle.amqp_base.specs.Item.{Item, Items, none};
-ghost use Rattle.amqp_base.specs.Fields.{takes_fields};
+ghost use Rattle.amqp_base.specs.Item.{Item, none};
 ghost use Rattle.amqp_base.specs.declared.error.Error.TheVariants.{SequenceLengthMismatch};
-ghost use Rattle.amqp_base.specs.Wire.{bare};
-ghost use Rattle.amqp_de.specs.Access.{Listing, Within, HasParts, Next, Ends, Opens, OpensExactly, OpensNot};
-ghost use Rattle.amqp_de.specs.Decoding.{Decoding, silenced};
-ghost use Rattle.amqp_de.specs.Law.{Found, Missed};
+ghost use Rattle.amqp_de.specs.Access.{Within, HasParts, Ends, Opens, OpensExactly, OpensNot};
+ghost use Rattle.amqp_de.specs.Decoding.{silenced};
 ghost use Rattle.amqp_de.specs.Parse.{list_data, tuple_data};
-ghost use Rattle.amqp_de.specs.Places.{constructor_of, limit_of};
-ghost use Rattle.amqp_de.specs.ReadParts.{Progress, HasRead, MoreRead, RefusesParts, RefusesTuple, open_list};
+ghost use Rattle.amqp_de.specs.Places.{limit_of};
+ghost use Rattle.amqp_de.specs.ReadParts.{Progress, RefusesParts, RefusesTuple, open_list};
 ghost use Rattle.amqp_de.specs.ReadPairs.{broken_off};
-ghost use Rattle.amqp_de.specs.Seq.{listing};
+ghost use Rattle.amqp_de.specs.Seq.{listing, at_open};
 ghost use Rattle.amqp_de.specs.contracts.deserializer.Deserializer.{the_row};
+ghost use Rattle.amqp_de.specs.Calls.{NextElement};
 
 use crate::constructor::{Constructor, Limit};
 use crate::header::list_count;
@@ -24,40 +22,47 @@ use amqp_read::Read;
 use std::alloc::Global;
 use std::mem;
 
-/// The elements of a list (part 1, section 1.6.22), one at a time. Its deserializer answers nothing until `end`
-/// succeeded; where the access is dropped before, the deserializer is ended.
-pub struct ListAccess<'a, R: Read, B = Beyond> {
+/// The parts of an item, one at a time. Its deserializer answers nothing until `end` succeeded; where the access is dropped
+/// before, the deserializer is ended.
+pub struct Access<'a, R: Read, F, O = Open> {
     pub(crate) de: &'a mut Deserializer<R>,
-    pub(crate) left: u32,
-    pub(crate) answers: bool,
-    pub(crate) beyond: B,
+    pub(crate) inner: O,
+    pub(crate) form: F,
 }
 
-impl<R: Read, B: Drop> Drop for ListAccess<'_, R, B> {
+impl<R: Read, F: Drop, O: Drop> Drop for Access<'_, R, F, O> {
     fn drop(self)
         ensures { self.exit.0.now ≡ self.entry.de.now }
     {
-        let ListAccess {
+        let Access {
             de: _,
-            left: _,
-            answers: _,
-            beyond: _,
+            inner: _,
+            form: _,
         } = self;
     }
 }
 
-/// What was inherited before, and where the parts must have ended.
+/// The parts of an access are the elements of a list.
+#[derive(Clone, Copy)]
+pub struct Elements;
+
+/// The parts of an access are the keys and values of a map.
+#[derive(Clone, Copy)]
+pub struct Entries;
+
+/// The elements of a list (part 1, section 1.6.22), one at a time.
+pub type ListAccess<'a, R> = Access<'a, R, Elements>;
+
+/// The keys and values of a map (part 1, section 1.6.23), one pair at a time.
+pub type MapAccess<'a, R> = Access<'a, R, Entries>;
+
+/// How many parts are left, whether calls are answered, what was inherited before, and where the parts must have ended.
 #[derive(Drop)]
-pub struct Beyond {
+pub struct Open {
+    pub(crate) left: u32,
+    pub(crate) answers: bool,
     pub(crate) outer: Constructor,
     pub(crate) limit: Option<Limit>,
-}
-
-/// How many parts there are, and what stands beyond them.
-#[derive(Drop)]
-pub(crate) struct Opened {
-    pub(crate) left: u32,
-    pub(crate) beyond: Beyond,
 }
 
 #[inline(always)]
@@ -74,7 +79,14 @@ fn is_within(consumed: usize, limit: &Option<Limit>) -> bool
 impl<R: Read> Deserializer<R> {
     #[inline(always)]
     fn set_answers(&mut self, answers: bool)
-        ensures { self.new ≡ record { reading = self.old.reading; answers = answers; inherited = self.old.inherited; described = self.old.described; begun = self.old.begun } }
+        ensures { self.new ≡ record {
+          reading = self.old.reading;
+          answers = answers;
+          inherited =
+              self.old.inherited;
+          described = self.old.described;
+          begun = self.old.begun;
+        } }
     {
         self.answers = answers;
     }
@@ -88,34 +100,35 @@ impl<R: Read> Deserializer<R> {
 
     /// Begins a list: its header is consumed.
     #[inline(always)]
-    pub(crate) fn open_list(&mut self) -> Result<Opened, Error>
-        ensures ok { IfOk result (λ o. Opens HasParts self.old (record { state = self.new; left = o.left; answers = true; outer = constructor_of o.beyond.outer; limit = limit_of o.beyond.limit })) }
-        ensures exact { IfOk result (λ o. OpensExactly list_data self.old (record { state = self.new; left = o.left; answers = true; outer = constructor_of o.beyond.outer; limit = limit_of o.beyond.limit })) }
-        ensures err { IfErr result (λ e. OpensNot HasParts list_data R.buffers R.buffers self.old self.new e) }
+    pub(crate) fn open_list(&mut self) -> Result<Open, Error>
+        ensures ok { IfOk result (λ o. Opens HasParts self.old (at_open self.new o)) }
+        ensures exact { IfOk result (λ o. OpensExactly list_data self.old (at_open self.new o)) }
+        ensures err { IfErr result (λ e.
+            OpensNot HasParts list_data R.buffers R.buffers self.old self.new e) }
         ensures missed { IfErr result (λ e. RefusesParts R.buffers self.old self.new e) }
-        ensures reads { IfOk result (λ o. (all : List (Item → Bool)) → HasRead self.old all all (record { state = self.new; left = o.left; answers = true; outer = constructor_of o.beyond.outer; limit = limit_of o.beyond.limit })) }
-        ensures progress { IfOk result (λ o. (all : List (Item → Bool)) → Progress self.old all all none (record { state = self.new; left = o.left; answers = true; outer = constructor_of o.beyond.outer; limit = limit_of o.beyond.limit })) }
+        ensures progress { IfOk result (λ o.
+            (all : List (Item → Bool)) → Progress self.old all all none (at_open self.new o)) }
     {
         self.begin_list()
     }
 
     #[inline(always)]
-    fn begin_list(&mut self) -> Result<Opened, Error>
-        ensures ok { IfOk result (λ o. Opens HasParts self.old (record { state = self.new; left = o.left; answers = true; outer = constructor_of o.beyond.outer; limit = limit_of o.beyond.limit })) }
-        ensures exact { IfOk result (λ o. OpensExactly list_data self.old (record { state = self.new; left = o.left; answers = true; outer = constructor_of o.beyond.outer; limit = limit_of o.beyond.limit })) }
-        ensures err { IfErr result (λ e. OpensNot HasParts list_data R.buffers R.buffers self.old self.new e) }
+    fn begin_list(&mut self) -> Result<Open, Error>
+        ensures ok { IfOk result (λ o. Opens HasParts self.old (at_open self.new o)) }
+        ensures exact { IfOk result (λ o. OpensExactly list_data self.old (at_open self.new o)) }
+        ensures err { IfErr result (λ e.
+            OpensNot HasParts list_data R.buffers R.buffers self.old self.new e) }
     {
         if !self.answers {
             return Err(Error::InvalidValue);
         }
         match self.begin() {
             Ok(code) => match list_count(&mut self.reader, code) {
-                Ok(left) => Ok(Opened {
+                Ok(left) => Ok(Open {
                     left,
-                    beyond: Beyond {
-                        outer: mem::replace(&mut self.inherited, Constructor::Bare),
-                        limit: None,
-                    },
+                    answers: true,
+                    outer: mem::replace(&mut self.inherited, Constructor::Bare),
+                    limit: None,
                 }),
                 Err(e) => Err(e),
             },
@@ -124,30 +137,33 @@ impl<R: Read> Deserializer<R> {
     }
 
     #[inline(always)]
+    #[tactic(auto, unfolding(crate::specs::ReadParts::open_list))]
     pub(crate) fn deserialize_list(&mut self) -> Result<ListAccess<'_, R>, Error>
-        ensures* refused { sem 𝓛 (RestsIfErr (the_row R.row R.Read) self.entry (λ a. a.de.ghost_name) result (λ last. IfErr result (λ e. OpensNot HasParts list_data R.buffers R.buffers self.old last e))) }
+        ensures* refused { sem 𝓛 (RestsIfErr (the_row R.row R.Read) self.entry (λ a.
+            a.de.ghost_name) result (λ last.
+            IfErr result (λ e. OpensNot HasParts list_data R.buffers R.buffers self.old last e))) }
         ensures same_reference { IfOk result (λ a. a.de.ghost_name ≡ self.entry.ghost_name) }
-        ensures opened { IfOk result (λ a. Opens HasParts self.old (listing a)) }
-        ensures exact { IfOk result (λ a. OpensExactly list_data self.old (listing a)) }
+        ensures opened { IfOk result (λ a. Opens HasParts self.old (open_list a)) }
+        ensures exact { IfOk result (λ a. OpensExactly list_data self.old (open_list a)) }
     {
-        let opened = self.open_list()?;
-        Ok(ListAccess {
+        let inner = self.open_list()?;
+        Ok(Access {
             de: self,
-            left: opened.left,
-            answers: true,
-            beyond: opened.beyond,
+            inner,
+            form: Elements,
         })
     }
 
     /// Begins a list of just so many parts.
     #[inline(always)]
-    pub(crate) fn open_tuple(&mut self, len: usize) -> Result<Opened, Error>
-        ensures ok { IfOk result (λ o. Opens HasParts self.old (record { state = self.new; left = o.left; answers = true; outer = constructor_of o.beyond.outer; limit = limit_of o.beyond.limit })) }
-        ensures exact { IfOk result (λ o. OpensExactly (tuple_data len) self.old (record { state = self.new; left = o.left; answers = true; outer = constructor_of o.beyond.outer; limit = limit_of o.beyond.limit })) }
+    pub(crate) fn open_tuple(&mut self, len: usize) -> Result<Open, Error>
+        ensures ok { IfOk result (λ o. Opens HasParts self.old (at_open self.new o)) }
+        ensures exact { IfOk result (λ o.
+            OpensExactly (tuple_data len) self.old (at_open self.new o)) }
         ensures len { IfOk result (λ o. o.left ≡ len) }
         ensures err { RefusesTuple len R.buffers self.old result self.new }
-        ensures reads { IfOk result (λ o. (all : List (Item → Bool)) → HasRead self.old all all (record { state = self.new; left = o.left; answers = true; outer = constructor_of o.beyond.outer; limit = limit_of o.beyond.limit })) }
-        ensures progress { IfOk result (λ o. (all : List (Item → Bool)) → Progress self.old all all none (record { state = self.new; left = o.left; answers = true; outer = constructor_of o.beyond.outer; limit = limit_of o.beyond.limit })) }
+        ensures progress { IfOk result (λ o.
+            (all : List (Item → Bool)) → Progress self.old all all none (at_open self.new o)) }
     {
         match self.open_list() {
             Ok(opened) => {
@@ -167,26 +183,27 @@ impl<R: Read> Deserializer<R> {
     /// `Io(UnexpectedEof)` where size or count are missing, `InvalidValue` where the count is above 65,536,
     /// `InvalidLength` where the size doesn't cover the count's own bytes, `SequenceLengthMismatch` where the count isn't
     /// `len`. A refusal ends the deserializer.
+    #[tactic(auto, unfolding(crate::specs::ReadParts::open_list))]
     pub fn deserialize_tuple(&mut self, len: usize) -> Result<ListAccess<'_, R>, Error>
-        ensures* refused { sem 𝓛 (RestsIfErr (the_row R.row R.Read) self.entry (λ a. a.de.ghost_name) result (λ last. RefusesTuple len R.buffers self.old result last)) }
+        ensures* refused { sem 𝓛 (RestsIfErr (the_row R.row R.Read) self.entry (λ a.
+            a.de.ghost_name) result (λ last. RefusesTuple len R.buffers self.old result last)) }
         ensures same_reference { IfOk result (λ a. a.de.ghost_name ≡ self.entry.ghost_name) }
-        ensures opened { IfOk result (λ a. Opens HasParts self.old (listing a)) }
-        ensures exact { IfOk result (λ a. OpensExactly (tuple_data len) self.old (listing a)) }
-        ensures len { IfOk result (λ a. a.left ≡ len) }
-        ensures reads { IfOk result (λ a. (all : List (Item → Bool)) → HasRead self.old all all (open_list a)) }
-        ensures progress { IfOk result (λ a. (all : List (Item → Bool)) → Progress self.old all all none (open_list a)) }
+        ensures opened { IfOk result (λ a. Opens HasParts self.old (open_list a)) }
+        ensures exact { IfOk result (λ a. OpensExactly (tuple_data len) self.old (open_list a)) }
+        ensures len { IfOk result (λ a. (open_list a).left ≡ len) }
+        ensures progress { IfOk result (λ a.
+            (all : List (Item → Bool)) → Progress self.old all all none (open_list a)) }
     {
-        let opened = self.open_tuple(len)?;
-        Ok(ListAccess {
+        let inner = self.open_tuple(len)?;
+        Ok(Access {
             de: self,
-            left: opened.left,
-            answers: true,
-            beyond: opened.beyond,
+            inner,
+            form: Elements,
         })
     }
 }
 
-impl<'a, R: Read> ListAccess<'a, R> {
+impl<'a, R: Read> Access<'a, R, Elements> {
     /// The next element; `None` where all were read, and then nothing is consumed.
     ///
     /// The refusals are those of `T`, and `InvalidValue` where the elements so far take more bytes than their array
@@ -194,39 +211,24 @@ impl<'a, R: Read> ListAccess<'a, R> {
     #[inline(always)]
     pub fn next_element<T: Deserialize<R>>(&mut self, alloc: Global) -> Result<Option<T>, Error>
         ensures same_reference { self.new.de.ghost_name ≡ self.old.de.ghost_name }
-        ensures kept_outer { constructor_of self.new.beyond.outer ≡ constructor_of self.old.beyond.outer }
-        ensures kept_limit { limit_of self.new.beyond.limit ≡ limit_of self.old.beyond.limit }
-        ensures closed { self.old.de.now.answers ≡ false → self.new.de.now.answers ≡ false }
-        ensures next { Next T.takes T.means (T.grows || R.buffers) R.buffers (listing self.old) result (listing self.new) }
-        ensures reads { IfOk result (λ o. (v : T) → o ≡ Some v → (old : Decoding) (all rest : List (Item → Bool)) → HasRead old all (T.takes ∷ rest) (open_list self.old) → HasRead old all rest (open_list self.new)) }
-        ensures part { IfOk result (λ o. (v : T) → o ≡ Some v → (old : Decoding) (all rest : List (Item → Bool)) (parts : Items) → Progress old all (T.takes ∷ rest) parts (open_list self.old) →
-            MoreRead old all rest parts (λ i. T.means i v) (open_list self.new)) }
-        ensures too_few { IfOk result (λ o. o ≡ None → (old : Decoding) (all rest : List (Item → Bool)) → HasRead old all (T.takes ∷ rest) (open_list self.old) →
-            Missed (takes_fields all) false R.buffers old self.new.de.now SequenceLengthMismatch) }
-        ensures missed { IfErr result (λ e. (old : Decoding) (all rest : List (Item → Bool)) → HasRead old all (T.takes ∷ rest) (open_list self.old) →
-            Missed (takes_fields all) (T.grows || R.buffers) R.buffers old self.new.de.now e) }
+        ensures next { NextElement T.meaning R.buffers (open_list self.old) result
+            (open_list self.new) }
     {
-        self.de
-            .next_part(alloc, &mut self.left, &mut self.answers, &self.beyond)
+        self.de.next_part(alloc, &mut self.inner)
     }
+}
 
-    /// Ends the list: its deserializer answers again. Nothing is consumed.
+impl<'a, R: Read, F: Copy> Access<'a, R, F> {
+    /// Ends the access: its deserializer answers again. Nothing is consumed.
     ///
     /// `SequenceLengthMismatch` where elements were left unread, `InvalidValue` after a refusal; the deserializer is
     /// ended then.
     #[inline(always)]
     pub fn end(self) -> Result<(), Error>
-        ensures ends { Ends (listing self.entry) result self.exit.0.now }
-        ensures found { OnOk result ((old : Decoding) (all : List (Item → Bool)) (parts : Items) → Progress old all [] parts (open_list self.entry) → Found (takes_fields all) (λ i. HasParts i parts) old self.exit.0.now) }
-        ensures missed { IfErr result (λ e. (old : Decoding) (all : List (Item → Bool)) → HasRead old all [] (open_list self.entry) → Missed (takes_fields all) false R.buffers old self.exit.0.now e) }
+        ensures ends { Ends (open_list self.entry) result self.exit.0.now }
     {
-        let ListAccess {
-            de,
-            left,
-            answers,
-            beyond,
-        } = self;
-        de.close(left, answers, beyond)
+        let Access { de, inner, form: _ } = self;
+        de.close(inner)
     }
 }
 
@@ -236,7 +238,7 @@ pub struct Ended<'a, R: Read> {
     de: &'a mut Deserializer<R>,
 }
 
-impl<'a, R: Read> ListAccess<'a, R> {
+impl<'a, R: Read, F: Copy> Access<'a, R, F> {
     /// A call of another form: the access is ended.
     #[inline(always)]
     pub(crate) fn refuse(&mut self) -> Error
@@ -244,40 +246,34 @@ impl<'a, R: Read> ListAccess<'a, R> {
         ensures error { result ≡ Error.InvalidValue }
         ensures broken { listing self.new ≡ broken_off (listing self.old) }
     {
-        self.answers = false;
+        self.inner.answers = false;
         Error::InvalidValue
     }
 
     #[inline(always)]
     pub(crate) fn closed(self) -> Result<Ended<'a, R>, Error>
-        ensures* refused { sem 𝓛 (RestsIfErr (the_row R.row R.Read) self.entry.de (λ d. d.de.ghost_name) result (λ last. last ≡ silenced (listing self.entry).state)) }
+        ensures* refused { sem 𝓛 (RestsIfErr (the_row R.row R.Read) self.entry.de (λ d.
+            d.de.ghost_name) result (λ last. last ≡ silenced (listing self.entry).state)) }
         ensures same_reference { IfOk result (λ d. d.de.ghost_name ≡ self.entry.de.ghost_name) }
         ensures ok { IfOk result (λ d. Ends (listing self.entry) (Ok tt) d.de.now) }
-        ensures err { IfErr result (λ e. Ends (listing self.entry) (Err e) (silenced (listing self.entry).state)) }
+        ensures err { IfErr result (λ e.
+            Ends (listing self.entry) (Err e) (silenced (listing self.entry).state)) }
     {
-        let ListAccess {
-            de,
-            left,
-            answers,
-            beyond,
-        } = self;
-        de.ended(left, answers, beyond)
+        let Access { de, inner, form: _ } = self;
+        de.ended(inner)
     }
 }
 
 impl<R: Read> Deserializer<R> {
-    pub(crate) fn ended(
-        &mut self,
-        left: u32,
-        answers: bool,
-        beyond: Beyond,
-    ) -> Result<Ended<'_, R>, Error>
-        ensures* refused { sem 𝓛 (RestsIfErr (the_row R.row R.Read) self.entry (λ d. d.de.ghost_name) result (λ last. last ≡ silenced self.old)) }
+    pub(crate) fn ended(&mut self, inner: Open) -> Result<Ended<'_, R>, Error>
+        ensures* refused { sem 𝓛 (RestsIfErr (the_row R.row R.Read) self.entry (λ d.
+            d.de.ghost_name) result (λ last. last ≡ silenced self.old)) }
         ensures same_reference { IfOk result (λ d. d.de.ghost_name ≡ self.entry.ghost_name) }
-        ensures ok { IfOk result (λ d. Ends (record { state = self.old; left = left; answers = answers; outer = constructor_of beyond.outer; limit = limit_of beyond.limit }) (Ok tt) d.de.now) }
-        ensures err { IfErr result (λ e. Ends (record { state = self.old; left = left; answers = answers; outer = constructor_of beyond.outer; limit = limit_of beyond.limit }) (Err e) (silenced self.old)) }
+        ensures ok { IfOk result (λ d. Ends (at_open self.old inner) (Ok tt) d.de.now) }
+        ensures err { IfErr result (λ e.
+            Ends (at_open self.old inner) (Err e) (silenced self.old)) }
     {
-        self.close(left, answers, beyond)?;
+        self.close(inner)?;
         Ok(Ended { de: self })
     }
 
@@ -286,33 +282,29 @@ impl<R: Read> Deserializer<R> {
     pub(crate) fn next_part<T: Deserialize<R>>(
         &mut self,
         alloc: Global,
-        left: &mut u32,
-        answers: &mut bool,
-        beyond: &Beyond,
+        inner: &mut Open,
     ) -> Result<Option<T>, Error>
-        ensures closed { self.old.answers ≡ false → self.new.answers ≡ false }
-        ensures next { Next T.takes T.means (T.grows || R.buffers) R.buffers
-            (record { state = self.old; left = left.old; answers = answers.old; outer = constructor_of beyond.now.outer; limit = limit_of beyond.now.limit }) result
-            (record { state = self.new; left = left.new; answers = answers.new; outer = constructor_of beyond.now.outer; limit = limit_of beyond.now.limit }) }
+        ensures next { NextElement T.meaning R.buffers (at_open self.old inner.old) result
+            (at_open self.new inner.new) }
     {
-        if !*answers {
+        if !inner.answers {
             return Err(Error::InvalidValue);
         }
-        if *left == 0 {
+        if inner.left == 0 {
             return Ok(None);
         }
-        *answers = false;
+        inner.answers = false;
         self.set_answers(true);
         match T::deserialize(alloc, self) {
             Ok(item) => {
                 self.set_answers(false);
                 let consumed = self.bytes_consumed();
-                let within = is_within(consumed, &beyond.limit);
+                let within = is_within(consumed, &inner.limit);
                 if !within {
                     return Err(Error::InvalidValue);
                 }
-                *answers = true;
-                *left -= 1;
+                inner.answers = true;
+                inner.left -= 1;
                 Ok(Some(item))
             }
             Err(e) => {
@@ -324,18 +316,23 @@ impl<R: Read> Deserializer<R> {
 
     /// What the end of every access does.
     #[inline(always)]
-    pub(crate) fn close(&mut self, left: u32, answers: bool, beyond: Beyond) -> Result<(), Error>
-        ensures ends { Ends (record { state = self.old; left = left; answers = answers; outer = constructor_of beyond.outer; limit = limit_of beyond.limit }) result self.new }
+    pub(crate) fn close(&mut self, inner: Open) -> Result<(), Error>
+        ensures ends { Ends (at_open self.old inner) result self.new }
         ensures silent { IfErr result (λ e. self.new ≡ silenced self.old) }
     {
         self.answers = false;
-        if !answers {
+        if !inner.answers {
             return Err(Error::InvalidValue);
         }
-        if left > 0 {
+        if inner.left > 0 {
             return Err(Error::SequenceLengthMismatch);
         }
-        let Beyond { outer, limit: _ } = beyond;
+        let Open {
+            left: _,
+            answers: _,
+            outer,
+            limit: _,
+        } = inner;
         self.inherited = outer;
         self.answers = true;
         Ok(())

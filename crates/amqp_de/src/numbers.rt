@@ -1,14 +1,10 @@
 //! Numbers of one encoding, in 1 or 2 bytes.
 #![tactic(auto, unfolding(amqp_base::specs::Codes::row, amqp_base::specs::SameKind::same_kind, amqp_base::specs::SameKind::place, crate::specs::OneCode::is_only))]
 
-ghost use Rattle.std.specs.Prelude.{◌≡◌, ℕ, ℤ, false, ◌||◌, IsTrue, IfOk, IfErr};
+ghost use Rattle.std.specs.Prelude.{false};
 ghost use Rattle.amqp_base.specs.Codes.{Kind};
-ghost use Rattle.amqp_base.specs.Item.{scalar, ubyte, ushort, byte, short};
-ghost use Rattle.amqp_base.specs.Typing.{is_of};
-ghost use Rattle.amqp_de.specs.Decoding.{stands_under};
-ghost use Rattle.amqp_de.specs.Law.{Found, Missed};
-ghost use Rattle.amqp_de.specs.Parse.{item_at, data_at};
-ghost use Rattle.amqp_de.specs.Steps.{Exact, Stops};
+ghost use Rattle.amqp_base.specs.Item.{ubyte, ushort, byte, short};
+ghost use Rattle.amqp_de.specs.Scalars.{ReadsScalar};
 
 use crate::Deserializer;
 use crate::leaf::{Leaf, fixed};
@@ -130,10 +126,7 @@ impl<R: Read> Deserializer<R> {
     /// deserializer.
     #[inline(always)]
     pub fn deserialize_u8(&mut self) -> Result<u8, Error>
-        ensures ok { IfOk result (λ n. Found (is_of Kind.ubyte) (λ i. i ≡ scalar (ubyte n)) self.old self.new) }
-        ensures err { IfErr result (λ e. Missed (is_of Kind.ubyte) R.buffers R.buffers self.old self.new e) }
-        ensures exact { IsTrue self.old.answers → Exact ubyte R.buffers R.buffers (item_at (data_at Kind.ubyte) (stands_under self.old)) self.old.reading result self.new.reading }
-        ensures stops { Stops self.old result self.new }
+        ensures { ReadsScalar Kind.ubyte ubyte R.buffers R.buffers self.old result self.new }
     {
         self.leaf(AsUbyte)
     }
@@ -144,10 +137,7 @@ impl<R: Read> Deserializer<R> {
     /// deserializer.
     #[inline(always)]
     pub fn deserialize_u16(&mut self) -> Result<u16, Error>
-        ensures ok { IfOk result (λ n. Found (is_of Kind.ushort) (λ i. i ≡ scalar (ushort n)) self.old self.new) }
-        ensures err { IfErr result (λ e. Missed (is_of Kind.ushort) R.buffers R.buffers self.old self.new e) }
-        ensures exact { IsTrue self.old.answers → Exact ushort R.buffers R.buffers (item_at (data_at Kind.ushort) (stands_under self.old)) self.old.reading result self.new.reading }
-        ensures stops { Stops self.old result self.new }
+        ensures { ReadsScalar Kind.ushort ushort R.buffers R.buffers self.old result self.new }
     {
         self.leaf(AsUshort)
     }
@@ -158,10 +148,7 @@ impl<R: Read> Deserializer<R> {
     /// deserializer.
     #[inline(always)]
     pub fn deserialize_i8(&mut self) -> Result<i8, Error>
-        ensures ok { IfOk result (λ n. Found (is_of Kind.byte) (λ i. i ≡ scalar (byte n)) self.old self.new) }
-        ensures err { IfErr result (λ e. Missed (is_of Kind.byte) R.buffers R.buffers self.old self.new e) }
-        ensures exact { IsTrue self.old.answers → Exact byte R.buffers R.buffers (item_at (data_at Kind.byte) (stands_under self.old)) self.old.reading result self.new.reading }
-        ensures stops { Stops self.old result self.new }
+        ensures { ReadsScalar Kind.byte byte R.buffers R.buffers self.old result self.new }
     {
         self.leaf(AsByte)
     }
@@ -172,10 +159,7 @@ impl<R: Read> Deserializer<R> {
     /// deserializer.
     #[inline(always)]
     pub fn deserialize_i16(&mut self) -> Result<i16, Error>
-        ensures ok { IfOk result (λ n. Found (is_of Kind.short) (λ i. i ≡ scalar (short n)) self.old self.new) }
-        ensures err { IfErr result (λ e. Missed (is_of Kind.short) R.buffers R.buffers self.old self.new e) }
-        ensures exact { IsTrue self.old.answers → Exact short R.buffers R.buffers (item_at (data_at Kind.short) (stands_under self.old)) self.old.reading result self.new.reading }
-        ensures stops { Stops self.old result self.new }
+        ensures { ReadsScalar Kind.short short R.buffers R.buffers self.old result self.new }
     {
         self.leaf(AsShort)
     }

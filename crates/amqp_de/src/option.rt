@@ -1,9 +1,9 @@
 //! Values that may be missing.
 
-ghost use Rattle.std.specs.Prelude.{◌||◌, IfOk, IfErr};
-ghost use Rattle.amqp_base.specs.Options.{takes_option, means_option};
-ghost use Rattle.amqp_de.specs.Law.{Found, Missed};
+ghost use Rattle.std.specs.Prelude.{IfOk, IfErr};
 ghost use Rattle.amqp_de.specs.Steps.{Stops};
+ghost use Rattle.amqp_de.specs.Calls.{IsRead, IsRefused};
+ghost use Rattle.amqp_base.specs.Meaning.{option_of};
 
 use crate::{Deserialize, Deserializer};
 use amqp_base::{EncodingCodes, Error};
@@ -20,8 +20,9 @@ impl<R: Read> Deserializer<R> {
         &mut self,
         alloc: Global,
     ) -> Result<Option<T>, Error>
-        ensures ok { IfOk result (λ v. Found (takes_option T.takes) (λ i. means_option T.means i v) self.old self.new) }
-        ensures err { IfErr result (λ e. Missed (takes_option T.takes) (T.grows || R.buffers) R.buffers self.old self.new e) }
+        ensures ok { IfOk result (λ v. IsRead (option_of T.meaning) v self.old self.new) }
+        ensures err { IfErr result (λ e.
+            IsRefused (option_of T.meaning) R.buffers self.old self.new e) }
         ensures stops { Stops self.old result self.new }
     {
         match self.deserialize_any() {

@@ -1,13 +1,11 @@
 //! Lengths, and the bytes behind them.
 
-ghost use Rattle.std.specs.Prelude.{◌≡◌, ◌⊎◌, ℕ, true, ◌||◌, IsTrue, IfOk, IfErr, string_bytes};
+ghost use Rattle.std.specs.Prelude.{◌≡◌, ◌⊎◌, true, IfOk, IfErr, string_bytes};
 ghost use Rattle.amqp_base.specs.Codes.{Kind};
-ghost use Rattle.amqp_base.specs.Item.{scalar, binary, string, symbol};
-ghost use Rattle.amqp_base.specs.Typing.{is_of};
-ghost use Rattle.amqp_de.specs.Decoding.{stands_under};
-ghost use Rattle.amqp_de.specs.Law.{Found, Missed};
-ghost use Rattle.amqp_de.specs.Parse.{sized_at, text_at, item_at, data_at};
-ghost use Rattle.amqp_de.specs.Steps.{Number, Unread, Payload, Text, Rejects, Exact, Stops};
+ghost use Rattle.amqp_base.specs.Item.{binary, string, symbol};
+ghost use Rattle.amqp_de.specs.Parse.{sized_at, text_at};
+ghost use Rattle.amqp_de.specs.Steps.{Number, Unread, Payload, Text, Rejects, BytesFirst};
+ghost use Rattle.amqp_de.specs.Scalars.{ReadsScalar, MemoryLast};
 
 use crate::Deserializer;
 use crate::deserializer::byte;
@@ -21,7 +19,8 @@ use std::alloc::Global;
 pub(crate) fn number<R: Read>(reader: &mut R, width: u32) -> Result<u32, Error>
     requires { (width ≡ 1) ⊎ (width ≡ 4) }
     ensures ok { IfOk result (λ n. Number width n (R.reading reader.old) (R.reading reader.new)) }
-    ensures err { IfErr result (λ e. Unread R.buffers R.buffers width (R.reading reader.old) (R.reading reader.new) e) }
+    ensures err { IfErr result (λ e.
+        Unread R.buffers R.buffers width (R.reading reader.old) (R.reading reader.new) e) }
 {
     if width == 1 {
         return match byte(reader) {
@@ -39,8 +38,12 @@ pub(crate) fn number<R: Read>(reader: &mut R, width: u32) -> Result<u32, Error>
 #[inline(always)]
 fn payload<R: Read>(alloc: Global, reader: &mut R, width: u32) -> Result<Vec<u8>, Error>
     requires { (width ≡ 1) ⊎ (width ≡ 4) }
-    ensures ok { IfOk result (λ v. Payload width v.items (R.reading reader.old) (R.reading reader.new)) }
-    ensures err { IfErr result (λ e. Rejects true R.buffers (sized_at width) (R.reading reader.old) (R.reading reader.new) e) }
+    ensures ok { IfOk result (λ v.
+        Payload width v.items (R.reading reader.old) (R.reading reader.new)) }
+    ensures err { IfErr result (λ e.
+        Rejects true R.buffers (sized_at width) (R.reading reader.old) (R.reading reader.new) e) }
+    ensures bytes_first { IfErr result (λ e.
+        BytesFirst R.buffers (sized_at width) (R.reading reader.old) e) }
 {
     match number(reader, width) {
         Ok(len) => reader.read_bytes(alloc, len as usize),
@@ -52,8 +55,12 @@ fn payload<R: Read>(alloc: Global, reader: &mut R, width: u32) -> Result<Vec<u8>
 #[inline(always)]
 fn text<R: Read>(alloc: Global, reader: &mut R, width: u32) -> Result<String, Error>
     requires { (width ≡ 1) ⊎ (width ≡ 4) }
-    ensures ok { IfOk result (λ t. Text width (string_bytes t) (R.reading reader.old) (R.reading reader.new)) }
-    ensures err { IfErr result (λ e. Rejects true R.buffers (text_at width) (R.reading reader.old) (R.reading reader.new) e) }
+    ensures ok { IfOk result (λ t.
+        Text width (string_bytes t) (R.reading reader.old) (R.reading reader.new)) }
+    ensures err { IfErr result (λ e.
+        Rejects true R.buffers (text_at width) (R.reading reader.old) (R.reading reader.new) e) }
+    ensures bytes_first { IfErr result (λ e.
+        BytesFirst R.buffers (sized_at width) (R.reading reader.old) e) }
 {
     match payload(alloc, reader, width) {
         Ok(bytes) => match String::from_utf8(bytes) {
@@ -152,10 +159,9 @@ impl<R: Read> Deserializer<R> {
     /// `Io(UnexpectedEof)` where bytes are missing, `InvalidFormatCode` where another item stands, a string or a symbol
     /// too, `OutOfMemory` where the bytes, which are all there, find no memory. A refusal ends the deserializer.
     pub fn deserialize_byte_buf(&mut self, alloc: Global) -> Result<Vec<u8>, Error>
-        ensures ok { IfOk result (λ v. Found (is_of Kind.binary) (λ i. i ≡ scalar (binary v.items)) self.old self.new) }
-        ensures err { IfErr result (λ e. Missed (is_of Kind.binary) true R.buffers self.old self.new e) }
-        ensures exact { IsTrue self.old.answers → Exact (λ v. binary v.items) true R.buffers (item_at (data_at Kind.binary) (stands_under self.old)) self.old.reading result self.new.reading }
-        ensures stops { Stops self.old result self.new }
+        ensures reads { ReadsScalar Kind.binary (λ v.
+            binary v.items) true R.buffers self.old result self.new }
+        ensures bytes_first { MemoryLast Kind.binary R.buffers self.old result }
     {
         self.leaf(AsBinary(alloc))
     }
@@ -167,10 +173,9 @@ impl<R: Read> Deserializer<R> {
     /// memory. A refusal ends the deserializer.
     #[inline(always)]
     pub fn deserialize_string(&mut self, alloc: Global) -> Result<String, Error>
-        ensures ok { IfOk result (λ s. Found (is_of Kind.string) (λ i. i ≡ scalar (string (string_bytes s))) self.old self.new) }
-        ensures err { IfErr result (λ e. Missed (is_of Kind.string) true R.buffers self.old self.new e) }
-        ensures exact { IsTrue self.old.answers → Exact (λ s. string (string_bytes s)) true R.buffers (item_at (data_at Kind.string) (stands_under self.old)) self.old.reading result self.new.reading }
-        ensures stops { Stops self.old result self.new }
+        ensures reads { ReadsScalar Kind.string (λ s.
+            string (string_bytes s)) true R.buffers self.old result self.new }
+        ensures bytes_first { MemoryLast Kind.string R.buffers self.old result }
     {
         self.leaf(AsString(alloc))
     }
@@ -182,10 +187,9 @@ impl<R: Read> Deserializer<R> {
     /// too, `InvalidUtf8Encoding` where all bytes are there and aren't UTF-8, `OutOfMemory` where the text finds no
     /// memory. A refusal ends the deserializer.
     pub fn deserialize_symbol(&mut self, alloc: Global) -> Result<String, Error>
-        ensures ok { IfOk result (λ s. Found (is_of Kind.symbol) (λ i. i ≡ scalar (symbol (string_bytes s))) self.old self.new) }
-        ensures err { IfErr result (λ e. Missed (is_of Kind.symbol) true R.buffers self.old self.new e) }
-        ensures exact { IsTrue self.old.answers → Exact (λ s. symbol (string_bytes s)) true R.buffers (item_at (data_at Kind.symbol) (stands_under self.old)) self.old.reading result self.new.reading }
-        ensures stops { Stops self.old result self.new }
+        ensures reads { ReadsScalar Kind.symbol (λ s.
+            symbol (string_bytes s)) true R.buffers self.old result self.new }
+        ensures bytes_first { MemoryLast Kind.symbol R.buffers self.old result }
     {
         self.leaf(AsSymbol(alloc))
     }

@@ -1,13 +1,9 @@
 //! Null, booleans and characters.
 
-ghost use Rattle.std.specs.Prelude.{◌≡◌, ℕ, Bool, false, ◌||◌, IsTrue, IfOk, IfErr};
+ghost use Rattle.std.specs.Prelude.{false};
 ghost use Rattle.amqp_base.specs.Codes.{Kind};
 ghost use Rattle.amqp_base.specs.Item.{scalar, null, boolean, char};
-ghost use Rattle.amqp_base.specs.Typing.{is_of};
-ghost use Rattle.amqp_de.specs.Decoding.{stands_under};
-ghost use Rattle.amqp_de.specs.Law.{Found, Missed};
-ghost use Rattle.amqp_de.specs.Parse.{item_at, data_at};
-ghost use Rattle.amqp_de.specs.Steps.{Exact, Stops};
+ghost use Rattle.amqp_de.specs.Scalars.{ReadsScalar};
 
 use crate::Deserializer;
 use crate::deserializer::byte;
@@ -117,10 +113,7 @@ impl<R: Read> Deserializer<R> {
     /// deserializer.
     #[inline(always)]
     pub fn deserialize_unit(&mut self) -> Result<(), Error>
-        ensures ok { IfOk result (λ _. Found (is_of Kind.null) (λ i. i ≡ scalar (null)) self.old self.new) }
-        ensures err { IfErr result (λ e. Missed (is_of Kind.null) R.buffers R.buffers self.old self.new e) }
-        ensures exact { IsTrue self.old.answers → Exact (λ _. null) R.buffers R.buffers (item_at (data_at Kind.null) (stands_under self.old)) self.old.reading result self.new.reading }
-        ensures stops { Stops self.old result self.new }
+        ensures { ReadsScalar Kind.null (λ _. null) R.buffers R.buffers self.old result self.new }
     {
         self.leaf(AsNull)
     }
@@ -131,10 +124,7 @@ impl<R: Read> Deserializer<R> {
     /// deserializer.
     #[inline(always)]
     pub fn deserialize_unit_struct(&mut self, name: &'static str) -> Result<(), Error>
-        ensures ok { IfOk result (λ _. Found (is_of Kind.null) (λ i. i ≡ scalar (null)) self.old self.new) }
-        ensures err { IfErr result (λ e. Missed (is_of Kind.null) R.buffers R.buffers self.old self.new e) }
-        ensures exact { IsTrue self.old.answers → Exact (λ _. null) R.buffers R.buffers (item_at (data_at Kind.null) (stands_under self.old)) self.old.reading result self.new.reading }
-        ensures stops { Stops self.old result self.new }
+        ensures { ReadsScalar Kind.null (λ _. null) R.buffers R.buffers self.old result self.new }
     {
         let _ = name;
         self.deserialize_unit()
@@ -146,10 +136,7 @@ impl<R: Read> Deserializer<R> {
     /// byte is there and is neither 0 nor 1. A refusal ends the deserializer.
     #[inline(always)]
     pub fn deserialize_bool(&mut self) -> Result<bool, Error>
-        ensures ok { IfOk result (λ b. Found (is_of Kind.boolean) (λ i. i ≡ scalar (boolean b)) self.old self.new) }
-        ensures err { IfErr result (λ e. Missed (is_of Kind.boolean) R.buffers R.buffers self.old self.new e) }
-        ensures exact { IsTrue self.old.answers → Exact boolean R.buffers R.buffers (item_at (data_at Kind.boolean) (stands_under self.old)) self.old.reading result self.new.reading }
-        ensures stops { Stops self.old result self.new }
+        ensures { ReadsScalar Kind.boolean boolean R.buffers R.buffers self.old result self.new }
     {
         self.leaf(AsBoolean)
     }
@@ -160,10 +147,7 @@ impl<R: Read> Deserializer<R> {
     /// bytes are there and are no Unicode scalar value: a surrogate, or above 0x10FFFF. A refusal ends the deserializer.
     #[inline(always)]
     pub fn deserialize_char(&mut self) -> Result<char, Error>
-        ensures ok { IfOk result (λ c. Found (is_of Kind.char) (λ i. i ≡ scalar (char c)) self.old self.new) }
-        ensures err { IfErr result (λ e. Missed (is_of Kind.char) R.buffers R.buffers self.old self.new e) }
-        ensures exact { IsTrue self.old.answers → Exact char R.buffers R.buffers (item_at (data_at Kind.char) (stands_under self.old)) self.old.reading result self.new.reading }
-        ensures stops { Stops self.old result self.new }
+        ensures { ReadsScalar Kind.char char R.buffers R.buffers self.old result self.new }
     {
         self.leaf(AsChar)
     }

@@ -1,9 +1,7 @@
 //! Structs that are read by their fields.
 
-ghost use Rattle.std.specs.Prelude.{◌≡◌, Bool, true, false, IfOk, IfErr, OnErr};
-ghost use Rattle.amqp_base.specs.Fields.{takes_fields, means_fields};
-ghost use Rattle.amqp_base.specs.NamedFields.{takes_map, takes_struct, means_map, means_struct};
-ghost use Rattle.amqp_de.specs.Law.{Found, Missed};
+ghost use Rattle.std.specs.Prelude.{◌≡◌, false, IfOk, IfErr, OnErr};
+ghost use Rattle.amqp_de.specs.Calls.{FieldsRead, NamedRead, RowRead, FieldsRefused, NamedRefused, RowRefused};
 ghost use Rattle.amqp_de.specs.Steps.{Stops};
 
 use crate::structs::is_map;
@@ -25,8 +23,9 @@ impl<R: Read> Deserializer<R> {
         alloc: Global,
         fields: S,
     ) -> Result<S::Values, Error>
-        ensures ok { IfOk result (λ vs. Found (takes_struct (S.slots fields).names (S.slots fields).kinds) (λ i. means_struct (S.slots fields).names ((S.slots fields).meanings vs) i) self.old self.new) }
-        ensures err { IfErr result (λ e. Missed (takes_struct (S.slots fields).names (S.slots fields).kinds) true R.buffers self.old self.new e) }
+        ensures ok { IfOk result (λ vs. FieldsRead (S.slots fields) vs self.old self.new) }
+        ensures err { IfErr result (λ e.
+            FieldsRefused (S.slots fields) R.buffers self.old self.new e) }
         ensures stops { Stops self.old result self.new }
     {
         match self.deserialize_any() {
@@ -37,7 +36,7 @@ impl<R: Read> Deserializer<R> {
                         Err(e) => Err(e),
                     }
                 } else {
-                    match self.read_row(alloc, fields) {
+                    match self.deserialize_row(alloc, fields) {
                         Ok(values) => Ok(values),
                         Err(e) => Err(e),
                     }
@@ -49,8 +48,9 @@ impl<R: Read> Deserializer<R> {
 
     /// The fields out of a map.
     fn read_map<S: Fields<R>>(&mut self, alloc: Global, fields: S) -> Result<S::Values, Error>
-        ensures ok { IfOk result (λ vs. Found (takes_map (S.slots fields).names (S.slots fields).kinds) (λ i. means_map (S.slots fields).names ((S.slots fields).meanings vs) i) self.old self.new) }
-        ensures err { IfErr result (λ e. Missed (takes_map (S.slots fields).names (S.slots fields).kinds) true R.buffers self.old self.new e) }
+        ensures ok { IfOk result (λ vs. NamedRead (S.slots fields) vs self.old self.new) }
+        ensures err { IfErr result (λ e.
+            NamedRefused (S.slots fields) R.buffers self.old self.new e) }
         ensures closed { OnErr result (self.new.answers ≡ false) }
     {
         let mut slots = fields;
@@ -71,15 +71,24 @@ impl<R: Read> Deserializer<R> {
         Ok(values)
     }
 
-    /// The fields out of a list.
-    fn read_row<S: Fields<R>>(&mut self, alloc: Global, fields: S) -> Result<S::Values, Error>
-        ensures ok { IfOk result (λ vs. Found (takes_fields (S.slots fields).kinds) (λ i. means_fields ((S.slots fields).meanings vs) i) self.old self.new) }
-        ensures err { IfErr result (λ e. Missed (takes_fields (S.slots fields).kinds) true R.buffers self.old self.new e) }
+    /// Reads the fields of a tuple, or of a struct that is a list alone: out of a list of just so many elements (part 1,
+    /// section 1.6.22), in order. Their names aren't looked at.
+    ///
+    /// The refusals of `deserialize_tuple`, then those of the fields. A refusal ends the deserializer.
+    #[inline(always)]
+    pub fn deserialize_row<S: Fields<R>>(
+        &mut self,
+        alloc: Global,
+        fields: S,
+    ) -> Result<S::Values, Error>
+        ensures ok { IfOk result (λ vs. RowRead (S.slots fields) vs self.old self.new) }
+        ensures err { IfErr result (λ e.
+            RowRefused (S.slots fields) S.grows R.buffers self.old self.new e) }
         ensures closed { OnErr result (self.new.answers ≡ false) }
     {
         let mut slots = fields;
         let mut list = self.deserialize_list()?;
-        if !slots.are(list.left) {
+        if !slots.are(list.inner.left) {
             return Err(Error::SequenceLengthMismatch);
         }
         slots.read_elements(alloc, &mut list)?;
@@ -89,4 +98,44 @@ impl<R: Read> Deserializer<R> {
         list.end()?;
         Ok(values)
     }
+}
+
+/// Reads a struct whose fields have names: `read_fields!(de, alloc, Sensor { id, unit })` calls
+/// `Deserializer::deserialize_fields` with these names, and answers the struct of what was read.
+#[macro_export]
+macro_rules! read_fields {
+    ($de:expr, $alloc:expr, $name:ident { $($field:ident),+ $(,)? }) => {
+        match $de.deserialize_fields($alloc, $crate::read_fields!(@row $($field),+)) {
+            Ok(values) => $crate::read_fields!(@take values; $name; []; $($field),+),
+            Err(e) => Err(e),
+        }
+    };
+    (@row) => { () };
+    (@row $field:ident $(, $rest:ident)*) => {
+        $crate::Field {
+            name: stringify!($field),
+            value: None,
+            rest: $crate::read_fields!(@row $($rest),*),
+        }
+    };
+    (@take $values:expr; $name:ident; [$($done:ident)*]; $field:ident) => {{
+        let ($field, ()) = $values;
+        Ok($name { $($done,)* $field })
+    }};
+    (@take $values:expr; $name:ident; [$($done:ident)*]; $field:ident, $($rest:ident),+) => {{
+        let ($field, others) = $values;
+        $crate::read_fields!(@take others; $name; [$($done)* $field]; $($rest),+)
+    }};
+}
+
+/// Reads a struct that is a list alone: `read_parts!(de, alloc, Pair { first, second })` calls
+/// `Deserializer::deserialize_row`, and answers the struct of what was read.
+#[macro_export]
+macro_rules! read_parts {
+    ($de:expr, $alloc:expr, $name:ident { $($field:ident),+ $(,)? }) => {
+        match $de.deserialize_row($alloc, $crate::read_fields!(@row $($field),+)) {
+            Ok(values) => $crate::read_fields!(@take values; $name; []; $($field),+),
+            Err(e) => Err(e),
+        }
+    };
 }

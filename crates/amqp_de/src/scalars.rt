@@ -1,13 +1,9 @@
 //! Numbers of several encodings.
 
-ghost use Rattle.std.specs.Prelude.{◌≡◌, ℕ, ℤ, false, ◌||◌, IsTrue, IfOk, IfErr};
+ghost use Rattle.std.specs.Prelude.{false};
 ghost use Rattle.amqp_base.specs.Codes.{Kind};
-ghost use Rattle.amqp_base.specs.Item.{scalar, uint, ulong, int, long};
-ghost use Rattle.amqp_base.specs.Typing.{is_of};
-ghost use Rattle.amqp_de.specs.Decoding.{stands_under};
-ghost use Rattle.amqp_de.specs.Law.{Found, Missed};
-ghost use Rattle.amqp_de.specs.Parse.{item_at, data_at};
-ghost use Rattle.amqp_de.specs.Steps.{Exact, Stops};
+ghost use Rattle.amqp_base.specs.Item.{uint, ulong, int, long};
+ghost use Rattle.amqp_de.specs.Scalars.{ReadsScalar};
 
 use crate::Deserializer;
 use crate::deserializer::byte;
@@ -160,10 +156,7 @@ impl<R: Read> Deserializer<R> {
     /// deserializer.
     #[inline(always)]
     pub fn deserialize_u32(&mut self) -> Result<u32, Error>
-        ensures ok { IfOk result (λ n. Found (is_of Kind.uint) (λ i. i ≡ scalar (uint n)) self.old self.new) }
-        ensures err { IfErr result (λ e. Missed (is_of Kind.uint) R.buffers R.buffers self.old self.new e) }
-        ensures exact { IsTrue self.old.answers → Exact uint R.buffers R.buffers (item_at (data_at Kind.uint) (stands_under self.old)) self.old.reading result self.new.reading }
-        ensures stops { Stops self.old result self.new }
+        ensures { ReadsScalar Kind.uint uint R.buffers R.buffers self.old result self.new }
     {
         self.leaf(AsUint)
     }
@@ -174,10 +167,7 @@ impl<R: Read> Deserializer<R> {
     /// deserializer.
     #[inline(always)]
     pub fn deserialize_u64(&mut self) -> Result<u64, Error>
-        ensures ok { IfOk result (λ n. Found (is_of Kind.ulong) (λ i. i ≡ scalar (ulong n)) self.old self.new) }
-        ensures err { IfErr result (λ e. Missed (is_of Kind.ulong) R.buffers R.buffers self.old self.new e) }
-        ensures exact { IsTrue self.old.answers → Exact ulong R.buffers R.buffers (item_at (data_at Kind.ulong) (stands_under self.old)) self.old.reading result self.new.reading }
-        ensures stops { Stops self.old result self.new }
+        ensures { ReadsScalar Kind.ulong ulong R.buffers R.buffers self.old result self.new }
     {
         self.leaf(AsUlong)
     }
@@ -188,10 +178,7 @@ impl<R: Read> Deserializer<R> {
     /// deserializer.
     #[inline(always)]
     pub fn deserialize_i32(&mut self) -> Result<i32, Error>
-        ensures ok { IfOk result (λ n. Found (is_of Kind.int) (λ i. i ≡ scalar (int n)) self.old self.new) }
-        ensures err { IfErr result (λ e. Missed (is_of Kind.int) R.buffers R.buffers self.old self.new e) }
-        ensures exact { IsTrue self.old.answers → Exact int R.buffers R.buffers (item_at (data_at Kind.int) (stands_under self.old)) self.old.reading result self.new.reading }
-        ensures stops { Stops self.old result self.new }
+        ensures { ReadsScalar Kind.int int R.buffers R.buffers self.old result self.new }
     {
         self.leaf(AsInt)
     }
@@ -202,10 +189,7 @@ impl<R: Read> Deserializer<R> {
     /// deserializer.
     #[inline(always)]
     pub fn deserialize_i64(&mut self) -> Result<i64, Error>
-        ensures ok { IfOk result (λ n. Found (is_of Kind.long) (λ i. i ≡ scalar (long n)) self.old self.new) }
-        ensures err { IfErr result (λ e. Missed (is_of Kind.long) R.buffers R.buffers self.old self.new e) }
-        ensures exact { IsTrue self.old.answers → Exact long R.buffers R.buffers (item_at (data_at Kind.long) (stands_under self.old)) self.old.reading result self.new.reading }
-        ensures stops { Stops self.old result self.new }
+        ensures { ReadsScalar Kind.long long R.buffers R.buffers self.old result self.new }
     {
         self.leaf(AsLong)
     }

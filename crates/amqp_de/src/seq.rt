@@ -1,16 +1,16 @@
 //! Sequences, in whichever form they stand.
 
-ghost use Rattle.std.specs.Prelude.{◌≡◌, List, Bool, true, false, ◌||◌, Ok, Err, IfOk, IfErr};
+ghost use Rattle.std.specs.Prelude.{◌≡◌, Ok, Err, IfOk, IfErr};
 ghost use Rattle.std.specs.Borrow.{sem, RestsIfErr};
-ghost use Rattle.amqp_de.specs.Access.{Listing, HasParts, Next, Ends, Opens, OpensExactly};
-ghost use Rattle.amqp_base.specs.Item.{Item, Items, none};
-ghost use Rattle.amqp_de.specs.Decoding.{Decoding, silenced};
+ghost use Rattle.amqp_de.specs.Access.{HasParts, Ends, Opens, OpensExactly};
+ghost use Rattle.amqp_de.specs.Decoding.{silenced};
 ghost use Rattle.amqp_de.specs.Parse.{list_data};
-ghost use Rattle.amqp_de.specs.ReadParts.{Progress, HasRead, RefusesParts, open_list, open_seq};
-ghost use Rattle.amqp_de.specs.Seq.{listing, lender_of, seq_listing};
+ghost use Rattle.amqp_de.specs.ReadParts.{RefusesParts, open_list, open_seq};
+ghost use Rattle.amqp_de.specs.Seq.{lender_of, seq_listing};
 ghost use Rattle.amqp_de.specs.contracts.deserializer.Deserializer.{the_row};
+ghost use Rattle.amqp_de.specs.Calls.{NextElement};
 
-use crate::list::{Ended, ListAccess};
+use crate::list::{Access, Elements, Ended, ListAccess};
 use crate::{Deserialize, Deserializer};
 use amqp_base::Error;
 use amqp_read::Read;
@@ -33,20 +33,20 @@ impl<R: Read> Deserializer<R> {
     /// `InvalidLength` where the size doesn't cover the count's own bytes. A refusal ends the deserializer.
     #[inline(always)]
     pub fn deserialize_seq(&mut self, alloc: Global) -> Result<SeqAccess<'_, R>, Error>
-        ensures* refused { sem 𝓛 (RestsIfErr (the_row R.row R.Read) self.entry (λ a. (lender_of a).ghost_name) result (λ last. IfErr result (λ e. RefusesParts R.buffers self.old last e))) }
-        ensures same_reference { IfOk result (λ a. (lender_of a).ghost_name ≡ self.entry.ghost_name) }
-        ensures opened { IfOk result (λ a. Opens HasParts self.old (seq_listing a)) }
+        ensures* refused { sem 𝓛 (RestsIfErr (the_row R.row R.Read) self.entry (λ a.
+            (lender_of a).ghost_name) result (λ last.
+            IfErr result (λ e. RefusesParts R.buffers self.old last e))) }
+        ensures same_reference { IfOk result (λ a.
+            (lender_of a).ghost_name ≡ self.entry.ghost_name) }
+        ensures opened { IfOk result (λ a. Opens HasParts self.old (open_seq a)) }
         ensures exact { IfOk result (λ a. OpensExactly list_data self.old (seq_listing a)) }
-        ensures reads { IfOk result (λ a. (all : List (Item → Bool)) → HasRead self.old all all (open_seq a)) }
-        ensures progress { IfOk result (λ a. (all : List (Item → Bool)) → Progress self.old all all none (open_seq a)) }
     {
         let _ = alloc;
-        let opened = self.open_list()?;
-        Ok(SeqAccess::List(ListAccess {
+        let inner = self.open_list()?;
+        Ok(SeqAccess::List(Access {
             de: self,
-            left: opened.left,
-            answers: true,
-            beyond: opened.beyond,
+            inner,
+            form: Elements,
         }))
     }
 }
@@ -56,10 +56,11 @@ impl<'a, R: Read> SeqAccess<'a, R> {
     ///
     /// Its refusals are those of `ListAccess::next_element`, and each of them ends the access and its deserializer.
     #[inline(always)]
+    #[tactic(auto, unfolding(crate::specs::ReadParts::open_list, crate::specs::ReadParts::open_seq))]
     pub fn next_element<T: Deserialize<R>>(&mut self, alloc: Global) -> Result<Option<T>, Error>
         ensures same_reference { (lender_of self.new).ghost_name ≡ (lender_of self.old).ghost_name }
-        ensures closed { (lender_of self.old).now.answers ≡ false → (lender_of self.new).now.answers ≡ false }
-        ensures next { Next T.takes T.means (T.grows || R.buffers) R.buffers (seq_listing self.old) result (seq_listing self.new) }
+        ensures next { NextElement T.meaning R.buffers (open_seq self.old) result
+            (open_seq self.new) }
     {
         match self {
             SeqAccess::List(list) => list.next_element(alloc),
@@ -72,10 +73,13 @@ impl<'a, R: Read> SeqAccess<'a, R> {
     /// then.
     #[inline(always)]
     pub fn end(self) -> Result<Ended<'a, R>, Error>
-        ensures* refused { sem 𝓛 (RestsIfErr (the_row R.row R.Read) (lender_of self.entry) (λ d. d.de.ghost_name) result (λ last. last ≡ silenced (seq_listing self.entry).state)) }
-        ensures same_reference { IfOk result (λ d. d.de.ghost_name ≡ (lender_of self.entry).ghost_name) }
+        ensures* refused { sem 𝓛 (RestsIfErr (the_row R.row R.Read) (lender_of self.entry) (λ d.
+            d.de.ghost_name) result (λ last. last ≡ silenced (seq_listing self.entry).state)) }
+        ensures same_reference { IfOk result (λ d.
+            d.de.ghost_name ≡ (lender_of self.entry).ghost_name) }
         ensures ok { IfOk result (λ d. Ends (seq_listing self.entry) (Ok tt) d.de.now) }
-        ensures err { IfErr result (λ e. Ends (seq_listing self.entry) (Err e) (silenced (seq_listing self.entry).state)) }
+        ensures err { IfErr result (λ e.
+            Ends (seq_listing self.entry) (Err e) (silenced (seq_listing self.entry).state)) }
     {
         match self {
             SeqAccess::List(list) => list.closed(),
@@ -84,11 +88,10 @@ impl<'a, R: Read> SeqAccess<'a, R> {
 
     /// The parts that are left, whichever form they stand in. Generic code that returns early reads through these.
     #[inline(always)]
+    #[tactic(auto, unfolding(crate::specs::ReadParts::open_list, crate::specs::ReadParts::open_seq))]
     pub fn into_elements(self) -> ListAccess<'a, R>
         ensures same_reference { result.de.ghost_name ≡ (lender_of self.entry).ghost_name }
-        ensures value { listing result ≡ seq_listing self.entry }
-        ensures reads { (old : Decoding) (all rest : List (Item → Bool)) → HasRead old all rest (open_seq self.entry) → HasRead old all rest (open_list result) }
-        ensures progress { (old : Decoding) (all rest : List (Item → Bool)) (parts : Items) → Progress old all rest parts (open_seq self.entry) → Progress old all rest parts (open_list result) }
+        ensures value { open_list result ≡ open_seq self.entry }
     {
         match self {
             SeqAccess::List(list) => list,

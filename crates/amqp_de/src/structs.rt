@@ -1,15 +1,16 @@
 //! Structs by their form: a list of the fields, or a map from their names.
 
-ghost use Rattle.std.specs.Prelude.{◌≡◌, Bool, true, false, ◌||◌, Ok, Err, IfOk, IfErr, IsTrue};
+ghost use Rattle.std.specs.Prelude.{◌≡◌, true, false, ◌||◌, Ok, Err, IfOk, IfErr, IsTrue};
 ghost use Rattle.std.specs.Borrow.{sem, RestsIfErr};
 ghost use Rattle.amqp_base.specs.Codes.{Kind, row};
 ghost use Rattle.amqp_base.specs.Structs.{is_described_name};
 ghost use Rattle.amqp_de.specs.Access.{Ends};
 ghost use Rattle.amqp_de.specs.Decoding.{silenced};
-ghost use Rattle.amqp_de.specs.Forms.{struct_listing, struct_lender, of_opened, FormOpened, StructOpened, TupleOpened, IsRow, NoStruct, RefusesStruct, RefusesRow, FormElement, FormKey, FormValue, FormEntry};
+ghost use Rattle.amqp_de.specs.Seq.{at_open};
+ghost use Rattle.amqp_de.specs.Forms.{struct_listing, struct_lender, FormOpened, StructOpened, TupleOpened, IsRow, NoStruct, RefusesStruct, RefusesRow, FormElement, FormKey, FormValue, FormEntry};
 ghost use Rattle.amqp_de.specs.contracts.deserializer.Deserializer.{the_row};
 
-use crate::list::{Ended, Opened};
+use crate::list::{Access, Elements, Ended, Entries, Open};
 use crate::{Deserialize, Deserializer, ListAccess, MapAccess};
 use amqp_base::{DESCRIBED_BASIC, DESCRIBED_LIST, DESCRIBED_MAP, EncodingCodes, Error};
 use amqp_read::Read;
@@ -28,8 +29,8 @@ pub enum StructAccess<'a, R: Read> {
 /// What was opened: a list of the fields, or a map from their names.
 #[derive(Drop)]
 pub(crate) enum OpenedStruct {
-    Row(Opened),
-    Pairs(Opened),
+    Row(Open),
+    Pairs(Open),
 }
 
 /// Whether a descriptor stands before the fields of a struct of this name.
@@ -91,8 +92,8 @@ impl<R: Read> Deserializer<R> {
     }
 
     /// The elements of a tuple struct, under a plain name.
-    fn open_row(&mut self, name: &'static str, len: usize) -> Result<Opened, Error>
-        ensures ok { IfOk result (λ o. TupleOpened len self.old (of_opened self.new o)) }
+    fn open_row(&mut self, name: &'static str, len: usize) -> Result<Open, Error>
+        ensures ok { IfOk result (λ o. TupleOpened len self.old (at_open self.new o)) }
         ensures err { RefusesRow name.now len R.buffers self.old result self.new }
         ensures described { is_described_name name.now ≡ true → result ≡ Err Error.InvalidValue }
     {
@@ -116,24 +117,25 @@ impl<R: Read> Deserializer<R> {
         name: &'static str,
         len: usize,
     ) -> Result<StructAccess<'_, R>, Error>
-        ensures* refused { sem 𝓛 (RestsIfErr (the_row R.row R.Read) self.entry (λ a. (struct_lender a).ghost_name) result (λ last. RefusesStruct name.now len R.buffers self.old result last)) }
-        ensures same_reference { IfOk result (λ a. (struct_lender a).ghost_name ≡ self.entry.ghost_name) }
+        ensures* refused { sem 𝓛 (RestsIfErr (the_row R.row R.Read) self.entry (λ a.
+            (struct_lender a).ghost_name) result (λ last.
+            RefusesStruct name.now len R.buffers self.old result last)) }
+        ensures same_reference { IfOk result (λ a.
+            (struct_lender a).ghost_name ≡ self.entry.ghost_name) }
         ensures opened { IfOk result (λ a. StructOpened len self.old a) }
         ensures described { is_described_name name.now ≡ true → result ≡ Err Error.InvalidValue }
     {
         let _ = alloc;
         match self.open_struct(name, len) {
-            Ok(OpenedStruct::Row(row)) => Ok(StructAccess::List(ListAccess {
+            Ok(OpenedStruct::Row(row)) => Ok(StructAccess::List(Access {
                 de: self,
-                left: row.left,
-                answers: true,
-                beyond: row.beyond,
+                inner: row,
+                form: Elements,
             })),
-            Ok(OpenedStruct::Pairs(pairs)) => Ok(StructAccess::Map(MapAccess {
+            Ok(OpenedStruct::Pairs(pairs)) => Ok(StructAccess::Map(Access {
                 de: self,
-                left: pairs.left,
-                answers: true,
-                beyond: pairs.beyond,
+                inner: pairs,
+                form: Entries,
             })),
             Err(e) => Err(e),
         }
@@ -149,18 +151,20 @@ impl<R: Read> Deserializer<R> {
         name: &'static str,
         len: usize,
     ) -> Result<StructAccess<'_, R>, Error>
-        ensures* refused { sem 𝓛 (RestsIfErr (the_row R.row R.Read) self.entry (λ a. (struct_lender a).ghost_name) result (λ last. RefusesRow name.now len R.buffers self.old result last)) }
-        ensures same_reference { IfOk result (λ a. (struct_lender a).ghost_name ≡ self.entry.ghost_name) }
+        ensures* refused { sem 𝓛 (RestsIfErr (the_row R.row R.Read) self.entry (λ a.
+            (struct_lender a).ghost_name) result (λ last.
+            RefusesRow name.now len R.buffers self.old result last)) }
+        ensures same_reference { IfOk result (λ a.
+            (struct_lender a).ghost_name ≡ self.entry.ghost_name) }
         ensures opened { IfOk result (λ a. IsRow a × TupleOpened len self.old (struct_listing a)) }
         ensures described { is_described_name name.now ≡ true → result ≡ Err Error.InvalidValue }
     {
         let _ = alloc;
         match self.open_row(name, len) {
-            Ok(row) => Ok(StructAccess::List(ListAccess {
+            Ok(row) => Ok(StructAccess::List(Access {
                 de: self,
-                left: row.left,
-                answers: true,
-                beyond: row.beyond,
+                inner: row,
+                form: Elements,
             })),
             Err(e) => Err(e),
         }
@@ -173,8 +177,9 @@ impl<'a, R: Read> StructAccess<'a, R> {
     /// The refusals are those of `ListAccess::next_element`, and `InvalidValue` where the item is a map. Each of them ends
     /// the access and its deserializer.
     pub fn next_element<T: Deserialize<R>>(&mut self, alloc: Global) -> Result<Option<T>, Error>
-        ensures same_reference { (struct_lender self.new).ghost_name ≡ (struct_lender self.old).ghost_name }
-        ensures next { FormElement T.takes T.means (T.grows || R.buffers) R.buffers self.old result self.new }
+        ensures same_reference { (struct_lender self.new).ghost_name ≡ (struct_lender
+            self.old).ghost_name }
+        ensures next { FormElement T.meaning R.buffers self.old result self.new }
     {
         match self {
             StructAccess::List(list) => list.next_element(alloc),
@@ -187,8 +192,9 @@ impl<'a, R: Read> StructAccess<'a, R> {
     /// The refusals are those of `MapAccess::next_key`, and `InvalidValue` where the item is a list. Each of them ends the
     /// access and its deserializer.
     pub fn next_key<K: Deserialize<R>>(&mut self, alloc: Global) -> Result<Option<K>, Error>
-        ensures same_reference { (struct_lender self.new).ghost_name ≡ (struct_lender self.old).ghost_name }
-        ensures next { FormKey K.takes K.means (K.grows || R.buffers) R.buffers self.old result self.new }
+        ensures same_reference { (struct_lender self.new).ghost_name ≡ (struct_lender
+            self.old).ghost_name }
+        ensures next { FormKey K.meaning R.buffers self.old result self.new }
     {
         match self {
             StructAccess::List(list) => Err(list.refuse()),
@@ -201,8 +207,9 @@ impl<'a, R: Read> StructAccess<'a, R> {
     /// The refusals are those of `MapAccess::next_value`, and `InvalidValue` where the item is a list. Each of them ends the
     /// access and its deserializer.
     pub fn next_value<V: Deserialize<R>>(&mut self, alloc: Global) -> Result<V, Error>
-        ensures same_reference { (struct_lender self.new).ghost_name ≡ (struct_lender self.old).ghost_name }
-        ensures next { FormValue V.takes V.means (V.grows || R.buffers) R.buffers self.old result self.new }
+        ensures same_reference { (struct_lender self.new).ghost_name ≡ (struct_lender
+            self.old).ghost_name }
+        ensures next { FormValue V.meaning R.buffers self.old result self.new }
     {
         match self {
             StructAccess::List(list) => Err(list.refuse()),
@@ -218,8 +225,9 @@ impl<'a, R: Read> StructAccess<'a, R> {
         &mut self,
         alloc: Global,
     ) -> Result<Option<(K, V)>, Error>
-        ensures same_reference { (struct_lender self.new).ghost_name ≡ (struct_lender self.old).ghost_name }
-        ensures next { FormEntry K.takes V.takes K.means V.means (K.grows || R.buffers) (V.grows || R.buffers) R.buffers self.old result self.new }
+        ensures same_reference { (struct_lender self.new).ghost_name ≡ (struct_lender
+            self.old).ghost_name }
+        ensures next { FormEntry K.meaning V.meaning R.buffers self.old result self.new }
     {
         match self {
             StructAccess::List(list) => Err(list.refuse()),
@@ -232,10 +240,13 @@ impl<'a, R: Read> StructAccess<'a, R> {
     /// `SequenceLengthMismatch` where something was left unread, `InvalidValue` after a refusal; the deserializer is ended
     /// then.
     pub fn end(self) -> Result<Ended<'a, R>, Error>
-        ensures* refused { sem 𝓛 (RestsIfErr (the_row R.row R.Read) (struct_lender self.entry) (λ d. d.de.ghost_name) result (λ last. last ≡ silenced (struct_listing self.entry).state)) }
-        ensures same_reference { IfOk result (λ d. d.de.ghost_name ≡ (struct_lender self.entry).ghost_name) }
+        ensures* refused { sem 𝓛 (RestsIfErr (the_row R.row R.Read) (struct_lender self.entry) (λ d.
+            d.de.ghost_name) result (λ last. last ≡ silenced (struct_listing self.entry).state)) }
+        ensures same_reference { IfOk result (λ d.
+            d.de.ghost_name ≡ (struct_lender self.entry).ghost_name) }
         ensures ok { IfOk result (λ d. Ends (struct_listing self.entry) (Ok tt) d.de.now) }
-        ensures err { IfErr result (λ e. Ends (struct_listing self.entry) (Err e) (silenced (struct_listing self.entry).state)) }
+        ensures err { IfErr result (λ e.
+            Ends (struct_listing self.entry) (Err e) (silenced (struct_listing self.entry).state)) }
     {
         match self {
             StructAccess::List(list) => list.closed(),

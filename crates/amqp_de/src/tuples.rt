@@ -1,49 +1,43 @@
 //! Tuples: lists of just so many parts.
 
-use crate::{Deserialize, Deserializer};
+use crate::{Deserialize, Deserializer, Field};
 use amqp_base::Error;
 use amqp_read::Read;
 use std::alloc::Global;
 
+/// A row of so many parts, which have no names.
+macro_rules! row {
+    () => { () };
+    (_ $($rest:tt)*) => {
+        Field {
+            name: "",
+            value: None,
+            rest: row!($($rest)*),
+        }
+    };
+}
+
 impl<R: Read, A: Deserialize<R>> Deserialize<R> for (A,) {
+    #[inline(always)]
     fn deserialize(alloc: Global, de: &mut Deserializer<R>) -> Result<(A,), Error> {
-        let mut parts = de.deserialize_tuple(1)?;
-        let Some(first) = parts.next_element(alloc)? else {
-            return Err(Error::SequenceLengthMismatch);
-        };
-        parts.end()?;
+        let (first, ()) = de.deserialize_row(alloc, row!(_))?;
         Ok((first,))
     }
 }
 
 impl<R: Read, A: Deserialize<R>, B: Deserialize<R>> Deserialize<R> for (A, B) {
+    #[inline(always)]
     fn deserialize(alloc: Global, de: &mut Deserializer<R>) -> Result<(A, B), Error> {
-        let mut parts = de.deserialize_tuple(2)?;
-        let Some(first) = parts.next_element(alloc)? else {
-            return Err(Error::SequenceLengthMismatch);
-        };
-        let Some(second) = parts.next_element(alloc)? else {
-            return Err(Error::SequenceLengthMismatch);
-        };
-        parts.end()?;
+        let (first, (second, ())) = de.deserialize_row(alloc, row!(_ _))?;
         Ok((first, second))
     }
 }
 
 impl<R: Read, A: Deserialize<R>, B: Deserialize<R>, C: Deserialize<R>> Deserialize<R>
     for (A, B, C) {
+    #[inline(always)]
     fn deserialize(alloc: Global, de: &mut Deserializer<R>) -> Result<(A, B, C), Error> {
-        let mut parts = de.deserialize_tuple(3)?;
-        let Some(first) = parts.next_element(alloc)? else {
-            return Err(Error::SequenceLengthMismatch);
-        };
-        let Some(second) = parts.next_element(alloc)? else {
-            return Err(Error::SequenceLengthMismatch);
-        };
-        let Some(third) = parts.next_element(alloc)? else {
-            return Err(Error::SequenceLengthMismatch);
-        };
-        parts.end()?;
+        let (first, (second, (third, ()))) = de.deserialize_row(alloc, row!(_ _ _))?;
         Ok((first, second, third))
     }
 }
@@ -55,21 +49,9 @@ impl<
     C: Deserialize<R>,
     D: Deserialize<R>,
 > Deserialize<R> for (A, B, C, D) {
+    #[inline(always)]
     fn deserialize(alloc: Global, de: &mut Deserializer<R>) -> Result<(A, B, C, D), Error> {
-        let mut parts = de.deserialize_tuple(4)?;
-        let Some(first) = parts.next_element(alloc)? else {
-            return Err(Error::SequenceLengthMismatch);
-        };
-        let Some(second) = parts.next_element(alloc)? else {
-            return Err(Error::SequenceLengthMismatch);
-        };
-        let Some(third) = parts.next_element(alloc)? else {
-            return Err(Error::SequenceLengthMismatch);
-        };
-        let Some(fourth) = parts.next_element(alloc)? else {
-            return Err(Error::SequenceLengthMismatch);
-        };
-        parts.end()?;
+        let (first, (second, (third, (fourth, ())))) = de.deserialize_row(alloc, row!(_ _ _ _))?;
         Ok((first, second, third, fourth))
     }
 }

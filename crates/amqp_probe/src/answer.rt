@@ -16,7 +16,8 @@ pub const LIMIT: usize = 65_536;
 
 /// What is printed for a line, without a line feed; None where the line is bad. `OutOfMemory` alone is an error.
 pub fn answer(alloc: Global, line: &[u8]) -> Result<Option<String>, Error>
-    ensures ok { IfOk result (λ text. MatchOption text (IsBad line.now) (λ text. Answers line.now (string_bytes text))) }
+    ensures ok { IfOk result (λ text. MatchOption text (IsBad line.now) (λ text.
+        Answers line.now (string_bytes text))) }
     ensures err { IfErr result (λ e. e ≡ OutOfMemory) }
 {
     match parse(alloc, line)? {
@@ -30,7 +31,8 @@ pub fn answer(alloc: Global, line: &[u8]) -> Result<Option<String>, Error>
 
 /// The type and the bytes that a line spells; None where it is bad.
 pub fn parse(alloc: Global, line: &[u8]) -> Result<Option<(Kind, Vec<u8>)>, Error>
-    ensures ok { IfOk result (λ spelt. MatchOption spelt (IsBad line.now) (λ spelt. Spells line.now spelt.0 spelt.1.items)) }
+    ensures ok { IfOk result (λ spelt. MatchOption spelt (IsBad line.now) (λ spelt.
+        Spells line.now spelt.0 spelt.1.items)) }
     ensures err { IfErr result (λ e. e ≡ OutOfMemory) }
 {
     if line.len() > LIMIT {

@@ -22,7 +22,8 @@ pub enum Kind {
 
 /// The type of that name; None where no type has it.
 pub fn kind_named(name: &[u8]) -> Option<Kind>
-    ensures { MatchOption result ((k : Kind) → name.now ≢ type_name k) (λ k. name.now ≡ type_name k) }
+    ensures { MatchOption result ((k : Kind) → name.now ≢ type_name k) (λ k.
+        name.now ≡ type_name k) }
 {
     match name {
         _ if name == b"bool".as_slice() => Some(Kind::Bool),

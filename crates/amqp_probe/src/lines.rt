@@ -54,11 +54,14 @@ impl Lines {
         alloc: Global,
         source: &mut S,
     ) -> Result<Option<Vec<u8>>, Error>
-        ensures next { IfOk result (λ line. IfSome (to_come self.old (S.remaining source.old)) (λ input. IsNextIfAny input line (to_come self.new (S.remaining source.new)))) }
+        ensures next { IfOk result (λ line. IfSome (to_come self.old (S.remaining source.old))
+            (λ input. IsNextIfAny input line (to_come self.new (S.remaining source.new)))) }
         ensures progress { IfOk result (λ line. OnSome line (taken self.old < taken self.new)) }
-        ensures weighs { OnOk result (Weighs (to_come self.old (S.remaining source.old)) (taken self.old) (to_come self.new (S.remaining source.new)) (taken self.new)) }
+        ensures weighs { OnOk result (Weighs (to_come self.old (S.remaining source.old))
+            (taken self.old) (to_come self.new (S.remaining source.new)) (taken self.new)) }
         ensures faults { OnOk result (S.faults source.new ≡ S.faults source.old) }
-        ensures err { IfErr result (λ e. Fails e (S.faults source.old < S.faults source.new) (TooMany (to_come self.old (S.remaining source.old)) (taken self.old))) }
+        ensures err { IfErr result (λ e. Fails e (S.faults source.old < S.faults source.new)
+            (TooMany (to_come self.old (S.remaining source.old)) (taken self.old))) }
     {
         let mut line = Vec::new(alloc);
         'pieces: while self.fill(source)? {
@@ -79,12 +82,15 @@ impl Lines {
 
     /// Reads a block where nothing is left of the last one; false at the end.
     fn fill<S: Source>(&mut self, source: &mut S) -> Result<bool, Error>
-        ensures bytes { OnOk result (Keeps (to_come self.old (S.remaining source.old)) (to_come self.new (S.remaining source.new))) }
+        ensures bytes { OnOk result (Keeps (to_come self.old (S.remaining source.old))
+            (to_come self.new (S.remaining source.new))) }
         ensures more { IfOk result (λ more. IsTrue more ↔ (self.new.start < self.new.end)) }
-        ensures end { IfOk result (λ more. more ≡ false → IsAtEnd (to_come self.new (S.remaining source.new))) }
+        ensures end { IfOk result (λ more.
+            more ≡ false → IsAtEnd (to_come self.new (S.remaining source.new))) }
         ensures taken { OnOk result (taken self.new ≡ taken self.old) }
         ensures faults { OnOk result (S.faults source.new ≡ S.faults source.old) }
-        ensures err { IfErr result (λ e. Fails e (S.faults source.old < S.faults source.new) (TooMany (to_come self.old (S.remaining source.old)) (taken self.old))) }
+        ensures err { IfErr result (λ e. Fails e (S.faults source.old < S.faults source.new)
+            (TooMany (to_come self.old (S.remaining source.old)) (taken self.old))) }
     {
         if self.start < self.end {
             return Ok(true);
@@ -104,8 +110,10 @@ impl Lines {
     fn take_into(&mut self, line: &mut Vec<u8>) -> Result<bool, AllocError>
         requires some { self.old.start < self.old.end }
         requires short { vec_len line.old ≤ 65536 }
-        ensures moved { IfOk result (λ ended. Moved (unread self.old) (unread self.new) line.old.items line.new.items ended) }
-        ensures counted { IfOk result (λ ended. taken self.new + length line.old.items ≡ taken self.old + length line.new.items + (if ended then 1 else 0)) }
+        ensures moved { IfOk result (λ ended.
+            Moved (unread self.old) (unread self.new) line.old.items line.new.items ended) }
+        ensures counted { IfOk result (λ ended. taken self.new + length line.old.items ≡ taken
+            self.old + length line.new.items + (if ended then 1 else 0)) }
         ensures progress { OnOk result (taken self.old < taken self.new) }
     {
         let room = LIMIT + 1 - line.len();

@@ -19,11 +19,13 @@ use std::alloc::{AllocError, Global};
 /// `OutOfMemory`), `OutOfMemory`, or `Io` of kind `Other` where the bytes read would pass `usize::MAX`; what the output
 /// held before stays at its front.
 pub fn run<S: Source, W: Sink>(alloc: Global, input: &mut S, output: &mut W) -> Result<bool, Error>
-    ensures prints { IfOk result (λ good. IfSome (S.remaining input.old) (λ bytes. Prints bytes good (W.contents output.old) (W.contents output.new))) }
+    ensures prints { IfOk result (λ good. IfSome (S.remaining input.old) (λ bytes.
+        Prints bytes good (W.contents output.old) (W.contents output.new))) }
     ensures source { OnOk result (S.faults input.new ≡ S.faults input.old) }
     ensures sink { OnOk result (W.faults output.new ≡ W.faults output.old) }
     ensures extends { Extends (W.contents output.old) (W.contents output.new) }
-    ensures err { IfErr result (λ e. Fails e ((S.faults input.old < S.faults input.new) ⊎ (W.faults output.old < W.faults output.new)) (TooMany (S.remaining input.old) 0)) }
+    ensures err { IfErr result (λ e. Fails e ((S.faults input.old < S.faults input.new) ⊎
+        (W.faults output.old < W.faults output.new)) (TooMany (S.remaining input.old) 0)) }
 {
     match transcribe(alloc, input, output) {
         Ok(None) => Ok(true),
@@ -44,7 +46,8 @@ pub fn transcribe<S: Source, W: Sink>(
     ensures source { OnOk result (S.faults input.new ≡ S.faults input.old) }
     ensures sink { OnOk result (W.faults output.new ≡ W.faults output.old) }
     ensures extends { Extends (W.contents output.old) (W.contents output.new) }
-    ensures err { IfErr result (λ e. Fails e ((S.faults input.old < S.faults input.new) ⊎ (W.faults output.old < W.faults output.new)) (TooMany (S.remaining input.old) 0)) }
+    ensures err { IfErr result (λ e. Fails e ((S.faults input.old < S.faults input.new) ⊎
+        (W.faults output.old < W.faults output.new)) (TooMany (S.remaining input.old) 0)) }
 {
     let mut lines = Lines::new(alloc)?;
     let mut texts = Vec::new(alloc);
@@ -122,7 +125,8 @@ fn bad_line(alloc: Global, number: usize) -> Result<String, AllocError>
 
 /// Writes all bytes.
 fn write<W: Sink>(output: &mut W, bytes: &[u8]) -> Result<(), Error>
-    ensures appended { OnOk result (Appends (W.contents output.old) (W.contents output.new) bytes.now) }
+    ensures appended { OnOk result (Appends (W.contents output.old)
+        (W.contents output.new) bytes.now) }
     ensures same { OnOk result (W.faults output.new ≡ W.faults output.old) }
     ensures extends { Extends (W.contents output.old) (W.contents output.new) }
     ensures err { IfErr result (λ e. Fails e (W.faults output.old < W.faults output.new) ⊥) }

@@ -2,6 +2,7 @@
 use Rattle.std.specs.Prelude.{◌≡◌, ℕ, ◌+◌, ◌≤◌, Bool, List, [], ◌∷◌, length, take, drop, Option, ⊤}
 use Rattle.std.specs.Borrow.{GName}
 use Rattle.std.specs.Io.KnownBytes.{Consumes, Keeps}
+use Rattle.std.specs.declared.io.ErrorKind.{ErrorKind}
 
 pub record Reading : Type 0 where
   -- the bytes to come, where the source tells them
@@ -12,6 +13,8 @@ pub record Reading : Type 0 where
   pub received : List ℕ
   -- how many faults the source has answered
   pub faults : ℕ
+  -- and the kind of the last of them
+  pub last_fault : Option ErrorKind
   -- 0 bytes for a buffer that isn't empty come only at the source's end
   pub honest : Bool
   -- the references through which the source is lent

@@ -4,6 +4,7 @@ use Rattle.std.specs.Io.KnownBytes.{IsAtEnd}
 use Rattle.std.specs.declared.io.ErrorKind.TheVariants.{UnexpectedEof, Other}
 use Rattle.amqp_base.specs.declared.error.Error.{Error}
 use Rattle.amqp_base.specs.declared.error.Error.TheVariants.{Io, OutOfMemory}
+use Rattle.amqp_base.specs.Faults.{IsFault}
 use Rattle.amqp_read.specs.Reading.{Reading, Agree, Stays}
 
 -- the known bytes begin with these; where none are known, the received ones do
@@ -42,9 +43,9 @@ Ended r = IsTrue r.honest → IsAtEnd r.to_come
 abbrev pub IsShort : ℕ → Reading → Type 0
 IsShort n r = IsTrue r.honest → ShortOf n r.to_come
 
--- want of memory, where the call may grow; or a fault of the source, where the reader buffers
+-- want of memory, where the call may grow; or the last fault of the source, where the reader buffers
 abbrev pub Fails : Bool → Bool → Reading → Reading → Error → Type 0
-Fails grows buffers old new e = ((e ≡ OutOfMemory) × IsTrue grows) ⊎ ((old.faults < new.faults) × IsTrue buffers)
+Fails grows buffers old new e = ((e ≡ OutOfMemory) × IsTrue grows) ⊎ (IsFault new.last_fault e × (old.faults < new.faults) × IsTrue buffers)
 
 -- n bytes are to come, where that is known
 abbrev pub HasBytes : ℕ → Option (List ℕ) → Type 0

@@ -27,9 +27,11 @@ pub trait Read: sealed::Sealed + Drop {
 
     /// The next byte, which stays; `None` at the end.
     fn peek(&mut self) -> Result<Option<u8>, Error>
-        ensures ok { IfOk result (λ o. MatchOption o (Ended (reading self.old)) (λ b. Shows (reading self.new) (b ∷ []))) }
+        ensures ok { IfOk result (λ o. MatchOption o (Ended (reading self.old)) (λ b.
+            Shows (reading self.new) (b ∷ []))) }
         ensures looked { Looked 1 (reading self.old) (reading self.new) }
-        ensures why { IfErr result (λ e. Fails buffers buffers (reading self.old) (reading self.new) e) };
+        ensures why { IfErr result (λ e.
+            Fails buffers buffers (reading self.old) (reading self.new) e) };
 
     /// How many bytes were consumed; peeked bytes don't count.
     fn bytes_consumed(&self) -> usize
@@ -37,39 +39,50 @@ pub trait Read: sealed::Sealed + Drop {
 
     /// Consumes the next byte; `None` at the end.
     fn next(&mut self) -> Result<Option<u8>, Error>
-        ensures ok { IfOk result (λ o. MatchOption o (Stays (reading self.old) (reading self.new) × Ended (reading self.old)) (λ b. Takes (reading self.old) (reading self.new) (b ∷ []))) }
+        ensures ok { IfOk result (λ o. MatchOption o (Stays (reading self.old) (reading self.new) ×
+            Ended (reading self.old)) (λ b. Takes (reading self.old) (reading self.new) (b ∷ []))) }
         ensures err { OnErr result (Stays (reading self.old) (reading self.new)) }
-        ensures why { IfErr result (λ e. NotTaken buffers buffers 1 (reading self.old) (reading self.new) e) }
-        ensures not_the_end { IfErr result (λ e. Fails buffers buffers (reading self.old) (reading self.new) e ⊎ PassesCount buffers 1 (reading self.old) e) };
+        ensures why { IfErr result (λ e.
+            NotTaken buffers buffers 1 (reading self.old) (reading self.new) e) }
+        ensures not_the_end { IfErr result (λ e. Fails buffers buffers (reading self.old)
+            (reading self.new) e ⊎ PassesCount buffers 1 (reading self.old) e) };
 
     /// Fills `buf` with the next bytes; `Io(UnexpectedEof)` where fewer are to come. A refusal leaves `buf` as it was.
     fn read_exact(&mut self, buf: &mut [u8]) -> Result<(), Error>
         ensures len { length buf.new ≡ length buf.old }
         ensures ok { OnOk result (Takes (reading self.old) (reading self.new) buf.new) }
-        ensures err { OnErr result (Stays (reading self.old) (reading self.new) × (buf.new ≡ buf.old)) }
-        ensures why { IfErr result (λ e. NotTaken buffers buffers (length buf.old) (reading self.old) (reading self.new) e) };
+        ensures err { OnErr result (Stays (reading self.old) (reading self.new) ×
+            (buf.new ≡ buf.old)) }
+        ensures why { IfErr result (λ e.
+            NotTaken buffers buffers (length buf.old) (reading self.old) (reading self.new) e) };
 
     /// The next `n` bytes, which stay; `None` where fewer are to come.
     // No clause on how the reader ends reaches a caller's proof, since the error may own memory: see `SliceReader`'s.
     fn peek_bytes(&mut self, n: usize) -> Result<Option<&[u8]>, Error>
-        ensures ok { IfOk result (λ o. MatchOption o (IsShort n (reading self.old)) (λ b. (length b.now ≡ n) × MayCome (reading self.old) b.now)) }
+        ensures ok { IfOk result (λ o. MatchOption o (IsShort n (reading self.old)) (λ b.
+            (length b.now ≡ n) × MayCome (reading self.old) b.now)) }
         ensures why { OnErr result (IsTrue buffers) };
 
     /// Consumes the next `n` bytes; `Io(UnexpectedEof)` where fewer are to come, `OutOfMemory` where the vector finds no
     /// memory. Memory for it is asked for only after the bytes are there.
     fn read_bytes(&mut self, alloc: Global, n: usize) -> Result<Vec<u8>, Error>
-        ensures ok { IfOk result (λ v. (length v.items ≡ n) × Takes (reading self.old) (reading self.new) v.items) }
+        ensures ok { IfOk result (λ v.
+            (length v.items ≡ n) × Takes (reading self.old) (reading self.new) v.items) }
         ensures err { OnErr result (Stays (reading self.old) (reading self.new)) }
-        ensures why { IfErr result (λ e. NotTaken true buffers n (reading self.old) (reading self.new) e) }
-        ensures bytes_first { IfErr result (λ e. (e ≡ OutOfMemory) → (IsTrue buffers ⊎ Holds n (reading self.old).to_come)) };
+        ensures why { IfErr result (λ e.
+            NotTaken true buffers n (reading self.old) (reading self.new) e) }
+        ensures bytes_first { IfErr result (λ e.
+            (e ≡ OutOfMemory) → (IsTrue buffers ⊎ Holds n (reading self.old).to_come)) };
 }
 
 /// Consumes the next `N` bytes; `Io(UnexpectedEof)` where fewer are to come. A refusal consumes nothing.
 #[inline(always)]
 pub fn read_const_bytes<R: Read, const N: usize>(reader: &mut R) -> Result<[u8; N], Error>
-    ensures ok { IfOk result (λ b. (length b ≡ N) × Takes (R.reading reader.old) (R.reading reader.new) b) }
+    ensures ok { IfOk result (λ b.
+        (length b ≡ N) × Takes (R.reading reader.old) (R.reading reader.new) b) }
     ensures err { OnErr result (Stays (R.reading reader.old) (R.reading reader.new)) }
-    ensures why { IfErr result (λ e. NotTaken R.buffers R.buffers N (R.reading reader.old) (R.reading reader.new) e) }
+    ensures why { IfErr result (λ e.
+        NotTaken R.buffers R.buffers N (R.reading reader.old) (R.reading reader.new) e) }
 {
     let mut bytes = [0; N];
     match reader.read_exact(&mut bytes) {

@@ -1,6 +1,6 @@
 //! A reader over bytes in memory.
 
-ghost use Rattle.std.specs.Prelude.{◌≡◌, ◌<◌, ◌≤◌, ◌+◌, ◌^◌, ℕ, Bool, true, false, List, [], ◌∷◌, length, IfOk, IfErr, OnErr, IsTrue, MatchOption, Some};
+ghost use Rattle.std.specs.Prelude.{◌≡◌, ◌<◌, ◌≤◌, ◌+◌, ◌^◌, ℕ, Bool, true, false, List, [], ◌∷◌, length, IfOk, IfErr, OnErr, IsTrue, MatchOption, Some, None};
 ghost use Rattle.std.specs.declared.io.ErrorKind.TheVariants.{UnexpectedEof};
 ghost use Rattle.amqp_base.specs.declared.error.Error.TheVariants.{Io};
 ghost use Rattle.std.specs.Borrow.{sem};
@@ -25,12 +25,12 @@ pub struct SliceReader<'s> {
 }
 
 impl<'s> Model for SliceReader<'s> {
-    ghost use Rattle.std.specs.Prelude.{ℕ, ◌<◌, ◌+◌, ◌^◌, length, true, [], Some};
+    ghost use Rattle.std.specs.Prelude.{ℕ, ◌<◌, ◌+◌, ◌^◌, length, true, [], Some, None};
     ghost use Rattle.amqp_read.specs.Reading.{Reading};
 
     ghost Value = { Reading };
 
-    ghost view = { λ r. record { to_come = Some r.rest.now; taken = r.taken; received = []; faults = 0; honest = true; origin = [] } };
+    ghost view = { λ r. record { to_come = Some r.rest.now; taken = r.taken; received = []; faults = 0; last_fault = None; honest = true; origin = [] } };
 
     ghost invariant = { λ r. r.taken + length r.rest.now < 2 ^ 64 };
 }
@@ -38,7 +38,15 @@ impl<'s> Model for SliceReader<'s> {
 impl<'s> SliceReader<'s> {
     /// Reads from the first byte of `slice` on.
     pub fn new(slice: &'s [u8]) -> SliceReader<'s>
-        ensures { result ≡ record { to_come = Some slice.now; taken = 0; received = []; faults = 0; honest = true; origin = [] } }
+        ensures { result ≡ record {
+          to_come = Some slice.now;
+          taken = 0;
+          received = [];
+          faults = 0;
+          last_fault = None;
+          honest = true;
+          origin = [];
+        } }
     {
         SliceReader {
             rest: slice,
@@ -51,7 +59,8 @@ impl<'s> SliceReader<'s> {
     #[inline(always)]
     pub fn get_byte_slice(&mut self, n: usize) -> Result<&'s [u8], Error>
         ensures ok { IfOk result (λ s. (length s.now ≡ n) × Takes self.old self.new s.now) }
-        ensures err { IfErr result (λ e. (e ≡ Io UnexpectedEof) × ShortOf n self.old.to_come × (self.new ≡ self.old)) }
+        ensures err { IfErr result (λ e.
+            (e ≡ Io UnexpectedEof) × ShortOf n self.old.to_come × (self.new ≡ self.old)) }
     {
         if n > self.rest.len() {
             return Err(Error::Io(ErrorKind::UnexpectedEof));
@@ -65,8 +74,10 @@ impl<'s> SliceReader<'s> {
     /// The next `n` bytes, where there are so many. They stay.
     #[inline(always)]
     fn shown(&mut self, n: usize) -> Option<&[u8]>
-        ensures bytes { MatchOption result (ShortOf n self.old.to_come) (λ b. (length b.now ≡ n) × MayCome self.old b.now) }
-        ensures* lent { sem 𝓛 (Rests (the_row (record { mir = named 1; lft = [] })) self.entry (λ last. Looked n self.old last)) }
+        ensures bytes { MatchOption result (ShortOf n self.old.to_come) (λ b.
+            (length b.now ≡ n) × MayCome self.old b.now) }
+        ensures* lent { sem 𝓛 (Rests (the_row (record { mir = named 1; lft = [] })) self.entry
+            (λ last. Looked n self.old last)) }
     {
         front(self, n)
     }
@@ -116,9 +127,11 @@ impl<'s> Read for SliceReader<'s> {
     // The proof is by hand, over `shown`'s: none is made of a loan whose result may own memory.
     #[inline(always)]
     fn peek_bytes(&mut self, n: usize) -> Result<Option<&[u8]>, Error>
-        ensures ok { IfOk result (λ o. MatchOption o (IsShort n self.old) (λ b. (length b.now ≡ n) × MayCome self.old b.now)) }
+        ensures ok { IfOk result (λ o. MatchOption o (IsShort n self.old) (λ b.
+            (length b.now ≡ n) × MayCome self.old b.now)) }
         ensures why { OnErr result (IsTrue false) }
-        ensures* lent { sem 𝓛 (Rests (the_row (record { mir = named 1; lft = [] })) self.entry (λ last. Looked n self.old last)) }
+        ensures* lent { sem 𝓛 (Rests (the_row (record { mir = named 1; lft = [] })) self.entry
+            (λ last. Looked n self.old last)) }
     {
         Ok(self.shown(n))
     }
@@ -143,7 +156,8 @@ impl<'s> Read for SliceReader<'s> {
 /// The next `n` bytes, where there are so many.
 #[inline(always)]
 fn front<'a>(reader: &'a SliceReader<'_>, n: usize) -> Option<&'a [u8]>
-    ensures { MatchOption result (ShortOf n reader.now.to_come) (λ b. (length b.now ≡ n) × MayCome reader.now b.now) }
+    ensures { MatchOption result (ShortOf n reader.now.to_come) (λ b.
+        (length b.now ≡ n) × MayCome reader.now b.now) }
 {
     reader.rest.get(..n)
 }

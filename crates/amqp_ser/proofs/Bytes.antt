@@ -1,16 +1,16 @@
 -- Known bytes over several writes.
-use Rattle.std.proofs.Common.{◌≡◌, ◌==◌, Bool, suc, ◌∷◌, ℕ, ◌+◌, ◌≤◌, List, [], ◌++◌, length, take, drop, refl, sym, ◌∙◌, ap, subst, append_assoc, arith, Option, Some, None, Ok, Err, inl, inr, true, false, ◌⊎◌}
+use Rattle.std.proofs.Common.{◌≡◌, ◌<◌, ◌==◌, Bool, suc, ◌∷◌, ℕ, ◌+◌, ◌≤◌, List, [], ◌++◌, length, take, drop, refl, sym, ◌∙◌, ap, subst, append_assoc, arith, Option, Some, None, Ok, Err, inl, inr, true, false, ◌⊎◌}
 use Rattle.std.proofs.lemmas.Grind.{common_steps}
 use Rattle.std.proofs.lemmas.List.{take-append-drop, take_all, length-drop, append-nil}
 use Rattle.std.proofs.lemmas.Bool.{ne_eqb}
 use Rattle.std.specs.Io.KnownBytes.{Appends, Keeps}
 use Rattle.std.specs.declared.io.ErrorKind.{ErrorKind}
 use Rattle.std.specs.declared.io.ErrorKind.TheVariants.{OutOfMemory as NoMemory}
-use Rattle.amqp_base.specs.Faults.{Extends, refusal_of}
+use Rattle.amqp_base.specs.Faults.{Extends, refusal_of, IsFault}
 use Rattle.amqp_base.specs.declared.error.Error.{Error}
 use Rattle.amqp_base.specs.declared.error.Error.TheVariants.{OutOfMemory, Io}
 use Rattle.amqp_ser.specs.State.{State}
-use Rattle.amqp_ser.specs.Law.{Goes, fits, Kept, IsIo, IsDevice}
+use Rattle.amqp_ser.specs.Law.{Goes, fits, Kept, IsDevice}
 use Rattle.amqp_ser.specs.Appending.{Appended}
 
 pub appends_more : (a b c : Option (List ℕ)) (xs ys : List ℕ) → Appends a b xs → Appends b c ys → Appends a c (xs ++ ys)
@@ -51,12 +51,13 @@ pub record Going (s : State) (bytes rest : List ℕ) (t : State) : Type 0 where
   pub appended : Appends s.contents t.contents done
   pub same : t ≡ record s { contents = t.contents }
 
-pub going_more : (s t u : State) (bytes rest more after : List ℕ) → Going s bytes rest t → rest ≡ more ++ after → Appends t.contents u.contents more → u.faults ≡ t.faults → u.grows ≡ t.grows → u ≡ record t { contents = u.contents; faults = u.faults; grows = u.grows } → Going s bytes after u
-going_more s t u bytes rest more after g split appended faults grows same = record {
+pub going_more : (s t u : State) (bytes rest more after : List ℕ) → Going s bytes rest t → rest ≡ more ++ after → Appends t.contents u.contents more → u.faults ≡ t.faults → u.last_fault ≡ t.last_fault → u.grows ≡ t.grows
+    → u ≡ record t { contents = u.contents; faults = u.faults; last_fault = u.last_fault; grows = u.grows } → Going s bytes after u
+going_more s t u bytes rest more after g split appended faults last grows same = record {
   done = g.done ++ more;
   split = g.split ∙ (ap (λ xs. g.done ++ xs) split ∙ sym (append_assoc g.done more after));
   appended = appends_more _ _ _ _ _ g.appended appended;
-  same = same ∙ (let e : record t { contents = u.contents; faults = u.faults; grows = u.grows } ≡ record t { contents = u.contents } = rw (faults, grows) refl in e) ∙ ap (λ (x : State). record x { contents = u.contents }) g.same;
+  same = same ∙ (let e : record t { contents = u.contents; faults = u.faults; last_fault = u.last_fault; grows = u.grows } ≡ record t { contents = u.contents } = rw (faults, last, grows) refl in e) ∙ ap (λ (x : State). record x { contents = u.contents }) g.same;
 }
 
 pub going_none : (s : State) (bytes : List ℕ) → Going s bytes bytes s
@@ -110,8 +111,8 @@ refusal_io kind = inr refl
 
 -- a fault stops the serializer
 pub appended_fault : {A : Type 0} (s t u : State) (bytes rest : List ℕ) (kind : ErrorKind) (e : Error) → Going s bytes rest t → e ≡ refusal_of kind → Keeps t.contents u.contents
-    → (u.faults ≡ t.faults + 1) ⊎ ((kind ≡ NoMemory) × (t.grows ≡ true) × (u.faults ≡ t.faults)) → u.grows ≡ t.grows → u.stopped ≡ true → Appended {A = A} s bytes (Err e) u
-appended_fault s t u bytes rest kind e g is bytes_kept counts grows stopped =
+    → (u.faults ≡ t.faults + 1) ⊎ ((kind ≡ NoMemory) × (t.grows ≡ true) × (u.faults ≡ t.faults)) → (t.faults < u.faults → u.last_fault ≡ Some kind) → u.grows ≡ t.grows → u.stopped ≡ true → Appended {A = A} s bytes (Err e) u
+appended_fault s t u bytes rest kind e g is bytes_kept counts last grows stopped =
     let same : t.faults ≡ s.faults = ap (λ (x : State). x.faults) g.same in
     let held : t.grows ≡ s.grows = ap (λ (x : State). x.grows) g.same in
     record {
@@ -124,7 +125,7 @@ appended_fault s t u bytes rest kind e g is bytes_kept counts grows stopped =
       ok = tt;
       err = stopped;
       refused = elim counts [
-        | inl one ↦ elim (refusal_io kind) [ inl m ↦ inl (is ∙ m) | inr io ↦ inr (inl (subst (λ x. IsIo x) (sym (is ∙ io)) tt, omega (arith, one, same))) ]
+        | inl one ↦ elim (refusal_io kind) [ inl m ↦ inl (is ∙ m) | inr io ↦ inr (inl (subst (λ x. IsFault u.last_fault x) (sym (is ∙ io)) (last (omega (arith, one))), omega (arith, one, same))) ]
         | inr m ↦ inl (is ∙ refusal_memory kind m.0)
       ];
       spares = λ m. elim counts [ inl one ↦ inr (omega (arith, one, same)) | inr more ↦ inl (sym held ∙ more.1) ];

@@ -13,3 +13,4 @@ pub mod Finish
 pub mod Counting
 pub mod MapPairs
 pub mod ManyParts
+pub mod WholeRows

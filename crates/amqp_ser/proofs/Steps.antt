@@ -6,8 +6,9 @@ use Rattle.amqp_base.specs.Canon.{when, kind_code}
 use Rattle.amqp_base.specs.Sizes.{Size, sizes}
 use Rattle.amqp_base.specs.declared.error.Error.{Error}
 use Rattle.amqp_base.specs.declared.error.Error.TheVariants.{OutOfMemory}
+use Rattle.amqp_base.specs.Faults.{IsFault}
 use Rattle.amqp_ser.specs.State.{State}
-use Rattle.amqp_ser.specs.Law.{marked, text_for, found_after, fits, Goes, Wrote, Refused, Kept, IsDevice, IsIo, Named, unwritten}
+use Rattle.amqp_ser.specs.Law.{marked, text_for, found_after, fits, Goes, Wrote, Refused, Kept, IsDevice, Named, unwritten}
 use Rattle.amqp_ser.specs.Appending.{Appended, Pays}
 use Rattle.amqp_ser.proofs.Bytes.{appends_more, extends_more, extends_same}
 
@@ -73,7 +74,7 @@ appended_stop s t a b e (Err d) (Err g) f is same h =
       device = subst (λ x. IsDevice x → s.faults < t.faults) eq h.device;
       ok = tt;
       err = h.err;
-      refused = elim h.refused [ inl m ↦ inl (sym eq ∙ m) | inr d ↦ elim d [ inl io ↦ inr (inl (subst (λ x. IsIo x) eq io.0, io.1)) | inr full ↦ absurd (apart (sym (fits_free s (length a) [] f) ∙ full)) ] ];
+      refused = elim h.refused [ inl m ↦ inl (sym eq ∙ m) | inr d ↦ elim d [ inl io ↦ inr (inl (subst (λ x. IsFault t.last_fault x) eq io.0, io.1)) | inr full ↦ absurd (apart (sym (fits_free s (length a) [] f) ∙ full)) ] ];
       spares = subst (λ x. x ≡ OutOfMemory → (s.grows ≡ true) ⊎ (s.faults < t.faults)) eq h.spares;
     }
 

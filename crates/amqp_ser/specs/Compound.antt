@@ -103,7 +103,7 @@ pub record Run (shape : Shape) (u : State) (xs : List Item) (v : State) : Type 0
   pub answers : v.stopped ≡ false
 
 abbrev pub the_buffer : Serializer (Vec ℕ Global) → State
-the_buffer b = record { contents = Some b.writer.items; faults = 0; grows = true; setting = b.setting; mark = mark_of b.mark; found = found_of b.found; plan = None; measure = None; stopped = b.stopped }
+the_buffer b = record { contents = Some b.writer.items; faults = 0; last_fault = None; grows = true; setting = b.setting; mark = mark_of b.mark; found = found_of b.found; plan = None; measure = None; stopped = b.stopped }
 
 -- parts on a serializer
 abbrev pub open_parts : Bool → State → Parts → Open

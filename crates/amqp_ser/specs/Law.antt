@@ -1,12 +1,12 @@
 -- The law of writing.
-use Rattle.std.specs.Prelude.{◌≡◌, ◌⊎◌, ℕ, ◌+◌, ◌^◌, ◌<◌, ◌≤◌, nat_lt, ◌==◌, ◌&&◌, Bool, true, false, if◌then◌else◌, List, [], ◌∷◌, ◌++◌, length, drop, Option, None, Some, Result, Err, OnErr, IfErr, ⊤}
+use Rattle.std.specs.Prelude.{◌≡◌, ◌⊎◌, ℕ, ◌+◌, ◌^◌, ◌<◌, ◌≤◌, nat_lt, ◌==◌, ◌&&◌, Bool, true, false, if◌then◌else◌, List, [], ◌∷◌, ◌++◌, length, drop, Option, None, Some, Result, Err, OnErr, IfErr}
 use Rattle.std.specs.Io.KnownBytes.{Appends}
 use Rattle.std.specs.declared.io.ErrorKind.TheVariants.{Other}
 use Rattle.amqp_base.specs.Item.{Item}
 use Rattle.amqp_base.specs.Wire.{Constructor}
 use Rattle.amqp_base.specs.Canon.{◌>>=◌, when, limit, canon, body, kind_code, constructor_text, is_under}
 use Rattle.amqp_base.specs.Sizes.{Size, sizes}
-use Rattle.amqp_base.specs.Faults.{Extends}
+use Rattle.amqp_base.specs.Faults.{Extends, IsFault}
 use Rattle.amqp_base.specs.declared.error.Error.{Error}
 use Rattle.amqp_base.specs.declared.error.Error.TheVariants.{Io, OutOfMemory, InvalidValue}
 pub use Rattle.amqp_base.specs.Refusals.{IsDevice}
@@ -77,13 +77,9 @@ pub record Took (s : State) (i : Item) (t : State) : Type 0 where
   pub mark : t.mark ≡ s.mark
   pub found : t.found ≡ found_after s.mark (kind_code i) s.found
 
-abbrev pub IsIo : Error → Type 0
-IsIo (Io kind) = ⊤
-IsIo e = ⊥
-
 -- why an item may be refused
 abbrev pub MayRefuse : State → Item → Error → State → Type 0
-MayRefuse s i e t = (e ≡ OutOfMemory) ⊎ ((IsIo e × (s.faults < t.faults)) ⊎ (text_for s i ≡ None))
+MayRefuse s i e t = (e ≡ OutOfMemory) ⊎ ((IsFault t.last_fault e × (s.faults < t.faults)) ⊎ (text_for s i ≡ None))
 
 -- what every call keeps, whatever it answers
 pub record Kept (s t : State) : Type 0 where
@@ -118,7 +114,7 @@ unwritten n = if nat_lt limit n then Io Other else InvalidValue
 
 -- what may be answered for a payload or body of n bytes, 0 where there is none
 abbrev pub Names : State → Error → Error → State → Type 0
-Names s why e t = (e ≡ OutOfMemory) ⊎ ((IsIo e × (s.faults < t.faults)) ⊎ (e ≡ why))
+Names s why e t = (e ≡ OutOfMemory) ⊎ ((IsFault t.last_fault e × (s.faults < t.faults)) ⊎ (e ≡ why))
 
 -- each refusal has its name
 abbrev pub Named : State → ℕ → Error → State → Type 0

@@ -1,5 +1,6 @@
 -- What contracts see of a serializer.
 use Rattle.std.specs.Prelude.{◌≡◌, ℕ, Bool, false, List, Option, None, Some}
+use Rattle.std.specs.declared.io.ErrorKind.{ErrorKind}
 use Rattle.std.specs.declared.io.Write as Write
 use Rattle.amqp_base.specs.declared.format_code.EncodingCodes.{EncodingCodes}
 use Rattle.amqp_base.specs.declared.fault.FaultCount as FaultCount
@@ -24,6 +25,8 @@ pub record State : Type 0 where
   -- the writer's bytes, where it tells them
   pub contents : Option (List ℕ)
   pub faults : ℕ
+  -- the kind of the writer's last fault
+  pub last_fault : Option ErrorKind
   pub grows : Bool
   pub setting : Setting
   pub mark : Mark
@@ -49,6 +52,7 @@ unfoldable pub state : {W : Type 0} → Write.Ghosts W → FaultCount.Ghosts W �
 state w f s = record {
   contents = w.contents s.writer;
   faults = f.faults s.writer;
+  last_fault = f.last_fault s.writer;
   grows = f.grows s.writer;
   setting = s.setting;
   mark = mark_of s.mark;

@@ -76,11 +76,18 @@ impl Parts {
     /// Writes one more part. It is refused as the part's own `serialize`; then all that follows is `InvalidValue`.
     #[inline(always)]
     pub(crate) fn write<T: Serialize>(&mut self, alloc: Global, value: &T) -> Result<(), Error>
-        ensures ok { (pairs : Bool) (outer : State) → OnOk result ((s : State) (shape : Shape) (xs : List Item) → Holds s shape xs (open_parts pairs outer self.old) →
-            Holds s shape (xs ++ T.item value.now (setting_inside shape) ∷ []) (open_parts pairs outer self.new)) }
-        ensures err { (pairs : Bool) (outer : State) → IfErr result (λ e. (s : State) (shape : Shape) (xs all : List Item) → Holds s shape xs (open_parts pairs outer self.old) →
-            BeginsWith all (xs ++ T.item value.now (setting_inside shape) ∷ []) → Complete pairs all → Refused s (whole shape all) e outer) }
-        ensures stops { (pairs : Bool) (outer : State) → BreaksOff (open_parts pairs outer self.old) result (open_parts pairs outer self.new) }
+        ensures ok { (pairs : Bool) (outer : State) →
+            OnOk result ((s : State) (shape : Shape) (xs : List Item) →
+            Holds s shape xs (open_parts pairs outer self.old) →
+            Holds s shape (xs ++ T.meaning.item value.now (setting_inside shape) ∷ [])
+            (open_parts pairs outer self.new)) }
+        ensures err { (pairs : Bool) (outer : State) →
+            IfErr result (λ e. (s : State) (shape : Shape) (xs all : List Item) →
+            Holds s shape xs (open_parts pairs outer self.old) →
+            BeginsWith all (xs ++ T.meaning.item value.now (setting_inside shape) ∷ []) →
+            Complete pairs all → Refused s (whole shape all) e outer) }
+        ensures stops { (pairs : Bool) (outer : State) → BreaksOff (open_parts pairs outer self.old)
+            result (open_parts pairs outer self.new) }
     {
         if self.buffer.stopped {
             return Err(Error::InvalidValue);
@@ -106,12 +113,19 @@ impl Parts {
         is_value: bool,
         part: &T,
     ) -> Result<(), Error>
-        ensures ok { (outer : State) → OnOk result ((s : State) (xs : List Item) → Holds s Shape.Map xs (open_parts true outer self.old) →
-            Holds s Shape.Map (xs ++ T.item part.now Setting.Plain ∷ []) (open_parts true outer self.new)) }
-        ensures err { (outer : State) → IfErr result (λ e. (s : State) (xs all : List Item) → Holds s Shape.Map xs (open_parts true outer self.old) → awaits_value xs ≡ is_value →
-            BeginsWith all (xs ++ T.item part.now Setting.Plain ∷ []) → awaits_value all ≡ false → Refused s (whole Shape.Map all) e outer) }
-        ensures turn { (outer s : State) (xs : List Item) → Holds s Shape.Map xs (open_parts true outer self.old) → (awaits_value xs ≡ is_value → ⊥) → result ≡ Err Error.InvalidValue }
-        ensures stops { (outer : State) → BreaksOff (open_parts true outer self.old) result (open_parts true outer self.new) }
+        ensures ok { (outer : State) → OnOk result ((s : State) (xs : List Item) →
+            Holds s Shape.Map xs (open_parts true outer self.old) →
+            Holds s Shape.Map (xs ++ T.meaning.item part.now Setting.Plain ∷ [])
+            (open_parts true outer self.new)) }
+        ensures err { (outer : State) → IfErr result (λ e. (s : State) (xs all : List Item) →
+            Holds s Shape.Map xs (open_parts true outer self.old) → awaits_value xs ≡ is_value →
+            BeginsWith all (xs ++ T.meaning.item part.now Setting.Plain ∷ []) →
+            awaits_value all ≡ false → Refused s (whole Shape.Map all) e outer) }
+        ensures turn { (outer s : State) (xs : List Item) →
+            Holds s Shape.Map xs (open_parts true outer self.old) →
+            (awaits_value xs ≡ is_value → ⊥) → result ≡ Err Error.InvalidValue }
+        ensures stops { (outer : State) → BreaksOff (open_parts true outer self.old) result
+            (open_parts true outer self.new) }
     {
         if self.buffer.stopped {
             return Err(Error::InvalidValue);
@@ -197,9 +211,11 @@ impl<W: Sink> Serializer<W> {
     /// `OutOfMemory`: there is no memory for its buffer.
     #[inline(always)]
     pub(crate) fn begin(&mut self, alloc: Global, shape: Shape) -> Result<Parts, Error>
-        ensures ok { IfOk result (λ p. Holds (state W.Write W.FaultCount self.old) shape [] (open_parts (is_map shape) (state W.Write W.FaultCount self.new) p)) }
+        ensures ok { IfOk result (λ p. Holds (state W.Write W.FaultCount self.old) shape []
+            (open_parts (is_map shape) (state W.Write W.FaultCount self.new) p)) }
         ensures held { OnOk result ((state W.Write W.FaultCount self.new).stopped ≡ true) }
-        ensures err { RefusesOpen shape (state W.Write W.FaultCount self.old) result (state W.Write W.FaultCount self.new) }
+        ensures err { RefusesOpen shape (state W.Write W.FaultCount self.old) result
+            (state W.Write W.FaultCount self.new) }
     {
         if self.stopped {
             return Err(Error::InvalidValue);
@@ -217,14 +233,23 @@ impl<W: Sink> Serializer<W> {
     /// `Io(Other)`: the parts have more than 4,294,967,291 bytes. `InvalidValue`: a part was refused, or the array that the
     /// whole is to stand in has elements under another constructor.
     pub(crate) fn close(&mut self, parts: Parts) -> Result<(), Error>
-        ensures ok { (pairs : Bool) → OnOk result ((s : State) (shape : Shape) (xs : List Item) → Holds s shape xs (open_parts pairs (state W.Write W.FaultCount self.old) parts) →
+        ensures ok { (pairs : Bool) → OnOk result ((s : State) (shape : Shape) (xs : List Item) →
+            Holds s shape xs (open_parts pairs (state W.Write W.FaultCount self.old) parts) →
             Complete pairs xs → Wrote s (whole shape xs) (state W.Write W.FaultCount self.new)) }
-        ensures err { (pairs : Bool) → IfErr result (λ e. (s : State) (shape : Shape) (xs : List Item) → Holds s shape xs (open_parts pairs (state W.Write W.FaultCount self.old) parts) →
-            Complete pairs xs → Refused s (whole shape xs) e (state W.Write W.FaultCount self.new)) }
-        ensures named { (pairs : Bool) → IfErr result (λ e. (s : State) (shape : Shape) (xs : List Item) (b : List ℕ) → Holds s shape xs (open_parts pairs (state W.Write W.FaultCount self.old) parts) →
-            Complete pairs xs → parts_text shape (items_of xs) ≡ Some b → Named s (length b) e (state W.Write W.FaultCount self.new)) }
-        ensures kept { Kept (state W.Write W.FaultCount self.old) (state W.Write W.FaultCount self.new) }
-        ensures stopped { OnErr result ((state W.Write W.FaultCount self.old).stopped ≡ true → (state W.Write W.FaultCount self.new).stopped ≡ true) }
+        ensures err { (pairs : Bool) →
+            IfErr result (λ e. (s : State) (shape : Shape) (xs : List Item) →
+            Holds s shape xs (open_parts pairs (state W.Write W.FaultCount self.old) parts) →
+            Complete pairs xs →
+            Refused s (whole shape xs) e (state W.Write W.FaultCount self.new)) }
+        ensures named { (pairs : Bool) →
+            IfErr result (λ e. (s : State) (shape : Shape) (xs : List Item) (b : List ℕ) →
+            Holds s shape xs (open_parts pairs (state W.Write W.FaultCount self.old) parts) →
+            Complete pairs xs → parts_text shape (items_of xs) ≡ Some b →
+            Named s (length b) e (state W.Write W.FaultCount self.new)) }
+        ensures kept { Kept (state W.Write W.FaultCount self.old)
+            (state W.Write W.FaultCount self.new) }
+        ensures stopped { OnErr result ((state W.Write W.FaultCount self.old).stopped ≡ true →
+            (state W.Write W.FaultCount self.new).stopped ≡ true) }
         ensures broken { parts.buffer.stopped ≡ true → result ≡ Err Error.InvalidValue }
     {
         let Parts {
@@ -245,10 +270,17 @@ impl<W: Sink> Serializer<W> {
     /// Writes a compound of so many parts with this body, on a serializer that the compound holds. It answers again
     /// where that succeeds. A body of more than 4,294,967,291 bytes is `Io(Other)`.
     pub(crate) fn finish(&mut self, shape: Shape, count: usize, body: &[u8]) -> Result<(), Refusal>
-        ensures law { count ≤ length body.now → Pays (answering (state W.Write W.FaultCount self.old)) (whole_text shape (state W.Write W.FaultCount self.old).mark count body.now)
-            (found_after (state W.Write W.FaultCount self.old).mark (Some (under (shape_code shape))) (state W.Write W.FaultCount self.old).found) [] (unwritten (length body.now)) (as_error result) (state W.Write W.FaultCount self.new) }
-        ensures kept { Kept (state W.Write W.FaultCount self.old) (state W.Write W.FaultCount self.new) }
-        ensures device { IfErr (as_error result) (λ e. IsDevice e → W.faults self.old.writer < W.faults self.new.writer) }
+        ensures law { count ≤ length body.now →
+            Pays (answering (state W.Write W.FaultCount self.old))
+            (whole_text shape (state W.Write W.FaultCount self.old).mark count body.now)
+            (found_after (state W.Write W.FaultCount self.old).mark
+            (Some (under (shape_code shape))) (state W.Write W.FaultCount self.old).found) []
+            (unwritten (length body.now)) (as_error result)
+            (state W.Write W.FaultCount self.new) }
+        ensures kept { Kept (state W.Write W.FaultCount self.old)
+            (state W.Write W.FaultCount self.new) }
+        ensures device { IfErr (as_error result) (λ e.
+            IsDevice e → W.faults self.old.writer < W.faults self.new.writer) }
         ensures err { OnErr result (self.new.stopped ≡ true) }
     {
         self.stopped = false;
@@ -275,10 +307,16 @@ impl<W: Sink> Serializer<W> {
         requires answers { self.old.stopped ≡ false }
         requires marked { mark_of self.old.mark ≡ unmarked }
         requires short { length body.now ≤ 4294967291 }
-        ensures law { count ≤ length body.now → Pays (state W.Write W.FaultCount self.old) (whole_text shape (state W.Write W.FaultCount self.old).mark count body.now)
-            (found_after (state W.Write W.FaultCount self.old).mark (Some (under (shape_code shape))) (state W.Write W.FaultCount self.old).found) [] (unwritten (length body.now)) (as_error result) (state W.Write W.FaultCount self.new) }
-        ensures kept { Kept (state W.Write W.FaultCount self.old) (state W.Write W.FaultCount self.new) }
-        ensures device { IfErr (as_error result) (λ e. IsDevice e → W.faults self.old.writer < W.faults self.new.writer) }
+        ensures law { count ≤ length body.now → Pays (state W.Write W.FaultCount self.old)
+            (whole_text shape (state W.Write W.FaultCount self.old).mark count body.now)
+            (found_after (state W.Write W.FaultCount self.old).mark
+            (Some (under (shape_code shape))) (state W.Write W.FaultCount self.old).found) []
+            (unwritten (length body.now)) (as_error result)
+            (state W.Write W.FaultCount self.new) }
+        ensures kept { Kept (state W.Write W.FaultCount self.old)
+            (state W.Write W.FaultCount self.new) }
+        ensures device { IfErr (as_error result) (λ e.
+            IsDevice e → W.faults self.old.writer < W.faults self.new.writer) }
         ensures err { OnErr result (self.new.stopped ≡ true) }
     {
         let len = body.len();

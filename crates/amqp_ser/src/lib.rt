@@ -8,6 +8,7 @@ mod floats;
 mod map;
 mod numbers;
 mod payloads;
+mod rows;
 mod scalars;
 mod seq;
 mod serialize;
@@ -19,6 +20,7 @@ mod tuple_structs;
 
 pub use compound::Parts;
 pub use map::MapSerializer;
+pub use rows::{Struct, StructFields, Written};
 pub use seq::SeqSerializer;
 pub use serialize::Serialize;
 pub use serializer::Serializer;

@@ -170,7 +170,8 @@ impl<W: Sink> Serializer<W> {
     /// Appends all of `bytes`, or stops.
     #[inline(always)]
     pub(crate) fn append(&mut self, bytes: &[u8]) -> Result<(), Refusal>
-        ensures { Appended (state W.Write W.FaultCount self.old) bytes.now (as_error result) (state W.Write W.FaultCount self.new) }
+        ensures { Appended (state W.Write W.FaultCount self.old) bytes.now (as_error result)
+            (state W.Write W.FaultCount self.new) }
     {
         let mut rest = bytes;
         while !rest.is_empty() {
@@ -188,7 +189,8 @@ impl<W: Sink> Serializer<W> {
     /// Appends both, one after the other.
     #[inline(always)]
     pub(crate) fn append_two(&mut self, head: &[u8], body: &[u8]) -> Result<(), Refusal>
-        ensures { Appended (state W.Write W.FaultCount self.old) (head.now ++ body.now) (as_error result) (state W.Write W.FaultCount self.new) }
+        ensures { Appended (state W.Write W.FaultCount self.old) (head.now ++ body.now)
+            (as_error result) (state W.Write W.FaultCount self.new) }
     {
         match self.append(head) {
             Ok(()) => self.append(body),
@@ -207,7 +209,11 @@ impl<W: Sink> Serializer<W> {
     ) -> Result<(), Refusal>
         requires answers { self.old.stopped ≡ false }
         requires marked { mark_of self.old.mark ≢ unmarked }
-        ensures law { Pays (state W.Write W.FaultCount self.old) (placed (state W.Write W.FaultCount self.old).mark (Some (under code)) (Some (head.now ++ body.now))) (found_after (state W.Write W.FaultCount self.old).mark (Some (under code)) (state W.Write W.FaultCount self.old).found) ([]) Error.InvalidValue (as_error result) (state W.Write W.FaultCount self.new) }
+        ensures law { Pays (state W.Write W.FaultCount self.old)
+            (placed (state W.Write W.FaultCount self.old).mark (Some (under code))
+            (Some (head.now ++ body.now))) (found_after (state W.Write W.FaultCount self.old).mark
+            (Some (under code)) (state W.Write W.FaultCount self.old).found) ([]) Error.InvalidValue
+            (as_error result) (state W.Write W.FaultCount self.new) }
     {
         let mark = self.mark;
         match mark {
@@ -236,7 +242,11 @@ impl<W: Sink> Serializer<W> {
     ) -> Result<(), Refusal>
         requires answers { self.old.stopped ≡ false }
         requires marked { mark_of self.old.mark ≡ first }
-        ensures law { Pays (state W.Write W.FaultCount self.old) (placed (state W.Write W.FaultCount self.old).mark (Some (under code)) (Some (head.now ++ body.now))) (found_after (state W.Write W.FaultCount self.old).mark (Some (under code)) (state W.Write W.FaultCount self.old).found) ([]) Error.InvalidValue (as_error result) (state W.Write W.FaultCount self.new) }
+        ensures law { Pays (state W.Write W.FaultCount self.old)
+            (placed (state W.Write W.FaultCount self.old).mark (Some (under code))
+            (Some (head.now ++ body.now))) (found_after (state W.Write W.FaultCount self.old).mark
+            (Some (under code)) (state W.Write W.FaultCount self.old).found) ([]) Error.InvalidValue
+            (as_error result) (state W.Write W.FaultCount self.new) }
     {
         self.found = Some(code);
         match self.append(&[code.byte()]) {
@@ -248,7 +258,11 @@ impl<W: Sink> Serializer<W> {
     /// Behind a first element the others stand under its constructor.
     #[inline(always)]
     pub(crate) fn turn(&mut self)
-        ensures { state W.Write W.FaultCount self.new ≡ record (state W.Write W.FaultCount self.old) { mark = turned (state W.Write W.FaultCount self.old).mark (state W.Write W.FaultCount self.old).found } }
+        ensures { state W.Write W.FaultCount self.new ≡
+            record (state W.Write W.FaultCount self.old) {
+              mark = turned (state W.Write W.FaultCount self.old).mark
+                  (state W.Write W.FaultCount self.old).found;
+            } }
     {
         let mark = self.mark;
         let found = self.found;
@@ -264,20 +278,30 @@ impl<W: Sink> Serializer<W> {
     /// `InvalidValue`: it is to stand in an array, whose elements can't be null.
     #[inline(always)]
     pub fn serialize_none(&mut self, alloc: Global) -> Result<(), Error>
-        ensures ok { OnOk result (Wrote (state W.Write W.FaultCount self.old) (scalar null) (state W.Write W.FaultCount self.new)) }
-        ensures err { IfErr result (λ e. Refused (state W.Write W.FaultCount self.old) (scalar null) e (state W.Write W.FaultCount self.new)) }
-        ensures named { IfErr result (λ e. Named (state W.Write W.FaultCount self.old) 0 e (state W.Write W.FaultCount self.new)) }
-        ensures stops { Stops (state W.Write W.FaultCount self.old) result (state W.Write W.FaultCount self.new) }
-        ensures spares { Spares (state W.Write W.FaultCount self.old) result (state W.Write W.FaultCount self.new) }
+        ensures ok { OnOk result (Wrote (state W.Write W.FaultCount self.old) (scalar null)
+            (state W.Write W.FaultCount self.new)) }
+        ensures err { IfErr result (λ e. Refused (state W.Write W.FaultCount self.old) (scalar null)
+            e (state W.Write W.FaultCount self.new)) }
+        ensures named { IfErr result (λ e.
+            Named (state W.Write W.FaultCount self.old) 0 e (state W.Write W.FaultCount self.new)) }
+        ensures stops { Stops (state W.Write W.FaultCount self.old) result
+            (state W.Write W.FaultCount self.new) }
+        ensures spares { Spares (state W.Write W.FaultCount self.old) result
+            (state W.Write W.FaultCount self.new) }
     {
         self.serialize_unit(alloc)
     }
 
     /// Writes the value itself, as an option that holds it. It is refused as the value's own `serialize`.
     pub fn serialize_some<T: Serialize>(&mut self, alloc: Global, value: &T) -> Result<(), Error>
-        ensures ok { OnOk result (Wrote (state W.Write W.FaultCount self.old) (T.item value.now (state W.Write W.FaultCount self.old).setting) (state W.Write W.FaultCount self.new)) }
-        ensures err { IfErr result (λ e. Refused (state W.Write W.FaultCount self.old) (T.item value.now (state W.Write W.FaultCount self.old).setting) e (state W.Write W.FaultCount self.new)) }
-        ensures stops { Stops (state W.Write W.FaultCount self.old) result (state W.Write W.FaultCount self.new) }
+        ensures ok { OnOk result (Wrote (state W.Write W.FaultCount self.old)
+            (T.meaning.item value.now (state W.Write W.FaultCount self.old).setting)
+            (state W.Write W.FaultCount self.new)) }
+        ensures err { IfErr result (λ e. Refused (state W.Write W.FaultCount self.old)
+            (T.meaning.item value.now (state W.Write W.FaultCount self.old).setting) e
+            (state W.Write W.FaultCount self.new)) }
+        ensures stops { Stops (state W.Write W.FaultCount self.old) result
+            (state W.Write W.FaultCount self.new) }
     {
         if self.stopped {
             return Err(Error::InvalidValue);
@@ -299,9 +323,14 @@ impl<W: Sink> Serializer<W> {
         name: &'static str,
         value: &T,
     ) -> Result<(), Error>
-        ensures ok { OnOk result (Wrote (state W.Write W.FaultCount self.old) (T.item value.now (state W.Write W.FaultCount self.old).setting) (state W.Write W.FaultCount self.new)) }
-        ensures err { IfErr result (λ e. Refused (state W.Write W.FaultCount self.old) (T.item value.now (state W.Write W.FaultCount self.old).setting) e (state W.Write W.FaultCount self.new)) }
-        ensures stops { Stops (state W.Write W.FaultCount self.old) result (state W.Write W.FaultCount self.new) }
+        ensures ok { OnOk result (Wrote (state W.Write W.FaultCount self.old)
+            (T.meaning.item value.now (state W.Write W.FaultCount self.old).setting)
+            (state W.Write W.FaultCount self.new)) }
+        ensures err { IfErr result (λ e. Refused (state W.Write W.FaultCount self.old)
+            (T.meaning.item value.now (state W.Write W.FaultCount self.old).setting) e
+            (state W.Write W.FaultCount self.new)) }
+        ensures stops { Stops (state W.Write W.FaultCount self.old) result
+            (state W.Write W.FaultCount self.new) }
     {
         let _ = name;
         self.serialize_some(alloc, value)

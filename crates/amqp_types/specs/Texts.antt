@@ -1,8 +1,9 @@
 -- A text that is read from a string or a symbol.
-use Rattle.std.specs.Prelude.{◌≡◌, ℕ, ◌||◌, IsTrue, List}
-use Rattle.std.proofs.Common.{sym, ◌∙◌}
+use Rattle.std.specs.Prelude.{◌≡◌, ℕ, ◌||◌, IsTrue, List, true, false}
+use Rattle.std.proofs.Common.{refl, sym, ◌∙◌}
 use Rattle.amqp_base.specs.Codes.{Kind}
 use Rattle.amqp_base.specs.Item.{Item, scalar, list, map, array, described, string, symbol}
+use Rattle.amqp_base.specs.Meaning.{Meaning}
 use Rattle.amqp_base.specs.ReadBack.{of_own_kind, second}
 use Rattle.amqp_base.specs.Typing.{is_of}
 
@@ -25,3 +26,24 @@ one_text (described d v) a b p q = absurd p
 -- a symbol is taken
 pub symbol_taken : (b : List ℕ) → IsTrue (is_of Kind.string (scalar (symbol b)) || is_of Kind.symbol (scalar (symbol b)))
 symbol_taken b = second (is_of Kind.string (scalar (symbol b))) (is_of Kind.symbol (scalar (symbol b))) (of_own_kind (symbol b))
+
+-- a text that is written as a symbol, and read from both
+abbrev pub a_symbol_ref : {T : Type 0} → (T → List ℕ) → Meaning T
+a_symbol_ref content = record {
+  item = λ v _. scalar (symbol (content v));
+  takes = λ i. is_of Kind.string i || is_of Kind.symbol i;
+  means = λ i v. means_text i (content v);
+  same = λ v w. content v ≡ content w;
+  grows = false;
+  in_described_list = λ _. refl;
+  in_described_basic = λ _. refl;
+  one_value = λ i v w. one_text i (content v) (content w);
+  sound = λ _. Unit {0};
+  always_sound = true;
+  is_sound = λ _ _. tt;
+  reads_back = true;
+  taken_back = λ _ v _. symbol_taken (content v);
+  read_back = λ _ _ _. refl;
+  never_null = true;
+  not_null = λ _ _. refl;
+}

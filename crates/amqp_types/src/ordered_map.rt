@@ -1,5 +1,8 @@
 //! Maps that keep the order of their keys.
 
+ghost use Rattle.amqp_base.specs.Meaning.{map_of};
+ghost use Rattle.amqp_base.specs.ReadBack.{both};
+ghost use Rattle.std.specs.Cmp.{IsEquivalence};
 ghost use Rattle.std.specs.Prelude.{◌≡◌, ◌==◌, ◌&&◌, ℕ, List, [], length, option_copied, IfOk, OnOk, IfErr, OnErr, true, refl};
 ghost use Rattle.std.specs.Cmp.{on_per, and_per};
 ghost use Rattle.std.specs.Cmp.Lexicographic.{pointwise, lists_per};
@@ -7,11 +10,6 @@ ghost use Rattle.std.specs.List.{IsDistinct};
 ghost use Rattle.std.specs.Map.{lookup, keys_of};
 ghost use Rattle.indexmap.specs.IndexMap.{insert_entry};
 ghost use Rattle.amqp_base.specs.Laws.{SameEntries};
-ghost use Rattle.amqp_base.specs.Maps.{pair_items, is_map_of, means_map, SameRows, SoundEntries, one_map};
-ghost use Rattle.amqp_base.specs.MapsReadBack.{map_taken_back, map_read_back, map_not_null};
-ghost use Rattle.amqp_base.specs.Shapes.{whole};
-ghost use Rattle.amqp_base.specs.declared.shape.Setting.TheVariants.{Plain};
-ghost use Rattle.amqp_base.specs.declared.shape.Shape.{Shape};
 ghost use Rattle.amqp_types.specs.OrderedMaps.{SameAreEqual, distinct_again};
 
 use amqp_base::{NeverNull, RoundTrip, Typed};
@@ -103,7 +101,8 @@ impl<K: Eq + Hash, V> OrderedMap<K, V> {
     where
         K: Typed,
         V: Typed,
-        ensures { SameAreEqual K.same K.eq → SameEntries K.same V.same (insert_entry K.eq) }
+        ensures { SameAreEqual K.meaning.same K.eq → SameEntries K.meaning.same V.meaning.same
+            (insert_entry K.eq) }
     {}
 }
 
@@ -119,31 +118,13 @@ impl<K: Eq + Hash, V: PartialEq> PartialEq for OrderedMap<K, V> {
 }
 
 impl<K: Typed + Eq + Hash, V: Typed> Typed for OrderedMap<K, V> {
-    ghost item = { λ v _. whole Shape.Map (pair_items (λ k. K.item k Plain) (λ x. V.item x Plain) v) };
-
-    ghost takes = { is_map_of K.takes V.takes };
-
-    ghost means = { λ i v. means_map K.means V.means (insert_entry K.eq) i v };
-
-    ghost same = { λ v w. SameRows K.same V.same (insert_entry K.eq) v w };
-
-    ghost grows = { true };
-
-    ghost in_described_list = { λ _. refl };
-
-    ghost in_described_basic = { λ _. refl };
-
-    ghost one_value = { λ i v w. one_map K.means V.means (insert_entry K.eq) K.one_value V.one_value i v w };
+    ghost meaning = { map_of K.meaning V.meaning (insert_entry K.eq) (λ keys. IsEquivalence K.eq × IsDistinct K.eq keys) (λ es h. distinct_again K.eq h.0.symm es h.1) (λ v. v) };
 }
 
 impl<K: RoundTrip + Eq + Hash, V: RoundTrip> RoundTrip for OrderedMap<K, V> {
-    ghost sound = { λ v. SoundEntries (IsDistinct K.eq) K.sound V.sound v };
-
-    ghost taken_back = { λ v. map_taken_back (λ k. K.item k Plain) (λ x. V.item x Plain) K.takes V.takes K.taken_back V.taken_back (IsDistinct K.eq) v };
-
-    ghost read_back = { λ v. map_read_back (λ k. K.item k Plain) (λ x. V.item x Plain) K.means V.means K.read_back V.read_back (insert_entry K.eq) (IsDistinct K.eq) (distinct_again K.eq K.PartialEq.laws.symm) v };
+    ghost reads_back = { both K.meaning.reads_back V.meaning.reads_back K.reads_back V.reads_back };
 }
 
 impl<K: Typed + Eq + Hash, V: Typed> NeverNull for OrderedMap<K, V> {
-    ghost never_null = { λ v. map_not_null (pair_items (λ k. K.item k Plain) (λ x. V.item x Plain) v) };
+    ghost never_null = { refl };
 }

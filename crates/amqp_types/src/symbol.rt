@@ -1,13 +1,10 @@
 //! Symbols: names from a constrained domain.
 
+ghost use Rattle.amqp_base.specs.Meaning.{scalar_of};
+ghost use Rattle.amqp_base.specs.Sorts.{as_symbol};
+ghost use Rattle.amqp_types.specs.Texts.{a_symbol_ref};
 ghost use Rattle.std.specs.Prelude.{◌≡◌, ◌||◌, true, false, refl, IfOk, IfErr, string_bytes};
 ghost use Rattle.amqp_base.specs.declared.error.Error.TheVariants.{OutOfMemory};
-ghost use Rattle.amqp_base.specs.Codes.{Kind};
-ghost use Rattle.amqp_base.specs.Item.{scalar, symbol};
-ghost use Rattle.amqp_base.specs.OneValue.{one_of, bytes_in};
-ghost use Rattle.amqp_base.specs.ReadBack.{of_own_kind};
-ghost use Rattle.amqp_base.specs.Typing.{is_of};
-ghost use Rattle.amqp_types.specs.Texts.{means_text, one_text, symbol_taken};
 
 use amqp_base::{Error, NeverNull, RoundTrip, Typed};
 use std::alloc::Global;
@@ -94,7 +91,8 @@ impl DerefMut for Symbol {
 
     #[inline]
     fn deref_mut(&mut self) -> &mut String
-        ensures* writes_back { sem 𝓛 (Lends the_row text_row self.entry result (λ text. record { 0 = text })) }
+        ensures* writes_back { sem 𝓛 (Lends the_row text_row self.entry result (λ text.
+            record { 0 = text })) }
         ensures shows { result.now ≡ self.old.0 }
     {
         &mut self.0
@@ -102,31 +100,15 @@ impl DerefMut for Symbol {
 }
 
 impl Typed for Symbol {
-    ghost item = { λ v _. scalar (symbol (string_bytes v.0)) };
-
-    ghost takes = { is_of Kind.symbol };
-
-    ghost means = { λ i v. i ≡ scalar (symbol (string_bytes v.0)) };
-
-    ghost same = { λ v w. string_bytes v.0 ≡ string_bytes w.0 };
-
-    ghost grows = { true };
-
-    ghost in_described_list = { λ _. refl };
-
-    ghost in_described_basic = { λ _. refl };
-
-    ghost one_value = { λ i v w. one_of symbol bytes_in (λ _. refl) i (string_bytes v.0) (string_bytes w.0) };
+    ghost meaning = { scalar_of as_symbol true (λ v. string_bytes v.0) };
 }
 
 impl RoundTrip for Symbol {
-    ghost taken_back = { λ v _. of_own_kind (symbol (string_bytes v.0)) };
-
-    ghost read_back = { λ _ _. refl };
+    ghost reads_back = { refl };
 }
 
 impl NeverNull for Symbol {
-    ghost never_null = { λ _. refl };
+    ghost never_null = { refl };
 }
 
 /// A symbolic value whose text stands elsewhere (part 1, section 1.6.21). It is written as a symbol, and takes a string too.
@@ -164,29 +146,13 @@ impl<'a> Deref for SymbolRef<'a> {
 }
 
 impl Typed for SymbolRef<'_> {
-    ghost item = { λ v _. scalar (symbol v.0.now) };
-
-    ghost takes = { λ i. is_of Kind.string i || is_of Kind.symbol i };
-
-    ghost means = { λ i v. means_text i v.0.now };
-
-    ghost same = { λ v w. v.0.now ≡ w.0.now };
-
-    ghost grows = { false };
-
-    ghost in_described_list = { λ _. refl };
-
-    ghost in_described_basic = { λ _. refl };
-
-    ghost one_value = { λ i v w. one_text i v.0.now w.0.now };
+    ghost meaning = { a_symbol_ref (λ v. v.0.now) };
 }
 
 impl RoundTrip for SymbolRef<'_> {
-    ghost taken_back = { λ v _. symbol_taken v.0.now };
-
-    ghost read_back = { λ _ _. refl };
+    ghost reads_back = { refl };
 }
 
 impl NeverNull for SymbolRef<'_> {
-    ghost never_null = { λ _. refl };
+    ghost never_null = { refl };
 }

@@ -1,9 +1,12 @@
 //! A tuple struct.
 
-use amqp_base::{Error, Sink, Typed};
-use amqp_de::{Deserialize, Deserializer};
-use amqp_read::Read;
-use amqp_ser::{Serialize, Serializer};
+ghost use Rattle.std.specs.Prelude.{◌∷◌, [], refl};
+ghost use Rattle.amqp_base.specs.Meaning.{tuple_struct_of, row_of, part};
+
+use serde_amqp::{
+    Deserialize, Deserializer, Error, NeverNull, Read, RoundTrip, Serialize, Serializer, Sink,
+    Typed,
+};
 use std::alloc::Global;
 
 /// Red, green and blue, as a list of the three.
@@ -11,26 +14,18 @@ use std::alloc::Global;
 pub struct Colour(pub u8, pub u8, pub u8);
 
 impl Typed for Colour {
-    ghost use Rattle.std.specs.Prelude.{◌∷◌, [], refl};
-    ghost use Rattle.amqp_base.specs.Shapes.{whole};
-    ghost use Rattle.amqp_base.specs.declared.shape.Shape.{Shape};
-    ghost use Rattle.amqp_base.specs.declared.shape.Setting.TheVariants.{Plain};
+    ghost meaning = { tuple_struct_of (row_of (
+        part ⟦<u8 as Typed>⟧.meaning (λ v. v.0) ∷
+        part ⟦<u8 as Typed>⟧.meaning (λ v. v.1) ∷
+        part ⟦<u8 as Typed>⟧.meaning (λ v. v.2) ∷ [])) };
+}
 
-    ghost item = { λ v _. whole Shape.List (⟦<u8 as Typed>⟧.item v.0 Plain ∷ ⟦<u8 as Typed>⟧.item v.1 Plain ∷ ⟦<u8 as Typed>⟧.item v.2 Plain ∷ []) };
+impl RoundTrip for Colour {
+    ghost reads_back = { refl };
+}
 
-    ghost takes = { ⟦<(u8, u8, u8) as Typed>⟧.takes };
-
-    ghost means = { λ i v. ⟦<(u8, u8, u8) as Typed>⟧.means i (v.0, v.1, v.2) };
-
-    ghost same = { λ v w. ⟦<(u8, u8, u8) as Typed>⟧.same (v.0, v.1, v.2) (w.0, w.1, w.2) };
-
-    ghost grows = { ⟦<(u8, u8, u8) as Typed>⟧.grows };
-
-    ghost in_described_list = { λ _. refl };
-
-    ghost in_described_basic = { λ _. refl };
-
-    ghost one_value = { λ i v w. ⟦<(u8, u8, u8) as Typed>⟧.one_value i (v.0, v.1, v.2) (w.0, w.1, w.2) };
+impl NeverNull for Colour {
+    ghost never_null = { refl };
 }
 
 impl Serialize for Colour {

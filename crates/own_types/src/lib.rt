@@ -2,15 +2,26 @@
 #![tactic(auto)]
 
 mod colour;
+mod delivery;
 mod foo;
+pub mod kept;
 mod measurement;
 mod newtypes;
 mod note;
 mod pair;
+mod priority;
+mod reply;
+mod sensor;
+mod station;
 
 pub use colour::Colour;
+pub use delivery::Delivery;
 pub use foo::Foo;
 pub use measurement::Measurement;
 pub use newtypes::{Celsius, Tags};
 pub use note::Note;
 pub use pair::Pair;
+pub use priority::Priority;
+pub use reply::Reply;
+pub use sensor::Sensor;
+pub use station::Station;

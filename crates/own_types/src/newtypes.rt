@@ -1,9 +1,12 @@
 //! Newtypes, each written as what it holds.
 
-use amqp_base::{Error, NeverNull, RoundTrip, Sink, Typed};
-use amqp_de::{Deserialize, Deserializer};
-use amqp_read::Read;
-use amqp_ser::{Serialize, Serializer};
+ghost use Rattle.std.specs.Prelude.{refl};
+ghost use Rattle.amqp_base.specs.Meaning.{newtype_of};
+
+use serde_amqp::{
+    Deserialize, Deserializer, Error, NeverNull, Read, RoundTrip, Serialize, Serializer, Sink,
+    Typed,
+};
 use std::alloc::Global;
 
 /// Labels, as a list of strings.
@@ -11,21 +14,15 @@ use std::alloc::Global;
 pub struct Tags(pub Vec<String>);
 
 impl Typed for Tags {
-    ghost item = { λ v setting. ⟦<Vec<String> as Typed>⟧.item v.0 setting };
+    ghost meaning = { newtype_of ⟦<Vec<String> as Typed>⟧.meaning (λ v. v.0) };
+}
 
-    ghost takes = { ⟦<Vec<String> as Typed>⟧.takes };
+impl RoundTrip for Tags {
+    ghost reads_back = { refl };
+}
 
-    ghost means = { λ i v. ⟦<Vec<String> as Typed>⟧.means i v.0 };
-
-    ghost same = { λ v w. ⟦<Vec<String> as Typed>⟧.same v.0 w.0 };
-
-    ghost grows = { ⟦<Vec<String> as Typed>⟧.grows };
-
-    ghost in_described_list = { λ v. ⟦<Vec<String> as Typed>⟧.in_described_list v.0 };
-
-    ghost in_described_basic = { λ v. ⟦<Vec<String> as Typed>⟧.in_described_basic v.0 };
-
-    ghost one_value = { λ i v w. ⟦<Vec<String> as Typed>⟧.one_value i v.0 w.0 };
+impl NeverNull for Tags {
+    ghost never_null = { refl };
 }
 
 impl Serialize for Tags {
@@ -45,37 +42,15 @@ impl<R: Read> Deserialize<R> for Tags {
 pub struct Celsius(pub i32);
 
 impl Typed for Celsius {
-    ghost item = { λ v setting. ⟦<i32 as Typed>⟧.item v.0 setting };
-
-    ghost takes = { ⟦<i32 as Typed>⟧.takes };
-
-    ghost means = { λ i v. ⟦<i32 as Typed>⟧.means i v.0 };
-
-    ghost same = { λ v w. ⟦<i32 as Typed>⟧.same v.0 w.0 };
-
-    ghost grows = { ⟦<i32 as Typed>⟧.grows };
-
-    ghost in_described_list = { λ v. ⟦<i32 as Typed>⟧.in_described_list v.0 };
-
-    ghost in_described_basic = { λ v. ⟦<i32 as Typed>⟧.in_described_basic v.0 };
-
-    ghost one_value = { λ i v w. ⟦<i32 as Typed>⟧.one_value i v.0 w.0 };
+    ghost meaning = { newtype_of ⟦<i32 as Typed>⟧.meaning (λ v. v.0) };
 }
 
 impl RoundTrip for Celsius {
-    ghost use Rattle.std.specs.Prelude.{refl};
-    ghost use Rattle.amqp_base.specs.Item.{int};
-    ghost use Rattle.amqp_base.specs.ReadBack.{of_own_kind};
-
-    ghost taken_back = { λ v _. of_own_kind (int v.0) };
-
-    ghost read_back = { λ _ _. refl };
+    ghost reads_back = { refl };
 }
 
 impl NeverNull for Celsius {
-    ghost use Rattle.std.specs.Prelude.{refl};
-
-    ghost never_null = { λ _. refl };
+    ghost never_null = { refl };
 }
 
 impl Serialize for Celsius {

@@ -1,9 +1,12 @@
-//! A struct with an optional field.
+//! A struct with an optional field, written field by field.
 
-use amqp_base::{Error, Sink, Typed};
-use amqp_de::{Deserialize, Deserializer, Field};
-use amqp_read::Read;
-use amqp_ser::{Serialize, Serializer};
+ghost use Rattle.std.specs.Prelude.{◌∷◌, [], codes, refl};
+ghost use Rattle.amqp_base.specs.Meaning.{struct_of, row_of, at};
+
+use serde_amqp::{
+    Deserialize, Deserializer, Error, NeverNull, Read, RoundTrip, Serialize, Serializer, Sink,
+    Typed, read_fields,
+};
 use std::alloc::Global;
 
 /// A text, and its number where it has one, as a list of the two; under the described map setting as a map from the names
@@ -17,26 +20,17 @@ pub struct Note {
 }
 
 impl Typed for Note {
-    ghost use Rattle.std.specs.Prelude.{◌∷◌, [], true, codes};
-    ghost use Rattle.amqp_base.specs.Structs.{named, struct_item, struct_in_list, struct_in_basic};
-    ghost use Rattle.amqp_base.specs.Fields.{field};
-    ghost use Rattle.amqp_base.specs.NamedFields.{takes_struct, means_struct, one_struct, one_field, last_field};
+    ghost meaning = { struct_of (row_of (
+        at (codes "text") ⟦<String as Typed>⟧.meaning (λ v. v.text) ∷
+        at (codes "number") ⟦<Option<u32> as Typed>⟧.meaning (λ v. v.number) ∷ [])) };
+}
 
-    ghost item = { λ v setting. struct_item setting (named (codes "text") (⟦<String as Typed>⟧.item v.text) ∷ named (codes "number") (⟦<Option<u32> as Typed>⟧.item v.number) ∷ []) };
+impl RoundTrip for Note {
+    ghost reads_back = { refl };
+}
 
-    ghost takes = { takes_struct (codes "text" ∷ codes "number" ∷ []) (⟦<String as Typed>⟧.takes ∷ ⟦<Option<u32> as Typed>⟧.takes ∷ []) };
-
-    ghost means = { λ i v. means_struct (codes "text" ∷ codes "number" ∷ []) (field ⟦<String as Typed>⟧.means v.text ∷ field ⟦<Option<u32> as Typed>⟧.means v.number ∷ []) i };
-
-    ghost same = { λ v w. ⟦<String as Typed>⟧.same v.text w.text × ⟦<Option<u32> as Typed>⟧.same v.number w.number };
-
-    ghost grows = { true };
-
-    ghost in_described_list = { λ _. struct_in_list _ };
-
-    ghost in_described_basic = { λ _. struct_in_basic _ };
-
-    ghost one_value = { λ i v w. one_struct (one_field _ ⟦<String as Typed>⟧.one_value v.text w.text (last_field _ ⟦<Option<u32> as Typed>⟧.one_value v.number w.number)) i };
+impl NeverNull for Note {
+    ghost never_null = { refl };
 }
 
 impl Serialize for Note {
@@ -50,8 +44,6 @@ impl Serialize for Note {
 
 impl<R: Read> Deserialize<R> for Note {
     fn deserialize(alloc: Global, de: &mut Deserializer<R>) -> Result<Note, Error> {
-        let fields = Field::new("text", Field::new("number", ()));
-        let (text, (number, ())) = de.deserialize_fields(alloc, fields)?;
-        Ok(Note { text, number })
+        read_fields!(de, alloc, Note { text, number })
     }
 }

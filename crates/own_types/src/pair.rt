@@ -1,9 +1,13 @@
 //! A generic struct.
 
-use amqp_base::{Error, Sink, Typed};
-use amqp_de::{Deserialize, Deserializer};
-use amqp_read::Read;
-use amqp_ser::{Serialize, Serializer};
+ghost use Rattle.std.specs.Prelude.{◌∷◌, [], refl};
+ghost use Rattle.amqp_base.specs.Meaning.{tuple_of, row_of, part};
+ghost use Rattle.amqp_base.specs.ReadBack.{both};
+
+use serde_amqp::{
+    Deserialize, Deserializer, Error, NeverNull, Read, RoundTrip, Serialize, Serializer, Sink,
+    Typed, read_parts,
+};
 use std::alloc::Global;
 
 /// Two values, as a list of the two.
@@ -16,48 +20,30 @@ pub struct Pair<A, B> {
 }
 
 impl<A: Typed, B: Typed> Typed for Pair<A, B> {
-    ghost use Rattle.std.specs.Prelude.{◌∷◌, [], true, refl};
-    ghost use Rattle.amqp_base.specs.Shapes.{whole};
-    ghost use Rattle.amqp_base.specs.Fields.{takes_fields, means_fields, field, one_fields, one_more, one_last};
-    ghost use Rattle.amqp_base.specs.declared.shape.Shape.{Shape};
-    ghost use Rattle.amqp_base.specs.declared.shape.Setting.TheVariants.{Plain};
+    ghost meaning = { tuple_of 2 (row_of (
+        part A.meaning (λ v. v.first) ∷
+        part B.meaning (λ v. v.second) ∷ [])) };
+}
 
-    ghost item = { λ v _. whole Shape.List (A.item v.first Plain ∷ B.item v.second Plain ∷ []) };
+impl<A: RoundTrip, B: RoundTrip> RoundTrip for Pair<A, B> {
+    ghost reads_back = { both A.meaning.reads_back _ A.reads_back (both B.meaning.reads_back _ B.reads_back refl) };
+}
 
-    ghost takes = { takes_fields (A.takes ∷ B.takes ∷ []) };
-
-    ghost means = { λ i v. means_fields (field A.means v.first ∷ field B.means v.second ∷ []) i };
-
-    ghost same = { λ v w. A.same v.first w.first × B.same v.second w.second };
-
-    ghost grows = { true };
-
-    ghost in_described_list = { λ _. refl };
-
-    ghost in_described_basic = { λ _. refl };
-
-    ghost one_value = { λ i v w. one_fields _ _ (one_more _ _ A.one_value v.first w.first (one_last B.one_value v.second w.second)) i };
+impl<A: Typed, B: Typed> NeverNull for Pair<A, B> {
+    ghost never_null = { refl };
 }
 
 impl<A: Serialize, B: Serialize> Serialize for Pair<A, B> {
     fn serialize<W: Sink>(&self, alloc: Global, ser: &mut Serializer<W>) -> Result<(), Error> {
-        let mut seq = ser.serialize_seq(alloc, Some(2))?;
-        seq.serialize_element(alloc, &self.first)?;
-        seq.serialize_element(alloc, &self.second)?;
-        seq.end()
+        let mut parts = ser.serialize_tuple(alloc, 2)?;
+        parts.serialize_element(alloc, &self.first)?;
+        parts.serialize_element(alloc, &self.second)?;
+        parts.end()
     }
 }
 
 impl<R: Read, A: Deserialize<R>, B: Deserialize<R>> Deserialize<R> for Pair<A, B> {
     fn deserialize(alloc: Global, de: &mut Deserializer<R>) -> Result<Pair<A, B>, Error> {
-        let mut list = de.deserialize_seq(alloc)?.into_elements();
-        let Some(first) = list.next_element(alloc)? else {
-            return Err(Error::SequenceLengthMismatch);
-        };
-        let Some(second) = list.next_element(alloc)? else {
-            return Err(Error::SequenceLengthMismatch);
-        };
-        list.end()?;
-        Ok(Pair { first, second })
+        read_parts!(de, alloc, Pair { first, second })
     }
 }

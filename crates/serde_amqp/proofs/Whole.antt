@@ -12,7 +12,8 @@ use Rattle.amqp_base.proofs.OneFront.{same_wire}
 use Rattle.amqp_read.specs.Reading.{Reading}
 use Rattle.amqp_de.specs.Decoding.{Decoding, stands_under}
 use Rattle.amqp_de.specs.Law.{Front, Found, Missed, Excused, no_memory, faulted, uncounted}
-use Rattle.serde_amqp.specs.Headline.{ReadFrom, ReadsAll}
+use Rattle.amqp_base.specs.Typing.{OneValue}
+use Rattle.serde_amqp.specs.Headline.{ReadFrom, ReadsAll, Answered, SameAgain}
 
 consumed : (k l : Option (List ℕ)) (s x : List ℕ) → k ≡ Some s → Consumes k l x → (rest : List ℕ) × (s ≡ x ++ rest)
 consumed None l s x e c = absurd cc
@@ -44,7 +45,7 @@ or_false false h = absurd cc
 -- over a slice the only excuse is want of memory
 excused : (grows : Bool) (old new : Reading) (e : Error) → Excused (grows || false) false old new e → (e ≡ OutOfMemory) × IsTrue grows
 excused grows old new e (no_memory p q) = (p, or_false grows q)
-excused grows old new e (faulted p q) = absurd cc
+excused grows old new e (faulted i p q) = absurd cc
 excused grows old new e (uncounted p q o) = absurd cc
 
 pub reads_value : {T : Type 0} (takes : Item → Bool) (means : Item → T → Type 0) (grows : Bool) (s : List ℕ) (v : T) → ReadFrom takes (λ i. means i v) s → ReadsAll takes means grows s (Ok v)
@@ -58,9 +59,14 @@ reads_refused takes means grows s e old new b a h at m = record {
   answer = λ i n f t. excused grows old.reading new.reading e (m.why a i (take n s) (drop n s) (rw b f.spelled) t (at ∙ ap Some (sym (take-append-drop n s))) h);
 }
 
+-- memory is wanted only where the type grows
+pub wants_memory : {T : Type 0} (takes : Item → Bool) (old new : Decoding) (grows : Bool) (r : Result T Error) → IfErr r (λ e. Missed takes (grows || false) false old new e) → IfErr r (λ e. e ≡ OutOfMemory → IsTrue grows)
+wants_memory takes old new grows (Ok v) m = tt
+wants_memory takes old new grows (Err e) m = λ h. or_false grows (m.memory h)
+
 -- a deserializer over these bytes
 abbrev pub fresh : List ℕ → Decoding
-fresh s = record { reading = record { to_come = Some s; taken = 0; received = []; faults = 0; honest = true; origin = [] }; answers = true; inherited = bare; described = false; begun = 0 }
+fresh s = record { reading = record { to_come = Some s; taken = 0; received = []; faults = 0; last_fault = None; honest = true; origin = [] }; answers = true; inherited = bare; described = false; begun = 0 }
 
 pub found_from : {T : Type 0} (takes : Item → Bool) (means : Item → T → Type 0) (s : List ℕ) (old new : Decoding) (r : Result T Error) → old ≡ fresh s → IfOk r (λ v. Found takes (λ i. means i v) old new) → IfOk r (λ v. ReadFrom takes (λ i. means i v) s)
 found_from takes means s old new (Ok v) e f =
@@ -74,3 +80,8 @@ all_read takes means grows s old new (Ok v) e f m = reads_value takes means grow
 all_read takes means grows s old new (Err x) e f m =
     let n : Missed takes (grows || false) false (fresh s) new x = rw e at m in
     reads_refused takes means grows s x (fresh s) new refl refl refl refl n
+
+-- an item is read as one value
+pub same_again : {T : Type 0} (means : Item → T → Type 0) (same : T → T → Type 0) (grows : Bool) → OneValue means same → (i : Item) (v : T) (r : Result T Error) → means i v → Answered means grows i r → SameAgain same grows v r
+same_again means same grows one i v (Ok w) m a = one i v w m a
+same_again means same grows one i v (Err e) m a = a

@@ -2,14 +2,16 @@
 //! allows is read.
 #![tactic(auto)]
 
-ghost use Rattle.std.specs.Prelude.{◌≡◌, ◌⊎◌, None, Some, IfOk, IfErr};
+ghost use Rattle.std.specs.Prelude.{◌≡◌, ◌⊎◌, None, Some, IfOk, IfErr, IsTrue};
 ghost use Rattle.amqp_base.specs.Canon.{canon};
+ghost use Rattle.amqp_base.specs.declared.error.Error.TheVariants.{OutOfMemory};
 ghost use Rattle.serde_amqp.specs.Headline.{ReadFrom, ReadsAll};
 ghost use Rattle.amqp_base.specs.declared.shape.Setting.{Setting};
 
 pub mod de;
 pub mod error;
 pub mod format_code;
+pub mod laws;
 pub mod primitives;
 pub mod read;
 pub mod ser;
@@ -19,15 +21,16 @@ pub use amqp_base::{
     DESCRIBED_LIST, DESCRIBED_MAP, DESCRIPTOR, EncodingCodes, EnumType, Error, FaultCount,
     IsArrayElement, IsDescribed, MAX_ARRAY_COUNT, NeverNull, OFFSET_ARRAY8, OFFSET_ARRAY32,
     OFFSET_LIST8, OFFSET_LIST32, OFFSET_MAP8, OFFSET_MAP32, RoundTrip, Sink, Source,
-    StructEncoding, Typed, UNTAGGED_ENUM, UUID_WIDTH, VALUE, laws,
+    StructEncoding, Typed, UNTAGGED_ENUM, UUID_WIDTH, VALUE,
 };
 pub use amqp_de::{
-    Deserialize, Deserializer, Ended, Field, Fields, ListAccess, MapAccess, SeqAccess, StructAccess,
+    Chosen, Deserialize, Deserializer, Ended, Field, Fields, ListAccess, MapAccess, SeqAccess,
+    StructAccess, read_fields, read_parts,
 };
 pub use amqp_read::{Read, SliceReader, read_const_bytes};
 pub use amqp_ser::{
-    MapSerializer, SeqSerializer, Serialize, Serializer, StructSerializer, TupleSerializer,
-    TupleStructSerializer,
+    MapSerializer, SeqSerializer, Serialize, Serializer, Struct, StructFields, StructSerializer,
+    TupleSerializer, TupleStructSerializer, Written, write_fields,
 };
 pub use amqp_types::{
     Binary, BinaryRef, Boolean, Byte, Char, Dec32, Dec64, Dec128, Decimal, Double, Float, Int,
@@ -38,8 +41,9 @@ use std::alloc::Global;
 /// The canonical text of a value. Refused where its item has none (`InvalidValue`; `Io(Other)` where a payload or a body is
 /// above 4,294,967,291 bytes), and as `OutOfMemory`.
 pub fn to_vec<T: Serialize>(alloc: Global, value: &T) -> Result<Vec<u8>, Error>
-    ensures ok { IfOk result (λ v. canon (T.item value.now Setting.Plain) ≡ Some v.items) }
-    ensures err { IfErr result (λ e. (e ≡ Error.OutOfMemory) ⊎ (canon (T.item value.now Setting.Plain) ≡ None)) }
+    ensures ok { IfOk result (λ v. canon (T.meaning.item value.now Setting.Plain) ≡ Some v.items) }
+    ensures err { IfErr result (λ e.
+        (e ≡ Error.OutOfMemory) ⊎ (canon (T.meaning.item value.now Setting.Plain) ≡ None)) }
 {
     let mut ser = Serializer::new(Vec::new(alloc));
     value.serialize(alloc, &mut ser)?;
@@ -52,8 +56,10 @@ pub fn from_slice<'s, T: Deserialize<SliceReader<'s>>>(
     alloc: Global,
     slice: &'s [u8],
 ) -> Result<T, Error>
-    ensures found { IfOk result (λ v. ReadFrom T.takes (λ i. T.means i v) slice.now) }
-    ensures only { ReadsAll T.takes T.means T.grows slice.now result }
+    ensures found { IfOk result (λ v. ReadFrom T.meaning.takes (λ i.
+        T.meaning.means i v) slice.now) }
+    ensures only { ReadsAll T.meaning.takes T.meaning.means T.meaning.grows slice.now result }
+    ensures memory { IfErr result (λ e. e ≡ OutOfMemory → IsTrue T.meaning.grows) }
 {
     let mut de = Deserializer::new(SliceReader::new(slice));
     T::deserialize(alloc, &mut de)

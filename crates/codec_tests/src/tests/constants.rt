@@ -1,7 +1,7 @@
 //! Names, caps and widths.
 
 use amqp_base::{
-    Count, Counted, DECIMAL32_WIDTH, DECIMAL64_WIDTH, DECIMAL128_WIDTH, DESCRIBED_BASIC,
+    Count, DECIMAL32_WIDTH, DECIMAL64_WIDTH, DECIMAL128_WIDTH, DESCRIBED_BASIC,
     DESCRIBED_LIST, DESCRIBED_MAP, DESCRIPTOR, EnumType, IsArrayElement, MAX_ARRAY_COUNT,
     OFFSET_ARRAY8, OFFSET_ARRAY32, OFFSET_LIST8, OFFSET_LIST32, OFFSET_MAP8, OFFSET_MAP32, Setting,
     Shape, StructEncoding, UNTAGGED_ENUM, UUID_WIDTH, VALUE,
@@ -44,7 +44,6 @@ fn settings_shapes_encodings_and_counts(rt: HostRuntime) {
     assert!(rt; elements.len() == 3);
     // a count takes no bytes
     assert!(rt; size_of::<Count>() == 0);
-    assert!(rt; size_of::<Counted<u64>>() == size_of::<u64>());
     let mut count = Count::new();
     count.tick();
     let Count {} = count;

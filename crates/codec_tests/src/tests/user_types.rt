@@ -1,8 +1,11 @@
 //! Types of one's own, by the public contracts alone.
 
-use super::answer::Answer;
+use super::answer::{Answer, UNEXPECTED_EOF};
 use super::bytes::{is_written_as, refuses};
-use own_types::{Celsius, Colour, Foo, Measurement, Note, Pair, Tags};
+use own_types::{
+    Celsius, Colour, Delivery, Foo, Measurement, Note, Pair, Priority, Reply, Sensor, Station,
+    Tags, kept,
+};
 use serde_amqp::{Serialize, Serializer, from_slice};
 use std::alloc::Global;
 
@@ -121,6 +124,94 @@ fn a_struct_is_written_and_read_as_a_list_or_a_map(rt: HostRuntime) {
     assert!(rt; is_foo(alloc, wide));
     let named = b"\xc1\x10\x04\xa1\x06number\x40\xa1\x04text\xa1\x01a";
     assert!(rt; is_note(alloc, named));
+}
+
+/// A sensor of two readings and a unit, and one without.
+const SENSOR: &[u8] = b"\xc0\x0d\x03\x52\x07\xc0\x05\x02\x54\x01\x54\xff\xa3\x01C";
+
+const EMPTY_SENSOR: &[u8] = b"\xc0\x04\x03\x43\x45\x40";
+
+/// The first of them, the number of a question before it.
+const REPLY: &[u8] =
+    b"\xc0\x12\x02\x53\x05\xc0\x0d\x03\x52\x07\xc0\x05\x02\x54\x01\x54\xff\xa3\x01C";
+
+const NO_SENSOR: &[u8] = b"\xc0\x04\x02\x53\x05\x40";
+
+/// No heights, one name, no region, a count, a visit, a sensor, and a list of one.
+const STATION: &[u8] =
+    b"\xc0\x30\x07\x45\xc0\x04\x01\xa1\x01a\x40\xc1\x06\x02\xa1\x01x\x52\x01\xc1\x05\x02\x52\x01\x53\x02\xc0\x0d\x03\x52\x07\xc0\x05\x02\x54\x01\x54\xff\xa3\x01C\xc0\x07\x01\xc0\x04\x03\x43\x45\x40";
+
+const DELIVERY: &[u8] =
+    b"\xc0\x1c\x0c\x52\x01\xa0\x01\xab\x43\x40\x41\x42\x83\0\0\0\0\0\0\0\x01\x40\xa1\x01u\xa3\x01t\x40\x45";
+
+/// The bytes are read as a sensor with this number and as many readings, and written again.
+fn is_sensor(alloc: Global, bytes: &[u8], id: u32, readings: usize) -> bool {
+    match kept::sensor_is_kept(alloc, bytes) {
+        Ok(found) => {
+            let same = found.id == id && found.readings.len() == readings;
+            same && is_written_as(alloc, &found, bytes)
+        }
+        Err(_) => false,
+    }
+}
+
+/// The bytes are read as a reply with a sensor or without, and written again.
+fn is_reply(alloc: Global, bytes: &[u8], has_sensor: bool) -> bool {
+    match kept::reply_is_kept(alloc, bytes) {
+        Ok(found) => {
+            let same = found.question == 5 && found.found.is_some() == has_sensor;
+            same && is_written_as(alloc, &found, bytes)
+        }
+        Err(_) => false,
+    }
+}
+
+/// The station and the delivery are read with all their fields, and written again.
+fn long_ones_are_kept(alloc: Global) -> bool {
+    let station = match kept::station_is_kept(alloc, STATION) {
+        Ok(found) => {
+            let same = found.names.len() == 1 && found.sensors.len() == 1;
+            same && found.counts.len() == 1 && is_written_as(alloc, &found, STATION)
+        }
+        Err(_) => false,
+    };
+    let delivery = match kept::delivery_is_kept(alloc, DELIVERY) {
+        Ok(found) => {
+            let same = found.delivery_number == 1 && found.is_settled && !found.more_follows;
+            same && is_written_as(alloc, &found, DELIVERY)
+        }
+        Err(_) => false,
+    };
+    station && delivery
+}
+
+/// The bytes are read as the highest priority, and written again.
+fn is_high(alloc: Global, bytes: &[u8]) -> bool {
+    match kept::priority_is_kept(alloc, bytes) {
+        Ok(found) => matches!(&found, Priority::High) && is_written_as(alloc, &found, bytes),
+        Err(_) => false,
+    }
+}
+
+#[test]
+fn an_enumeration_over_ubyte_has_its_own_numbers_alone(rt: HostRuntime) {
+    let alloc = rt.alloc();
+    assert!(rt; is_high(alloc, b"\x50\x02"));
+    assert!(rt; is_written_as(alloc, &Priority::Low, b"\x50\x00"));
+    assert!(rt; is_written_as(alloc, &Priority::Normal, b"\x50\x01"));
+    assert!(rt; refuses::<Priority>(alloc, b"\x50\x03", Answer::InvalidValue));
+    assert!(rt; refuses::<Priority>(alloc, b"\x52\x02", CODE));
+    assert!(rt; refuses::<Priority>(alloc, b"\x50", UNEXPECTED_EOF));
+}
+
+#[test]
+fn structs_of_many_fields_are_read_and_written(rt: HostRuntime) {
+    let alloc = rt.alloc();
+    assert!(rt; is_sensor(alloc, SENSOR, 7, 2));
+    assert!(rt; is_sensor(alloc, EMPTY_SENSOR, 0, 0));
+    assert!(rt; is_reply(alloc, REPLY, true));
+    assert!(rt; is_reply(alloc, NO_SENSOR, false));
+    assert!(rt; long_ones_are_kept(alloc));
 }
 
 const LENGTH: Answer = Answer::SequenceLengthMismatch;

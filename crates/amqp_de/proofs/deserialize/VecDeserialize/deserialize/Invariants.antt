@@ -1,4 +1,4 @@
-use Rattle.std.proofs.Common.{◌≡◌, false}
+use Rattle.std.proofs.Common.{◌≡◌}
 use Rattle.amqp_de.specs.Seq.{listing}
 use Rattle.amqp_de.proofs.Sequence.{Sofar}
 use Rattle.amqp_de.proofs.deserialize.VecDeserialize.deserialize.Given as goal
@@ -6,9 +6,8 @@ use Rattle.amqp_de.proofs.deserialize.VecDeserialize.deserialize.Given as goal
 abbrev pub invariant-items : goal.invariant-items
 invariant-items g l = record {
   same : l.access.de.ghost_name ≡ l.initial.access.de.ghost_name;
-  closed : l.access.de.now.answers ≡ false;
-  sofar : Sofar g.T.Typed.takes g.T.Typed.means (listing l.initial.access) (listing l.access) l.items.items;
+  sofar : Sofar g.T.Typed.meaning.takes g.T.Typed.meaning.means (listing l.initial.access) (listing l.access) l.items.items;
 }
 
 abbrev pub decreases-items : goal.decreases-items
-decreases-items g l = l.access.left
+decreases-items g l = l.access.inner.left

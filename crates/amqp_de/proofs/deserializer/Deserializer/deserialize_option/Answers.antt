@@ -3,17 +3,17 @@ use Rattle.amqp_de.proofs.Nulls.{some_found, none_missed, some_missed, unseen_mi
 use Rattle.amqp_de.proofs.deserializer.Deserializer.deserialize_option.Goals as goal
 
 pub returns-in-Err-deserialize_unit-clause-err : goal.returns-in-Err-deserialize_unit-clause-err
-returns-in-Err-deserialize_unit-clause-err g c = none_missed g.T.Typed.takes g.T.Typed.grows g.R.Read.buffers _ _ _ c.in-Ok.code _ c.in-Null.is c.in-Ok.ensures.ok c.in-Err-deserialize_unit.ensures.err
+returns-in-Err-deserialize_unit-clause-err g c = none_missed g.T.Typed.meaning.takes g.T.Typed.meaning.grows g.R.Read.buffers _ _ _ c.in-Ok.code _ c.in-Null.is c.in-Ok.ensures.ok c.in-Err-deserialize_unit.ensures.err
 
 pub returns-in-Ok-deserialize_newtype_struct : goal.returns-in-Ok-deserialize_newtype_struct
 returns-in-Ok-deserialize_newtype_struct g c =
-    let f = some_found g.T.Typed.takes g.T.Typed.means c.in-Ok-deserialize_newtype_struct.value _ _ _ c.in-Ok.code c.in_default.not-Null c.in-Ok.ensures.ok c.in-Ok-deserialize_newtype_struct.ensures.ok in
+    let f = some_found g.T.Typed.meaning.takes g.T.Typed.meaning.means c.in-Ok-deserialize_newtype_struct.value _ _ _ c.in-Ok.code c.in_default.not-Null c.in-Ok.ensures.ok c.in-Ok-deserialize_newtype_struct.ensures.ok in
     record { ok = f; err = tt; stops = search rules }
 
 pub returns-in-Err-deserialize_newtype_struct : goal.returns-in-Err-deserialize_newtype_struct
 returns-in-Err-deserialize_newtype_struct g c =
-    let m = some_missed g.T.Typed.takes (g.T.Typed.grows || g.R.Read.buffers) g.R.Read.buffers _ _ _ c.in-Ok.code _ c.in_default.not-Null c.in-Ok.ensures.ok c.in-Err-deserialize_newtype_struct.ensures.err in
+    let m = some_missed g.T.Typed.meaning.takes (g.T.Typed.meaning.grows || g.R.Read.buffers) g.R.Read.buffers _ _ _ c.in-Ok.code _ c.in_default.not-Null c.in-Ok.ensures.ok c.in-Err-deserialize_newtype_struct.ensures.err in
     record { ok = tt; err = m; stops = search rules }
 
 pub returns-in-Err-clause-err : goal.returns-in-Err-clause-err
-returns-in-Err-clause-err g c = unseen_missed g.T.Typed.takes g.T.Typed.grows g.R.Read.buffers _ _ _ c.in-Err.ensures.err
+returns-in-Err-clause-err g c = unseen_missed g.T.Typed.meaning.takes g.T.Typed.meaning.grows g.R.Read.buffers _ _ _ c.in-Err.ensures.err

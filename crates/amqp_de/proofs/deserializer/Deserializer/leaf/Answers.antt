@@ -2,7 +2,7 @@ use Rattle.std.proofs.Common.{◌||◌}
 use Rattle.amqp_base.specs.Typing.{is_of}
 use Rattle.amqp_base.proofs.KindPlaces.{of_kind}
 use Rattle.amqp_de.specs.Parse.{data_at}
-use Rattle.amqp_de.proofs.Answered.{reads_kind, found, missed_byte, missed_data, exact_data}
+use Rattle.amqp_de.proofs.Answered.{reads_kind, found, missed_byte, missed_data, exact_data, byte_first, item_first}
 use Rattle.amqp_de.proofs.deserializer.Deserializer.leaf.Goals as goal
 
 pub returns-in-Ok-read-clause-ok : goal.returns-in-Ok-read-clause-ok
@@ -24,3 +24,12 @@ returns-in-Err-read-clause-err g c =
 
 pub returns-in-Err-clause-err : goal.returns-in-Err-clause-err
 returns-in-Err-clause-err g c = missed_byte g.L.Leaf.grows g.R.Read.buffers _ _ _ (reads_kind g.L.Leaf.kind) c.in-Err.ensures.err
+
+-- memory is asked for last
+pub returns-in-Err-read-clause-bytes_first : goal.returns-in-Err-read-clause-bytes_first
+returns-in-Err-read-clause-bytes_first g c = λ grows a.
+    let b = rw (← c.self-2.view_is) at c.in-Ok.ensures.ok in
+    item_first (data_at g.L.Leaf.kind) g.R.Read.buffers c.args.self.now _ c.in-Ok.code c.in-Err-read.e b (c.in-Err-read.ensures.bytes_first grows)
+
+pub returns-in-Err-clause-bytes_first : goal.returns-in-Err-clause-bytes_first
+returns-in-Err-clause-bytes_first g c = λ grows a. byte_first (data_at g.L.Leaf.kind) g.R.Read.buffers _ _ _ c.in-Err.ensures.err

@@ -3,11 +3,12 @@ use Rattle.amqp_de.specs.Decoding.{Decoding}
 use Rattle.amqp_de.proofs.PartsRead.{over_long}
 use Rattle.amqp_de.proofs.deserializer.Deserializer.next_part.Goals as goal
 
-pub returns-then-not-within-clause-next : goal.returns-then-not-within-clause-next
-returns-then-not-within-clause-next g c =
-    let a : IsTrue c.args.answers.now = search rules in
+pub returns-then-not-within : goal.returns-then-not-within
+returns-then-not-within g c =
+    let a : IsTrue c.args.inner.now.answers = search rules in
     let f = rw c.set_answers.ensures at c.in-Ok.ensures.ok in
     let r = ap (λ (d : Decoding). d.reading) c.set_answers-in-Ok.ensures in
+    let q = ap (λ (d : Decoding). d.answers) c.set_answers-in-Ok.ensures in
     let b = ap (λ (d : Decoding). d.begun) c.set_answers-in-Ok.ensures in
     let no = rw (c.bytes_consumed-consumed.ensures, r) at c.is_within-within.ensures.no c.if-not-within.true in
-    over_long g.T.Typed.takes (λ i. g.T.Typed.means i c.in-Ok.item) (g.T.Typed.grows || g.R.Read.buffers) g.R.Read.buffers _ _ c.deserialize.new.de a (omega (arith, c.if-left-eq0.false)) f no refl r b
+    record { next = over_long g.T.Typed.meaning.takes (λ i. g.T.Typed.meaning.means i c.in-Ok.item) (g.T.Typed.meaning.grows || g.R.Read.buffers) g.R.Read.buffers _ _ c.deserialize.new.de a (omega (arith, c.if-inner-eq0.false)) f no refl q r b }

@@ -1,9 +1,9 @@
 use Rattle.std.proofs.Common.{rules, refl, ap, ◌∙◌, false}
 use Rattle.amqp_de.specs.Access.{Listing, ended}
-use Rattle.amqp_de.specs.ReadPairs.{open_map}
+use Rattle.amqp_de.specs.ReadParts.{open_list}
 use Rattle.amqp_de.proofs.LookedFirst.{custom_device}
-use Rattle.amqp_de.proofs.ReadParts.{missed_on, missed_at, found_at}
-use Rattle.amqp_de.proofs.StructRead.{struct_start, name_read, field_read, map_unopened, key_missed, field_missed, missing, struct_found}
+use Rattle.amqp_de.proofs.ReadParts.{missed_on, missed_at, found_at, closed_at}
+use Rattle.amqp_de.proofs.StructRead.{struct_start, name_read, field_read, map_unopened, no_field_closed, key_missed, field_missed, missing, struct_found}
 use Rattle.amqp_de.proofs.deserializer.Deserializer.read_map.Goals as goal
 
 -- no map was opened
@@ -15,45 +15,53 @@ returns-in_err-map-clause-err g c =
 pub pairs-init : goal.pairs-init
 pairs-init g c = record {
   same = refl;
-  closed = c.in_ok-map.ensures.opened.closed;
   sofar = struct_start _ _ (λ _. false) (λ _. false) _ (c.in_ok-map.ensures.pairs _ _);
 }
 
 -- a key was refused
 pub returns-in-Err-clause-err : goal.returns-in-Err-clause-err
-unfolding open_map
+unfolding open_list
 returns-in-Err-clause-err g c = missed_at _ _ (search rules) (key_missed _ _ _ _ c.pairs.invariant.sofar _ _ _ _ c.in-Err.ensures.next)
 
 -- a field was refused
 pub returns-in-Err-read_field-clause-err : goal.returns-in-Err-read_field-clause-err
-unfolding open_map
+unfolding open_list
 returns-in-Err-read_field-clause-err g c =
     let n = rw c.in-Some.is at c.in-Ok.ensures.next in
     let refused = rw c.as_str.ensures.value at c.in-Err-read_field.ensures.refused in
-    missed_at _ _ (search rules) (field_missed _ _ _ _ _ (name_read _ _ _ _ c.pairs.invariant.sofar c.in-Some.name _ n.0 c.next_key.ensures.kept_outer c.next_key.ensures.kept_limit) _ _ _ refused)
+    missed_at _ _ (search rules) (field_missed _ _ _ _ _ (name_read _ _ _ _ c.pairs.invariant.sofar c.in-Some.name _ n.0) _ _ _ refused)
 
 pub pairs-preserved : goal.pairs-preserved
-unfolding open_map
+unfolding open_list
 pairs-preserved g c =
     let v = c.pairs.invariant in
     let n = rw c.in-Some.is at c.in-Ok.ensures.next in
     let more = rw c.as_str.ensures.value at c.in-Ok-read_field.ensures.read in
     record {
       same = c.read_field.ensures.same_reference ∙ (c.next_key.ensures.same_reference ∙ v.same);
-      closed = c.read_field.ensures.closed (c.next_key.ensures.closed v.closed);
-      sofar = field_read _ _ _ _ _ _ _ (name_read _ _ _ _ v.sofar c.in-Some.name _ n.0 c.next_key.ensures.kept_outer c.next_key.ensures.kept_limit) more c.read_field.ensures.kept_outer c.read_field.ensures.kept_limit;
+      sofar = field_read _ _ _ _ _ _ _ (name_read _ _ _ _ v.sofar c.in-Some.name _ n.0) more;
     }
+
+pub returns-in-Err-clause-closed : goal.returns-in-Err-clause-closed
+unfolding open_list
+returns-in-Err-clause-closed g c = closed_at (search rules) (c.in-Err.ensures.next.silent c.pairs.invariant.sofar.reads.closed)
+
+pub returns-in-Err-read_field-clause-closed : goal.returns-in-Err-read_field-clause-closed
+unfolding open_list
+returns-in-Err-read_field-clause-closed g c =
+    let n = rw c.in-Some.is at c.in-Ok.ensures.next in
+    closed_at (search rules) (no_field_closed c.in-Err-read_field.ensures.refused n.0.closed)
 
 -- a field is missing
 pub returns-in_default-into_values-clause-err : goal.returns-in_default-into_values-clause-err
-unfolding open_map
+unfolding open_list
 returns-in_default-into_values-clause-err g c =
     let n = rw c.in_default.is at c.in-Ok.ensures.next in
     missing _ _ _ _ c.pairs.invariant.sofar n.0 (c.into_values.ensures.none c.in_default-into_values.is) g.R.Read.buffers _ _ (custom_device _ _ c.custom.ensures) (search rules)
 
 pub returns-clause-ok : goal.returns-clause-ok
-unfolding open_map
+unfolding open_list
 returns-clause-ok g c =
     let values = c.into_values.ensures.some _ c.in-Some-into_values.is in
     let n = rw c.in_default.is at c.in-Ok.ensures.next in
-    found_at _ _ (search rules) (struct_found _ _ _ _ c.pairs.invariant.sofar _ values _ n.0 (c.in_ok-end.ensures.ends.2 ∙ ap (λ (l : Listing). ended l) n.1))
+    found_at _ _ (search rules) (struct_found _ _ _ _ c.pairs.invariant.sofar _ values _ n.0 (c.in_ok-end.ensures.ends.is ∙ ap (λ (l : Listing). ended l) n.1))

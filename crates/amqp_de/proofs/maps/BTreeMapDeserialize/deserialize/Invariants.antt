@@ -1,15 +1,14 @@
-use Rattle.std.proofs.Common.{◌≡◌, false}
+use Rattle.std.proofs.Common.{◌≡◌}
 use Rattle.std.specs.BTreeMap.{insert_entry}
-use Rattle.amqp_de.specs.ReadPairs.{open_map}
+use Rattle.amqp_de.specs.ReadParts.{open_list}
 use Rattle.amqp_de.proofs.Pairs.{EntriesRead}
 use Rattle.amqp_de.proofs.maps.BTreeMapDeserialize.deserialize.Given as goal
 
 abbrev pub invariant-pairs : goal.invariant-pairs
 invariant-pairs g l = record {
   same : l.access.de.ghost_name ≡ l.initial.access.de.ghost_name;
-  closed : l.access.de.now.answers ≡ false;
-  sofar : EntriesRead g.K.Typed.means g.V.Typed.means (insert_entry g.K.Ord.cmp) l.fn.de g.K.Typed.takes g.V.Typed.takes l.sorted.entries (open_map l.access);
+  sofar : EntriesRead g.K.Typed.meaning.means g.V.Typed.meaning.means (insert_entry g.K.Ord.cmp) l.fn.de g.K.Typed.meaning.takes g.V.Typed.meaning.takes l.sorted.entries (open_list l.access);
 }
 
 abbrev pub decreases-pairs : goal.decreases-pairs
-decreases-pairs g l = l.access.left
+decreases-pairs g l = l.access.inner.left

@@ -1,0 +1,51 @@
+use Rattle.std.proofs.Common.{rules, refl, ◌||◌}
+use Rattle.amqp_de.specs.ReadParts.{open_list}
+use Rattle.amqp_de.proofs.ReadParts.{missed_by, or_right, found_at, found_meant, fields_unopened, end_answered, end_refused, closed_at, on_err}
+use Rattle.amqp_de.proofs.StructForms.{row_opened, other_row, unread}
+use Rattle.amqp_de.proofs.deserializer.Deserializer.deserialize_row.Goals as goal
+
+-- no list was opened
+pub returns-in_err-list-clause-err : goal.returns-in_err-list-clause-err
+returns-in_err-list-clause-err g c =
+    let none = rw c.in_err-list.was at c.deserialize_list.follows.holds-at-none in
+    missed_by _ _ _ (or_right g.S.Fields.grows g.R.Read.buffers) c.from_residual.ensures.1 refl (fields_unopened (g.S.Fields.slots c.args.fields).kinds _ _ _ _ _ none)
+
+-- it has another number of elements
+pub returns-then-not-are-clause-err : goal.returns-then-not-are-clause-err
+unfolding open_list
+returns-then-not-are-clause-err g c = other_row _ g.R.Read.buffers _ _ _ c.in_ok-list.ensures.opened (g.S.Fields.slots c.args.fields).kinds (c.are.ensures.no c.if-not-are.true) (search rules)
+
+-- an element was refused
+pub returns-in_err-read_elements-clause-err : goal.returns-in_err-read_elements-clause-err
+returns-in_err-read_elements-clause-err g c =
+    missed_by _ _ _ (λ h. h) c.from_residual-in_err-read_elements.ensures.1 (search rules)
+    (c.in_err-read_elements.ensures.refused _ _ _ _ (row_opened _ _ c.in_ok-list.ensures.opened (g.S.Fields.slots c.args.fields).kinds)).missed
+
+-- a field has no value, though every element was read
+pub returns-in_default-clause-err : goal.returns-in_default-clause-err
+returns-in_default-clause-err g c =
+    let row = c.in_ok-read_elements.ensures.read _ _ _ _ (row_opened _ _ c.in_ok-list.ensures.opened (g.S.Fields.slots c.args.fields).kinds) in
+    absurd (unread _ (c.into_values.ensures.none c.in_default.is) row.full)
+
+-- the end was refused
+pub returns-in_err-end-clause-err : goal.returns-in_err-end-clause-err
+returns-in_err-end-clause-err g c =
+    let row = c.in_ok-read_elements.ensures.read _ _ _ _ (row_opened _ _ c.in_ok-list.ensures.opened (g.S.Fields.slots c.args.fields).kinds) in
+    missed_by _ _ _ (λ h. h) c.from_residual-in_err-end.ensures.1 (search rules) (end_refused _ {grows = g.S.Fields.grows || g.R.Read.buffers} row.progress c.in_err-end.ensures.ends)
+
+pub returns-clause-ok : goal.returns-clause-ok
+returns-clause-ok g c =
+    let row = c.in_ok-read_elements.ensures.read _ _ _ _ (row_opened _ _ c.in_ok-list.ensures.opened (g.S.Fields.slots c.args.fields).kinds) in
+    let values = c.into_values.ensures.some _ c.in-Some.is in
+    found_at _ _ (search rules) (found_meant _ _ _ _ _ (end_answered _ row.progress c.in_ok-end.ensures.ends) (row.meant _ values.holds).1)
+
+-- no call is answered behind a refusal
+pub returns-in_err-read_elements-clause-closed : goal.returns-in_err-read_elements-clause-closed
+returns-in_err-read_elements-clause-closed g c =
+    on_err _ (closed_at (search rules) (c.in_err-read_elements.ensures.refused _ _ _ _ (row_opened _ _ c.in_ok-list.ensures.opened (g.S.Fields.slots c.args.fields).kinds)).closed)
+
+pub returns-in_default-clause-closed : goal.returns-in_default-clause-closed
+unfolding open_list
+returns-in_default-clause-closed g c =
+    let row = c.in_ok-read_elements.ensures.read _ _ _ _ (row_opened _ _ c.in_ok-list.ensures.opened (g.S.Fields.slots c.args.fields).kinds) in
+    closed_at (search rules) row.progress.reads.closed

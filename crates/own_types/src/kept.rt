@@ -1,0 +1,105 @@
+//! What is written for a value of one's own is read as the same value.
+
+ghost use Rattle.serde_amqp.specs.Headline.{KeptAs};
+
+use crate::{
+    Celsius, Colour, Delivery, Foo, Measurement, Note, Pair, Priority, Reply, Sensor, Station, Tags,
+};
+use serde_amqp::{Error, Typed, from_slice, laws};
+use std::alloc::Global;
+
+/// What `to_vec` wrote for a sensor is read as the same one, or memory was wanting.
+pub fn sensor_is_kept(alloc: Global, bytes: &[u8]) -> Result<Sensor, Error>
+    ensures { KeptAs ⟦<Sensor as Typed>⟧.meaning bytes.now result }
+{
+    laws::kept::<Sensor>();
+    from_slice(alloc, bytes)
+}
+
+/// What `to_vec` wrote for a station is read as the same one, or memory was wanting.
+pub fn station_is_kept(alloc: Global, bytes: &[u8]) -> Result<Station, Error>
+    ensures { KeptAs ⟦<Station as Typed>⟧.meaning bytes.now result }
+{
+    laws::kept::<Station>();
+    from_slice(alloc, bytes)
+}
+
+/// What `to_vec` wrote for a delivery is read as the same one, or memory was wanting.
+pub fn delivery_is_kept(alloc: Global, bytes: &[u8]) -> Result<Delivery, Error>
+    ensures { KeptAs ⟦<Delivery as Typed>⟧.meaning bytes.now result }
+{
+    laws::kept::<Delivery>();
+    from_slice(alloc, bytes)
+}
+
+/// What `to_vec` wrote for a reply is read as the same one, or memory was wanting.
+pub fn reply_is_kept(alloc: Global, bytes: &[u8]) -> Result<Reply, Error>
+    ensures { KeptAs ⟦<Reply as Typed>⟧.meaning bytes.now result }
+{
+    laws::kept::<Reply>();
+    from_slice(alloc, bytes)
+}
+
+/// What `to_vec` wrote for a foo is read as the same one, or memory was wanting.
+pub fn foo_is_kept(alloc: Global, bytes: &[u8]) -> Result<Foo, Error>
+    ensures { KeptAs ⟦<Foo as Typed>⟧.meaning bytes.now result }
+{
+    laws::kept::<Foo>();
+    from_slice(alloc, bytes)
+}
+
+/// What `to_vec` wrote for a note is read as the same one, or memory was wanting.
+pub fn note_is_kept(alloc: Global, bytes: &[u8]) -> Result<Note, Error>
+    ensures { KeptAs ⟦<Note as Typed>⟧.meaning bytes.now result }
+{
+    laws::kept::<Note>();
+    from_slice(alloc, bytes)
+}
+
+/// What `to_vec` wrote for a colour is read as the same one, or memory was wanting.
+pub fn colour_is_kept(alloc: Global, bytes: &[u8]) -> Result<Colour, Error>
+    ensures { KeptAs ⟦<Colour as Typed>⟧.meaning bytes.now result }
+{
+    laws::kept::<Colour>();
+    from_slice(alloc, bytes)
+}
+
+/// What `to_vec` wrote for a measurement is read as the same one, or memory was wanting.
+pub fn measurement_is_kept(alloc: Global, bytes: &[u8]) -> Result<Measurement, Error>
+    ensures { KeptAs ⟦<Measurement as Typed>⟧.meaning bytes.now result }
+{
+    laws::kept::<Measurement>();
+    from_slice(alloc, bytes)
+}
+
+/// What `to_vec` wrote for labels is read as the same one, or memory was wanting.
+pub fn tags_is_kept(alloc: Global, bytes: &[u8]) -> Result<Tags, Error>
+    ensures { KeptAs ⟦<Tags as Typed>⟧.meaning bytes.now result }
+{
+    laws::kept::<Tags>();
+    from_slice(alloc, bytes)
+}
+
+/// What `to_vec` wrote for a temperature is read as the same one, or memory was wanting.
+pub fn celsius_is_kept(alloc: Global, bytes: &[u8]) -> Result<Celsius, Error>
+    ensures { KeptAs ⟦<Celsius as Typed>⟧.meaning bytes.now result }
+{
+    laws::kept::<Celsius>();
+    from_slice(alloc, bytes)
+}
+
+/// What `to_vec` wrote for a pair is read as the same one, or memory was wanting.
+pub fn pair_is_kept(alloc: Global, bytes: &[u8]) -> Result<Pair<u32, String>, Error>
+    ensures { KeptAs ⟦<Pair<u32, String> as Typed>⟧.meaning bytes.now result }
+{
+    laws::kept::<Pair<u32, String>>();
+    from_slice(alloc, bytes)
+}
+
+/// What `to_vec` wrote for a priority is read as the same one.
+pub fn priority_is_kept(alloc: Global, bytes: &[u8]) -> Result<Priority, Error>
+    ensures { KeptAs ⟦<Priority as Typed>⟧.meaning bytes.now result }
+{
+    laws::kept::<Priority>();
+    from_slice(alloc, bytes)
+}
