@@ -22,6 +22,8 @@ pub mod Fields
 pub mod NamedFields
 pub mod Maps
 pub mod MapsReadBack
+pub mod Parse
+pub mod Refusing
 pub mod Meaning
 pub mod Sorts
 pub mod Chosen

@@ -6,6 +6,7 @@ use Rattle.std.proofs.lemmas.List.Elements.{All-nil, All-cons}
 use Rattle.amqp_base.specs.Codes.{Kind}
 use Rattle.amqp_base.specs.Canon.{kind_of}
 use Rattle.amqp_base.specs.Item.{Item, Scalar, scalar, string, null}
+use Rattle.amqp_base.specs.Refusing.{Refusing, any_refusal, scalar_refusal, option_refusal, list_refusal}
 use Rattle.amqp_base.specs.Shapes.{whole}
 use Rattle.amqp_base.specs.Typing.{OneValue, is_of, is_null, text_item, is_list_of, means_list, all_same}
 use Rattle.amqp_base.specs.OneValue.{one_of, one_list, bytes_in}
@@ -29,6 +30,8 @@ pub record Meaning (T : Type 0) : Type 1 where
   pub means : Item → T → Type 0
   -- whether two values hold the same, capacity and allocator aside
   pub same : T → T → Type 0
+  -- which refusal it makes of bytes under a constructor
+  pub refuses : Refusing
   -- whether reading takes memory of its own
   pub grows : Bool
   -- a field of a described list is written as by itself, and so is the value behind a descriptor
@@ -90,6 +93,7 @@ scalar_of k grows content = record {
   takes = is_of k.kind;
   means = λ i v. i ≡ scalar (k.make (content v));
   same = λ v w. content v ≡ content w;
+  refuses = scalar_refusal k.kind;
   grows = grows;
   in_described_list = λ _. refl;
   in_described_basic = λ _. refl;
@@ -111,6 +115,7 @@ chosen_of k grows content allowed own = record {
   takes = λ i. is_of k.kind i && allowed (k.inside i);
   means = λ i v. i ≡ scalar (k.make (content v));
   same = λ v w. content v ≡ content w;
+  refuses = any_refusal;
   grows = grows;
   in_described_list = λ _. refl;
   in_described_basic = λ _. refl;
@@ -125,6 +130,10 @@ chosen_of k grows content allowed own = record {
   not_null = λ _ v. k.not_null (content v);
 }
 
+-- the same, where nothing is said of what is refused
+abbrev pub unnamed : {T : Type 0} → Meaning T → Meaning T
+unnamed m = record m { refuses = any_refusal }
+
 -- a text: a symbol under the symbol setting, else a string
 abbrev pub text_of : {T : Type 0} → Bool → (T → List ℕ) → Meaning T
 text_of grows content = record {
@@ -132,6 +141,7 @@ text_of grows content = record {
   takes = is_of Kind.string;
   means = λ i v. i ≡ scalar (string (content v));
   same = λ v w. content v ≡ content w;
+  refuses = scalar_refusal Kind.string;
   grows = grows;
   in_described_list = λ _. refl;
   in_described_basic = λ _. refl;
@@ -153,6 +163,7 @@ a_null = record {
   takes = is_of Kind.null;
   means = λ i _. i ≡ scalar null;
   same = λ v w. v ≡ w;
+  refuses = scalar_refusal Kind.null;
   grows = false;
   in_described_list = λ _. refl;
   in_described_basic = λ _. refl;
@@ -175,6 +186,7 @@ list_of m content = record {
   takes = is_list_of m.takes;
   means = λ i v. means_list m.means i (content v);
   same = λ v w. all_same m.same (content v) (content w);
+  refuses = list_refusal m.takes m.refuses;
   grows = true;
   in_described_list = λ _. refl;
   in_described_basic = λ _. refl;
@@ -195,6 +207,7 @@ option_of m = record {
   takes = takes_option m.takes;
   means = means_option m.means;
   same = same_option m.same;
+  refuses = option_refusal m.refuses;
   grows = m.grows;
   in_described_list = option_as_plain m.item DescribedList Plain m.in_described_list;
   in_described_basic = option_as_plain m.item DescribedBasic Plain m.in_described_basic;
@@ -217,6 +230,7 @@ map_of k x put distinct again content = record {
   takes = is_map_of k.takes x.takes;
   means = λ i v. means_map k.means x.means put i (content v);
   same = λ v w. SameRows k.same x.same put (content v) (content w);
+  refuses = any_refusal;
   grows = true;
   in_described_list = λ _. refl;
   in_described_basic = λ _. refl;
@@ -318,6 +332,7 @@ struct_of row = record {
   takes = takes_struct row.names row.takes;
   means = λ i v. means_struct row.names (row.means v) i;
   same = row.same;
+  refuses = any_refusal;
   grows = true;
   in_described_list = λ v. struct_in_list (row.items v);
   in_described_basic = λ v. struct_in_basic (row.items v);
@@ -345,6 +360,7 @@ row_as list taken read not_null row = record {
   takes = takes_fields row.takes;
   means = λ i v. means_fields (row.means v) i;
   same = row.same;
+  refuses = any_refusal;
   grows = row.grows;
   in_described_list = λ _. refl;
   in_described_basic = λ _. refl;
@@ -375,6 +391,7 @@ newtype_of m get = record {
   takes = m.takes;
   means = λ i v. m.means i (get v);
   same = λ v w. m.same (get v) (get w);
+  refuses = m.refuses;
   grows = m.grows;
   in_described_list = λ v. m.in_described_list (get v);
   in_described_basic = λ v. m.in_described_basic (get v);

@@ -12,8 +12,9 @@ use Rattle.amqp_base.specs.Typing.{is_of}
 use Rattle.amqp_base.proofs.KindPlaces.{same_kind_is}
 use Rattle.amqp_read.specs.Reading.{Reading}
 use Rattle.amqp_de.specs.Decoding.{Decoding, stands_under}
-use Rattle.amqp_de.specs.Law.{Found, Missed, Excused, Advances, Spent, free, refused_free}
-use Rattle.amqp_de.specs.Parse.{Parsed, byte_under, behind_byte, item_at, data_at}
+use Rattle.amqp_base.specs.Refusing.{scalar_refusal}
+use Rattle.amqp_de.specs.Law.{Found, Missed, Named, Excused, Advances, Spent, free, refused_free}
+use Rattle.amqp_base.specs.Parse.{Parsed, byte_under, behind_byte, item_at, data_at}
 use Rattle.amqp_de.specs.Steps.{Begins, BeginsNot, IsData, Rejects, Exact, BytesFirst, IsDescribed}
 use Rattle.amqp_de.proofs.Readings.{advances_then, onward, takes_then, behind, excused_before, excused_more}
 use Rattle.amqp_de.proofs.Data.{understands, behind_code}
@@ -152,3 +153,28 @@ item_first parse buffers old mid x e b f = record { there = λ m. tell (f.there 
     tell : IsTrue buffers ⊎ ((s : List ℕ) → mid.reading.to_come ≡ Some s → behind_byte parse x s ≡ Err (Io UnexpectedEof) → ⊥) → IsTrue buffers ⊎ ((s : List ℕ) → old.reading.to_come ≡ Some s → item_at parse (stands_under old) s ≡ Err (Io UnexpectedEof) → ⊥)
     tell (inl y) = inl y
     tell (inr h) = inr (λ s at p. let o = b.exact s at in h o.0 o.1 (sym (parsed_item parse (stands_under old) s x o.0 _ o.2 refl) ∙ p))
+
+-- ---- refusals by name
+
+unread_item : {A : Type 0} (parse : EncodingCodes → List ℕ → Parsed A) (c : Constructor) (s : List ℕ) (e : Error) → byte_under c s ≡ Err e → item_at parse c s ≡ Err e
+unread_item parse c s e p = rw p refl
+
+pub byte_named : (k : Kind) (grows buffers : Bool) (old new : Decoding) (e : Error) → BeginsNot buffers old new e → Named (scalar_refusal k) (grows || buffers) buffers old new e
+unfolding scalar_refusal
+byte_named k grows buffers old new e n = record { why = λ a s at h. tell s (n.rejects.why s at h) }
+  where
+    tell : (s : List ℕ) → (byte_under (stands_under old) s ≡ Err e) ⊎ Excused buffers buffers old.reading new.reading e → (item_at (data_at k) (stands_under old) s ≡ Err e) ⊎ Excused (grows || buffers) buffers old.reading new.reading e
+    tell s (inl p) = inl (unread_item (data_at k) (stands_under old) s e p)
+    tell s (inr y) = inr (excused_more old.reading new.reading e (or_right grows buffers) y)
+
+pub data_named : (k : Kind) (grows buffers : Bool) (old mid : Decoding) (r : Reading) (x : ℕ) (e : Error) → Begins old mid x → Rejects grows buffers (behind_byte (data_at k) x) mid.reading r e → Named (scalar_refusal k) grows buffers old (refused mid r) e
+unfolding scalar_refusal
+data_named k grows buffers old mid r x e b n = record {
+  why = λ a s at h.
+      let o = b.exact s at in
+      tell s o.0 o.2 (n.why o.0 o.1 (b.step.steady.honest ∙ h));
+}
+  where
+    tell : (s rest : List ℕ) → byte_under (stands_under old) s ≡ Ok (x, rest) → (behind_byte (data_at k) x rest ≡ Err e) ⊎ Excused grows buffers mid.reading r e → (item_at (data_at k) (stands_under old) s ≡ Err e) ⊎ Excused grows buffers old.reading r e
+    tell s rest u (inl p) = inl (parsed_item (data_at k) (stands_under old) s x rest _ u p)
+    tell s rest u (inr y) = inr (excused_before old.reading mid.reading r b.text e b.step y)

@@ -17,7 +17,7 @@ use Rattle.amqp_base.proofs.Lists.{cons_parts}
 use Rattle.amqp_base.proofs.OneFront.{no_code}
 use Rattle.amqp_read.specs.Reading.{Reading, Takes}
 use Rattle.amqp_de.specs.Decoding.{Decoding, stands_under}
-use Rattle.amqp_de.specs.Parse.{byte_at}
+use Rattle.amqp_base.specs.Parse.{byte_at}
 use Rattle.amqp_de.specs.Steps.{Begins, BeginsNot, Unread, IsDescribed}
 use Rattle.amqp_de.proofs.Readings.{takes_nothing, behind, unread_rejects}
 

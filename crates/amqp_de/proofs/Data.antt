@@ -14,7 +14,7 @@ use Rattle.amqp_base.specs.Wire.{under, Wire, lenient, of_data, Data, of_fixed, 
 use Rattle.amqp_base.proofs.ScalarFront.{payload_kind}
 use Rattle.amqp_base.proofs.KindPlaces.{kind_same}
 use Rattle.amqp_base.proofs.OneFront.{no_code}
-use Rattle.amqp_de.specs.Parse.{Parsed, bytes_at, valued, by_category, data_at, any_code, behind_byte}
+use Rattle.amqp_base.specs.Parse.{Parsed, bytes_at, valued, by_category, data_at, any_code, behind_byte}
 
 -- enough bytes
 pub bytes_there : (n : ℕ) (b rest : List ℕ) → length b ≡ n → bytes_at n (b ++ rest) ≡ Ok (b, rest)

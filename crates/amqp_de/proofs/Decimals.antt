@@ -15,7 +15,7 @@ use Rattle.amqp_base.specs.Wire.{under, Wire, lenient}
 use Rattle.amqp_base.proofs.KindPlaces.{same_kind_is}
 use Rattle.amqp_read.specs.Reading.{Reading, Stays}
 use Rattle.amqp_read.specs.Steps.{NotTaken}
-use Rattle.amqp_de.specs.Parse.{behind_byte, by_category}
+use Rattle.amqp_base.specs.Parse.{behind_byte, by_category}
 use Rattle.amqp_de.specs.Steps.{Rejects}
 use Rattle.amqp_de.specs.Decimals.{is_decimal_kind, is_decimal, decimal_at}
 use Rattle.amqp_de.proofs.Readings.{unread_rejects, rejects_here}

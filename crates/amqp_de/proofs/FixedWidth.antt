@@ -16,7 +16,7 @@ use Rattle.amqp_base.proofs.KindPlaces.{same_kind_is, kind_same}
 use Rattle.amqp_de.specs.Law.{IsCause}
 use Rattle.amqp_read.specs.Reading.{Reading, Takes, Stays}
 use Rattle.amqp_read.specs.Steps.{NotTaken}
-use Rattle.amqp_de.specs.Parse.{Parsed, any_code, behind_byte, bad_payload, data_at, by_category}
+use Rattle.amqp_base.specs.Parse.{Parsed, any_code, behind_byte, bad_payload, data_at, by_category}
 use Rattle.amqp_de.specs.Steps.{IsData, Rejects}
 use Rattle.amqp_de.proofs.Readings.{unread_rejects, rejects_here, rejects_after}
 use Rattle.amqp_de.proofs.Data.{bytes_there, bytes_short, behind_code}

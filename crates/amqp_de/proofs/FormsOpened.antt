@@ -12,7 +12,7 @@ use Rattle.amqp_read.specs.Reading.{Reading}
 use Rattle.amqp_de.specs.Decoding.{Decoding, stands_under}
 use Rattle.amqp_de.specs.Law.{Excused}
 use Rattle.amqp_de.specs.Look.{looked_at, Looks, LooksNot}
-use Rattle.amqp_de.specs.Parse.{Parsed, ◌>>=◌, byte_under, any_code, with_rest, behind_byte, item_at, code_at, map_data, tuple_data, struct_data}
+use Rattle.amqp_base.specs.Parse.{Parsed, ◌>>=◌, byte_under, any_code, with_rest, behind_byte, item_at, code_at, map_data, tuple_data, struct_data}
 use Rattle.amqp_de.specs.Steps.{Rejects, Stops}
 use Rattle.amqp_de.specs.Access.{Listing, HasParts, HasPairs, Opens, OpensExactly}
 use Rattle.amqp_de.specs.ReadParts.{NoTuple}

@@ -17,7 +17,7 @@ use Rattle.amqp_de.specs.Law.{IsCause}
 use Rattle.amqp_base.proofs.Lists.{cut}
 use Rattle.amqp_read.specs.Reading.{Reading}
 use Rattle.amqp_de.specs.Law.{Excused}
-use Rattle.amqp_de.specs.Parse.{Parsed, ◌>>=◌, number_at, header_rule, least_size, header_at, count_at, list_data, behind_byte}
+use Rattle.amqp_base.specs.Parse.{Parsed, ◌>>=◌, number_at, header_rule, least_size, header_at, count_at, list_data, behind_byte}
 use Rattle.amqp_de.specs.Steps.{Number, Unread, Rejects, ParsesAs}
 use Rattle.amqp_de.specs.Access.{Within, HasParts, HasPairs, items_of_all, shared_by, OpensData, Header}
 use Rattle.amqp_de.proofs.Readings.{takes_nothing, takes_then, behind, unread_rejects, rejects_then, rejects_after, rejects_here}

@@ -9,7 +9,7 @@ use Rattle.amqp_base.specs.Wire.{Constructor}
 use Rattle.amqp_base.specs.Fields.{all_fields}
 use Rattle.amqp_de.specs.Decoding.{Decoding, stands_under}
 use Rattle.amqp_de.specs.Law.{Excused}
-use Rattle.amqp_de.specs.Parse.{Parsed, ◌>>=◌, byte_under, any_code, with_rest, behind_byte, item_at, list_data, of_length, tuple_data}
+use Rattle.amqp_base.specs.Parse.{Parsed, ◌>>=◌, byte_under, any_code, with_rest, behind_byte, item_at, list_data, of_length, tuple_data}
 use Rattle.amqp_de.specs.Access.{Listing, HasParts, Opens, OpensExactly, OpensNot}
 use Rattle.amqp_de.specs.ReadParts.{NoTuple, RefusesTuple}
 use Rattle.amqp_de.proofs.Readings.{onward}

@@ -15,6 +15,7 @@ pub mod MapHeaders
 pub mod Opening
 pub mod PartsRead
 pub mod Sequence
+pub mod Naming
 pub mod ReadParts
 pub mod Turns
 pub mod Pairs

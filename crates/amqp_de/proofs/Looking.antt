@@ -15,7 +15,7 @@ use Rattle.amqp_read.specs.Reading.{Reading}
 use Rattle.std.specs.Io.KnownBytes.{Keeps}
 use Rattle.amqp_read.specs.Steps.{Looked, Shows, MayCome}
 use Rattle.amqp_de.specs.Decoding.{Decoding, stands_under}
-use Rattle.amqp_de.specs.Parse.{Parsed, any_code, code_or_refusal, behind_byte, code_at}
+use Rattle.amqp_base.specs.Parse.{Parsed, any_code, code_or_refusal, behind_byte, code_at}
 use Rattle.amqp_de.specs.Look.{item_kind, looked_at, Peeks, PeeksNot, Looks}
 use Rattle.amqp_de.proofs.Received.{keeps_known, shown_known, shown_first}
 use Rattle.amqp_de.proofs.Readings.{steady_same, stayed}

@@ -11,7 +11,7 @@ use Rattle.amqp_base.specs.Item.{Item, scalar, list, map, array, described, Item
 use Rattle.amqp_base.specs.Value.{number}
 use Rattle.amqp_base.specs.Wire.{bare, under, Wire, lenient, Data, of_fixed, of_variable, list0, of_list, of_map, of_array, empty_array}
 use Rattle.amqp_read.specs.Reading.{Reading}
-use Rattle.amqp_de.specs.Parse.{header_at, of_pairs, pairs_at, map_data, behind_byte}
+use Rattle.amqp_base.specs.Parse.{header_at, of_pairs, pairs_at, map_data, behind_byte}
 use Rattle.amqp_de.specs.Steps.{Rejects, ParsesAs}
 use Rattle.amqp_de.specs.Access.{HasPairs, OpensData, Header}
 use Rattle.amqp_de.proofs.Readings.{rejects_after, rejects_here}

@@ -14,7 +14,7 @@ use Rattle.amqp_base.proofs.CodeAgain.{code_again}
 use Rattle.amqp_base.proofs.KindPlaces.{kind_same}
 use Rattle.amqp_read.specs.Reading.{Reading, Takes, Stays}
 use Rattle.amqp_read.specs.Steps.{NotTaken}
-use Rattle.amqp_de.specs.Parse.{behind_byte, data_at}
+use Rattle.amqp_base.specs.Parse.{behind_byte, data_at}
 use Rattle.amqp_de.specs.Steps.{Rejects}
 use Rattle.amqp_de.specs.OneCode.{alone, has_width, is_only, OnlyData}
 use Rattle.amqp_de.proofs.FixedWidth.{fixed_is, fixed_refused, other_refused}

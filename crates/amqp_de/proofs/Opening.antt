@@ -9,7 +9,7 @@ use Rattle.amqp_base.specs.Refusals.{IsDevice}
 use Rattle.amqp_read.specs.Reading.{Reading}
 use Rattle.amqp_de.specs.Decoding.{Decoding, stands_under}
 use Rattle.amqp_de.specs.Law.{Excused, free}
-use Rattle.amqp_de.specs.Parse.{Parsed, byte_under, behind_byte, item_at}
+use Rattle.amqp_base.specs.Parse.{Parsed, byte_under, behind_byte, item_at}
 use Rattle.amqp_de.specs.Steps.{Begins, BeginsNot, IsDescribed, Rejects, ParsesAs}
 use Rattle.amqp_de.specs.Look.{looked_at}
 use Rattle.amqp_de.specs.Access.{Listing, HasParts, HasPairs, shared_by, cost, OpensData, Opens, OpensExactly, OpensNot}

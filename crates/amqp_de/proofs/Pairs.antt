@@ -7,7 +7,7 @@ use Rattle.amqp_base.specs.Item.{Item, scalar, list, map, array, described, Item
 use Rattle.amqp_base.specs.Maps.{all_pairs_taken, is_map_of, all_pairs_mean, MeansPairs, means_map}
 use Rattle.amqp_de.specs.Decoding.{Decoding}
 use Rattle.amqp_de.specs.Law.{Found, Missed}
-use Rattle.amqp_de.specs.Parse.{map_data}
+use Rattle.amqp_base.specs.Parse.{map_data}
 use Rattle.amqp_de.specs.Access.{Listing, HasPairs, Opens, OpensNot, Part, NoPart, AllRead, Ends, ended}
 use Rattle.amqp_de.specs.ReadParts.{and_last, joined}
 use Rattle.amqp_de.specs.ReadPairs.{KeyNext, ValueNext, broken_off, OutOfTurn, NextPair, NoEntry, no_key, no_value, and_pair, PairsRead, KeyRead, MorePair, NoMap}

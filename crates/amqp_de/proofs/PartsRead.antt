@@ -13,7 +13,7 @@ use Rattle.amqp_de.specs.Decoding.{Decoding, stands_under, behind_descriptor, re
 use Rattle.amqp_de.specs.Law.{Front, Found, Missed, Excused, Advances, no_memory, Spent, free, refused_free}
 use Rattle.amqp_de.specs.Access.{Listing, Within, items_of_all, cost, Opens, OpensNot, Part, NoPart, Ends, ended}
 use Rattle.amqp_de.specs.ReadParts.{PartsRead, and_last, joined}
-use Rattle.amqp_de.specs.Parse.{Parsed}
+use Rattle.amqp_base.specs.Parse.{Parsed}
 use Rattle.amqp_base.specs.declared.format_code.EncodingCodes.{EncodingCodes}
 use Rattle.amqp_de.proofs.Readings.{takes_nothing, advances_then, onward, takes_then, behind, excused_before, excused_more}
 use Rattle.amqp_de.proofs.Answered.{free_refused, one_refused}

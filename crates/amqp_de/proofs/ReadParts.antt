@@ -6,7 +6,7 @@ use Rattle.amqp_base.specs.Item.{Item, scalar, list, map, array, described, Item
 use Rattle.amqp_base.specs.Fields.{all_fields, takes_fields, all_meanings, means_fields}
 use Rattle.amqp_de.specs.Decoding.{Decoding, stands_under}
 use Rattle.amqp_de.specs.Law.{Found, Missed}
-use Rattle.amqp_de.specs.Parse.{item_at, list_data}
+use Rattle.amqp_base.specs.Parse.{item_at, list_data}
 use Rattle.amqp_de.specs.Access.{Listing, HasParts, Opens, OpensNot, Part, NoPart, AllRead, NoEnd, Ends, ended}
 use Rattle.amqp_de.specs.declared.list.Access.{Access}
 use Rattle.amqp_de.specs.declared.list.Open.{Open}

@@ -10,7 +10,7 @@ use Rattle.amqp_read.specs.Reading.{Reading, Agree, Steady, Takes, Stays}
 use Rattle.amqp_read.specs.Steps.{IsShort, HasBytes, NotTaken}
 use Rattle.amqp_base.specs.Faults.{IsFault}
 use Rattle.amqp_de.specs.Law.{Overfull, Excused, Advances, IsCause, no_memory, faulted, uncounted}
-use Rattle.amqp_de.specs.Parse.{Parsed}
+use Rattle.amqp_base.specs.Parse.{Parsed}
 use Rattle.amqp_de.specs.Steps.{Rejects, Unread}
 use Rattle.amqp_de.proofs.Received.{agree_then, left_then}
 

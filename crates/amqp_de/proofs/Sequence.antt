@@ -6,7 +6,7 @@ use Rattle.amqp_base.specs.Item.{Item, scalar, list, map, array, described, Item
 use Rattle.amqp_base.specs.Typing.{all_taken, all_mean, is_list_of, means_list}
 use Rattle.amqp_de.specs.Decoding.{Decoding}
 use Rattle.amqp_de.specs.Law.{Found, Missed}
-use Rattle.amqp_de.specs.Parse.{list_data}
+use Rattle.amqp_base.specs.Parse.{list_data}
 use Rattle.amqp_de.specs.Access.{Listing, HasParts, Opens, OpensNot, Part, NoPart, Ends, ended}
 use Rattle.amqp_de.specs.ReadParts.{PartsRead, and_last, joined}
 use Rattle.amqp_de.proofs.PartsRead as read

@@ -18,7 +18,7 @@ use Rattle.amqp_de.specs.Law.{IsCause}
 use Rattle.amqp_base.proofs.KindPlaces.{kind_same}
 use Rattle.amqp_read.specs.Reading.{Reading, Stays, Takes}
 use Rattle.amqp_read.specs.Steps.{NotTaken, Holds}
-use Rattle.amqp_de.specs.Parse.{Parsed, ◌>>=◌, bytes_at, sized_at, utf8, text_at, valued, value_or_refusal, bad_payload, data_at, behind_byte}
+use Rattle.amqp_base.specs.Parse.{Parsed, ◌>>=◌, bytes_at, sized_at, utf8, text_at, valued, value_or_refusal, bad_payload, data_at, behind_byte}
 use Rattle.amqp_de.specs.Steps.{IsData, Rejects, BytesFirst, Unread, Number, Payload, Text}
 use Rattle.amqp_de.specs.Law.{Excused}
 use Rattle.amqp_de.proofs.Readings.{takes_then, behind, unread_memory, unread_rejects, rejects_then, rejects_after}

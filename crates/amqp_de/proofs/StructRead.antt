@@ -11,7 +11,7 @@ use Rattle.amqp_base.specs.Typing.{is_of}
 use Rattle.amqp_de.specs.Decoding.{Decoding}
 use Rattle.amqp_de.specs.Law.{Found, Missed}
 use Rattle.amqp_de.specs.Access.{Listing, HasPairs, Opens, OpensNot, Part, ended}
-use Rattle.amqp_de.specs.Parse.{map_data}
+use Rattle.amqp_base.specs.Parse.{map_data}
 use Rattle.amqp_de.specs.ReadParts.{PartsRead, and_last, joined}
 use Rattle.amqp_de.specs.ReadPairs.{KeyNext, ValueNext, OutOfTurn, and_pair, PairsRead}
 use Rattle.amqp_de.specs.ReadFields.{Slots, all_read, HaveValues, under_name, FieldRead, NoField, unknown, refused}

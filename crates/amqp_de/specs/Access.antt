@@ -7,12 +7,13 @@ use Rattle.amqp_base.specs.Codes.{code_of}
 use Rattle.amqp_base.specs.Wire.{Constructor, bare, under, under_pair, Wire, lenient, Parts}
 use Rattle.amqp_base.specs.Laws.{items_under}
 use Rattle.amqp_base.specs.Refusals.{IsDevice}
+use Rattle.amqp_base.specs.Refusing.{Refusing}
 use Rattle.amqp_base.specs.declared.error.Error.{Error}
 use Rattle.amqp_base.specs.declared.error.Error.TheVariants.{InvalidValue, OutOfMemory, SequenceLengthMismatch}
 use Rattle.amqp_read.specs.Reading.{Reading, Takes}
 use Rattle.amqp_de.specs.Decoding.{Decoding, stands_under, ready}
 use Rattle.amqp_de.specs.Law.{Front, Excused, Advances, Spent, free, refused_free}
-use Rattle.amqp_de.specs.Parse.{Parsed, item_at, least_size}
+use Rattle.amqp_base.specs.Parse.{Parsed, item_at, least_size}
 use Rattle.amqp_de.specs.Look.{looked_at}
 use Rattle.amqp_de.specs.Steps.{Rejects}
 
@@ -140,6 +141,21 @@ pub record NoPart (takes : Item → Bool) (grows buffers : Bool) (old new : List
   pub some_left : IsTrue old.answers → 0 < old.left
   pub why : (i : Item) (text rest : List ℕ) → Wire lenient (stands_under old.state) text i → IsTrue (takes i) → old.state.reading.to_come ≡ Some (text ++ rest) → Within old.limit (old.state.reading.taken + length text)
       → IsTrue old.state.reading.honest → IsTrue old.answers → Excused grows buffers old.state.reading new.state.reading err
+
+-- a part goes past the position at which the parts must have ended
+abbrev pub Passes : Option ℕ → Error → Type 0
+Passes None e = ⊥
+Passes (Some m) e = e ≡ InvalidValue
+
+-- of known bytes a part is refused as its type refuses them, or as it goes past the end, but for the excuses
+pub record PartNamed (refuses : Refusing) (grows buffers : Bool) (old new : Listing) (err : Error) : Type 0 where
+  pub why : IsTrue old.answers → (s : List ℕ) → old.state.reading.to_come ≡ Some s → IsTrue old.state.reading.honest
+      → (refuses (stands_under old.state) s err ⊎ Passes old.limit err) ⊎ Excused grows buffers old.state.reading new.state.reading err
+
+-- the parts have constructors of their own, and may take any number of bytes
+pub record Plain (l : Listing) : Type 0 where
+  pub inherited : l.state.inherited ≡ bare
+  pub limit : l.limit ≡ None
 
 -- the next part, or none where none is left
 abbrev pub Next : {T : Type 0} → (Item → Bool) → (Item → T → Type 0) → Bool → Bool → Listing → Result (Option T) Error → Listing → Type 0

@@ -3,8 +3,8 @@ use Rattle.std.specs.Prelude.{Bool, true, ◌||◌, Option, Result}
 use Rattle.amqp_base.specs.declared.error.Error.{Error}
 use Rattle.amqp_base.specs.Meaning.{Meaning}
 use Rattle.amqp_de.specs.Decoding.{Decoding}
-use Rattle.amqp_de.specs.Law.{Found, Missed}
-use Rattle.amqp_de.specs.Access.{Listing, Next}
+use Rattle.amqp_de.specs.Law.{Found, Missed, Named}
+use Rattle.amqp_de.specs.Access.{Listing, Next, PartNamed}
 use Rattle.amqp_base.specs.Fields.{takes_fields, means_fields}
 use Rattle.amqp_base.specs.NamedFields.{takes_map, takes_struct, means_map, means_struct}
 use Rattle.amqp_de.specs.ReadFields.{Slots}
@@ -18,9 +18,16 @@ IsRead m v old new = Found m.takes (λ i. m.means i v) old new
 abbrev pub IsRefused : {T : Type 0} → Meaning T → Bool → Decoding → Decoding → Error → Type 0
 IsRefused m buffers old new e = Missed m.takes (m.grows || buffers) buffers old new e
 
+-- and by the name that the bytes call for
+abbrev pub IsNamed : {T : Type 0} → Meaning T → Bool → Decoding → Decoding → Error → Type 0
+IsNamed m buffers old new e = Named m.refuses (m.grows || buffers) buffers old new e
+
 -- the next element of a list, the next key of a map, its value, or both
 abbrev pub NextElement : {T : Type 0} → Meaning T → Bool → Listing → Result (Option T) Error → Listing → Type 0
 NextElement m buffers old r new = Next m.takes m.means (m.grows || buffers) buffers old r new
+
+abbrev pub ElementNamed : {T : Type 0} → Meaning T → Bool → Listing → Listing → Error → Type 0
+ElementNamed m buffers old new e = PartNamed m.refuses (m.grows || buffers) buffers old new e
 
 abbrev pub KeyAnswer : {K : Type 0} → Meaning K → Bool → Listing → Result (Option K) Error → Listing → Type 0
 KeyAnswer m buffers old r new = NextKey m.takes m.means (m.grows || buffers) buffers old r new

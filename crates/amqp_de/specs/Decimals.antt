@@ -8,7 +8,7 @@ use Rattle.amqp_base.specs.Canon.{kind_of}
 use Rattle.amqp_base.specs.Item.{Scalar, decimal32, decimal64, decimal128, Item, scalar}
 use Rattle.amqp_types.specs.declared.decimal.Decimal.{Decimal}
 use Rattle.amqp_types.specs.declared.decimal.Decimal.TheVariants.{Dec32, Dec64, Dec128}
-use Rattle.amqp_de.specs.Parse.{Parsed, by_category}
+use Rattle.amqp_base.specs.Parse.{Parsed, by_category}
 
 -- the three kinds (1.6.13 to 1.6.15)
 abbrev pub is_decimal_kind : Kind → Bool

@@ -1,5 +1,5 @@
 -- The law of reading that every type keeps.
-use Rattle.std.specs.Prelude.{◌≡◌, ℕ, ◌+◌, ◌*◌, ◌^◌, ◌<◌, ◌≤◌, Bool, false, IsTrue, List, ◌++◌, length, Option, Some, None, ⊤}
+use Rattle.std.specs.Prelude.{◌≡◌, ◌⊎◌, ℕ, ◌+◌, ◌*◌, ◌^◌, ◌<◌, ◌≤◌, Bool, false, IsTrue, List, ◌++◌, length, Option, Some, None, ⊤}
 use Rattle.std.specs.declared.io.ErrorKind.TheVariants.{Other}
 use Rattle.amqp_base.specs.declared.error.Error.{Error}
 use Rattle.amqp_base.specs.declared.error.Error.TheVariants.{Io, OutOfMemory}
@@ -7,6 +7,7 @@ use Rattle.amqp_base.specs.Item.{Item}
 use Rattle.amqp_base.specs.Wire.{Wire, lenient, Constructor, bare, under, under_pair}
 use Rattle.amqp_base.specs.Laws.{items_under}
 use Rattle.amqp_base.specs.Refusals.{IsDevice}
+use Rattle.amqp_base.specs.Refusing.{Refusing}
 use Rattle.amqp_read.specs.Reading.{Reading, Takes}
 use Rattle.std.specs.Io.KnownBytes.{Consumes}
 use Rattle.amqp_base.specs.Faults.{IsFault}
@@ -83,3 +84,7 @@ pub record Missed (takes : Item → Bool) (grows buffers : Bool) (old new : Deco
   pub device : IsDevice e → old.reading.faults < new.reading.faults
   -- and only where memory is taken there may be none
   pub memory : e ≡ OutOfMemory → IsTrue grows
+
+-- Of known bytes a refusal is one that the type makes of them, but for the excuses.
+pub record Named (refuses : Refusing) (grows buffers : Bool) (old new : Decoding) (e : Error) : Type 0 where
+  pub why : IsTrue old.answers → (s : List ℕ) → old.reading.to_come ≡ Some s → IsTrue old.reading.honest → refuses (stands_under old) s e ⊎ Excused grows buffers old.reading new.reading e

@@ -1,5 +1,4 @@
 pub mod Decoding
-pub mod Parse
 pub mod Law
 pub mod Steps
 pub mod Scalars

@@ -6,7 +6,7 @@ use Rattle.amqp_base.specs.Item.{Item, Pairs, no_pairs, pair, in_turn}
 use Rattle.amqp_base.specs.Maps.{all_pairs_taken, is_map_of}
 use Rattle.amqp_de.specs.Decoding.{Decoding}
 use Rattle.amqp_de.specs.Law.{Missed}
-use Rattle.amqp_de.specs.Parse.{map_data}
+use Rattle.amqp_base.specs.Parse.{map_data}
 use Rattle.amqp_de.specs.Access.{Listing, HasPairs, Opens, OpensNot, Part, NoPart}
 use Rattle.amqp_de.specs.ReadParts.{PartsRead, and_last}
 

@@ -8,7 +8,7 @@ use Rattle.amqp_base.specs.Fields.{all_fields, takes_fields}
 use Rattle.amqp_read.specs.Reading.{Takes}
 use Rattle.amqp_de.specs.Decoding.{Decoding, stands_under}
 use Rattle.amqp_de.specs.Law.{Missed}
-use Rattle.amqp_de.specs.Parse.{item_at, list_data, tuple_data}
+use Rattle.amqp_base.specs.Parse.{item_at, list_data, tuple_data}
 use Rattle.amqp_de.specs.Steps.{Rejects}
 use Rattle.amqp_de.specs.Seq.{listing, seq_listing}
 use Rattle.amqp_de.specs.Access.{Listing, Within, HasParts, Opens, OpensNot, items_of_all, cost}

@@ -3,10 +3,11 @@ use Rattle.std.specs.Prelude.{◌≡◌, Bool, IsTrue, Result, IfOk, IfErr}
 use Rattle.amqp_base.specs.declared.error.Error.{Error}
 use Rattle.amqp_base.specs.Codes.{Kind}
 use Rattle.amqp_base.specs.Item.{Scalar, scalar}
+use Rattle.amqp_base.specs.Refusing.{scalar_refusal}
 use Rattle.amqp_base.specs.Typing.{is_of}
 use Rattle.amqp_de.specs.Decoding.{Decoding, stands_under}
-use Rattle.amqp_de.specs.Law.{Found, Missed}
-use Rattle.amqp_de.specs.Parse.{item_at, data_at}
+use Rattle.amqp_de.specs.Law.{Found, Missed, Named}
+use Rattle.amqp_base.specs.Parse.{item_at, data_at}
 use Rattle.amqp_de.specs.Steps.{Exact, BytesFirst, Stops}
 
 -- The item of the kind at the front is read as its value, in any of its encodings; else the answer is the refusal that the
@@ -14,6 +15,7 @@ use Rattle.amqp_de.specs.Steps.{Exact, BytesFirst, Stops}
 pub record ReadsScalar {V : Type 0} (kind : Kind) (shows : V → Scalar) (grows buffers : Bool) (old : Decoding) (result : Result V Error) (new : Decoding) : Type 0 where
   pub ok : IfOk result (λ v. Found (is_of kind) (λ i. i ≡ scalar (shows v)) old new)
   pub err : IfErr result (λ e. Missed (is_of kind) grows buffers old new e)
+  pub named : IfErr result (λ e. Named (scalar_refusal kind) grows buffers old new e)
   pub exact : IsTrue old.answers → Exact shows grows buffers (item_at (data_at kind) (stands_under old)) old.reading result new.reading
   pub stops : Stops old result new
 

@@ -15,7 +15,7 @@ use Rattle.amqp_read.specs.Reading.{Reading, Takes, Stays}
 use Rattle.amqp_read.specs.Steps.{NotTaken}
 use Rattle.amqp_de.specs.Decoding.{Decoding, stands_under}
 use Rattle.amqp_de.specs.Law.{Excused, Advances, free}
-use Rattle.amqp_de.specs.Parse.{Parsed, byte_under}
+use Rattle.amqp_base.specs.Parse.{Parsed, byte_under}
 
 -- the answer that the bytes call for, where they parse so
 abbrev pub ExactAt : {V A : Type 0} → (V → A) → Bool → Bool → Reading → Result V Error → Reading → Parsed A → Type 0

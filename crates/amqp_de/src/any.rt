@@ -3,7 +3,7 @@
 ghost use Rattle.std.specs.Prelude.{false, IfOk, IfErr, Some};
 ghost use Rattle.amqp_de.specs.Look.{Looks, LooksNot, Peeks, PeeksNot};
 ghost use Rattle.amqp_de.specs.Steps.{Stops};
-ghost use Rattle.amqp_de.specs.Calls.{IsRead, IsRefused};
+ghost use Rattle.amqp_de.specs.Calls.{IsRead, IsRefused, IsNamed};
 
 use crate::constructor::Constructor;
 use crate::{Deserialize, Deserializer};
@@ -70,6 +70,7 @@ impl<R: Read> Deserializer<R> {
     ) -> Result<T, Error>
         ensures ok { IfOk result (λ v. IsRead T.meaning v self.old self.new) }
         ensures err { IfErr result (λ e. IsRefused T.meaning R.buffers self.old self.new e) }
+        ensures named { IfErr result (λ e. IsNamed T.meaning R.buffers self.old self.new e) }
         ensures stops { Stops self.old result self.new }
     {
         let _ = name;

@@ -10,7 +10,7 @@ ghost use Rattle.amqp_de.specs.Decimals.{is_decimal_kind, is_decimal, decimal_at
 ghost use Rattle.amqp_de.specs.Decoding.{stands_under};
 ghost use Rattle.amqp_de.specs.Law.{Found, Missed};
 ghost use Rattle.amqp_de.specs.OneCode.{alone};
-ghost use Rattle.amqp_de.specs.Parse.{item_at, behind_byte};
+ghost use Rattle.amqp_base.specs.Parse.{item_at, behind_byte};
 ghost use Rattle.amqp_de.specs.Steps.{IsData, Rejects, Exact, Stops};
 
 use crate::{Deserialize, Deserializer};
@@ -109,7 +109,7 @@ fn of_width<R: Read>(
 impl<R: Read> Deserialize<R> for Dec32 {
     /// A decimal32 (part 1, section 1.6.13). A decimal of another width is a `Message`, before its data are looked at, and
     /// consumes nothing; else the refusals are those of `deserialize_decimal`.
-    #[tactic(auto, unfolding(amqp_base::specs::Codes::row, amqp_base::specs::SameKind::same_kind, amqp_base::specs::SameKind::place))]
+    #[tactic(auto, using(crate::proofs::Naming::named_any), unfolding(amqp_base::specs::Codes::row, amqp_base::specs::SameKind::same_kind, amqp_base::specs::SameKind::place))]
     fn deserialize(alloc: Global, de: &mut Deserializer<R>) -> Result<Dec32, Error> {
         match of_width(alloc, de, EncodingCodes::Decimal32, "expected a decimal32") {
             Ok(decimal) => match decimal {
@@ -124,7 +124,7 @@ impl<R: Read> Deserialize<R> for Dec32 {
 impl<R: Read> Deserialize<R> for Dec64 {
     /// A decimal64 (part 1, section 1.6.14). A decimal of another width is a `Message`, before its data are looked at, and
     /// consumes nothing; else the refusals are those of `deserialize_decimal`.
-    #[tactic(auto, unfolding(amqp_base::specs::Codes::row, amqp_base::specs::SameKind::same_kind, amqp_base::specs::SameKind::place))]
+    #[tactic(auto, using(crate::proofs::Naming::named_any), unfolding(amqp_base::specs::Codes::row, amqp_base::specs::SameKind::same_kind, amqp_base::specs::SameKind::place))]
     fn deserialize(alloc: Global, de: &mut Deserializer<R>) -> Result<Dec64, Error> {
         match of_width(alloc, de, EncodingCodes::Decimal64, "expected a decimal64") {
             Ok(decimal) => match decimal {
@@ -139,7 +139,7 @@ impl<R: Read> Deserialize<R> for Dec64 {
 impl<R: Read> Deserialize<R> for Dec128 {
     /// A decimal128 (part 1, section 1.6.15). A decimal of another width is a `Message`, before its data are looked at,
     /// and consumes nothing; else the refusals are those of `deserialize_decimal`.
-    #[tactic(auto, unfolding(amqp_base::specs::Codes::row, amqp_base::specs::SameKind::same_kind, amqp_base::specs::SameKind::place))]
+    #[tactic(auto, using(crate::proofs::Naming::named_any), unfolding(amqp_base::specs::Codes::row, amqp_base::specs::SameKind::same_kind, amqp_base::specs::SameKind::place))]
     fn deserialize(alloc: Global, de: &mut Deserializer<R>) -> Result<Dec128, Error> {
         match of_width(
             alloc,

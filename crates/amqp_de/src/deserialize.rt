@@ -1,7 +1,7 @@
 //! The trait of the types that are read.
 
 ghost use Rattle.std.specs.Prelude.{IfOk, IfErr};
-ghost use Rattle.amqp_de.specs.Calls.{IsRead, IsRefused};
+ghost use Rattle.amqp_de.specs.Calls.{IsRead, IsRefused, IsNamed};
 
 use crate::Deserializer;
 use amqp_base::{Error, Typed};
@@ -20,7 +20,8 @@ pub trait Deserialize<R: Read>: Typed + Sized {
     /// the item.
     fn deserialize(alloc: Global, de: &mut Deserializer<R>) -> Result<Self, Error>
         ensures ok { IfOk result (λ v. IsRead Self.meaning v de.old de.new) }
-        ensures err { IfErr result (λ e. IsRefused Self.meaning R.buffers de.old de.new e) };
+        ensures err { IfErr result (λ e. IsRefused Self.meaning R.buffers de.old de.new e) }
+        ensures named { IfErr result (λ e. IsNamed Self.meaning R.buffers de.old de.new e) };
 }
 
 impl<R: Read> Deserialize<R> for () {

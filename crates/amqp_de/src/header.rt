@@ -3,7 +3,7 @@
 ghost use Rattle.std.specs.Prelude.{nat_lt, ◌&&◌, ◌≡◌, ◌⊎◌, ◌%◌, false, None, IfOk, IfErr};
 ghost use Rattle.amqp_base.specs.Wire.{bare};
 ghost use Rattle.amqp_de.specs.Access.{Header, HasParts, HasPairs, OpensData};
-ghost use Rattle.amqp_de.specs.Parse.{header_at, least_size, behind_byte, list_data, pairs_at, map_data};
+ghost use Rattle.amqp_base.specs.Parse.{header_at, least_size, behind_byte, list_data, pairs_at, map_data};
 ghost use Rattle.amqp_de.specs.Steps.{Rejects, ParsesAs};
 
 use crate::payloads::number;

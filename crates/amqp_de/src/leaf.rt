@@ -4,10 +4,11 @@ ghost use Rattle.std.specs.Prelude.{◌≡◌, Bool, ◌||◌, IsTrue, IfOk, IfE
 ghost use Rattle.amqp_base.specs.Codes.{Kind, row};
 ghost use Rattle.amqp_base.specs.Item.{Scalar, scalar};
 ghost use Rattle.amqp_base.specs.Canon.{kind_of};
+ghost use Rattle.amqp_base.specs.Refusing.{scalar_refusal};
 ghost use Rattle.amqp_base.specs.Typing.{is_of};
 ghost use Rattle.amqp_de.specs.Decoding.{stands_under};
-ghost use Rattle.amqp_de.specs.Law.{Found, Missed};
-ghost use Rattle.amqp_de.specs.Parse.{behind_byte, item_at, data_at};
+ghost use Rattle.amqp_de.specs.Law.{Found, Missed, Named};
+ghost use Rattle.amqp_base.specs.Parse.{behind_byte, item_at, data_at};
 ghost use Rattle.amqp_de.specs.OneCode.{is_only, OnlyData};
 ghost use Rattle.amqp_de.specs.Steps.{IsData, Rejects, Exact, BytesFirst, Stops};
 
@@ -48,6 +49,8 @@ impl<R: Read> Deserializer<R> {
         ensures exact { IsTrue self.old.answers → Exact L.shows (L.grows || R.buffers) R.buffers
             (item_at (data_at L.kind) (stands_under self.old)) self.old.reading result
             self.new.reading }
+        ensures named { IfErr result (λ e. Named (scalar_refusal L.kind) (L.grows || R.buffers)
+            R.buffers self.old self.new e) }
         ensures bytes_first { IsTrue L.grows → IsTrue self.old.answers →
             IfErr result (λ e.
             BytesFirst R.buffers (item_at (data_at L.kind) (stands_under self.old))

@@ -4,15 +4,15 @@ ghost use Rattle.std.specs.Prelude.{◌≡◌, Bool, true, false, Option, Some, 
 ghost use Rattle.std.specs.Borrow.{sem, RestsIfErr};
 ghost use Rattle.amqp_base.specs.Item.{Item, none};
 ghost use Rattle.amqp_base.specs.declared.error.Error.TheVariants.{SequenceLengthMismatch};
-ghost use Rattle.amqp_de.specs.Access.{Within, HasParts, Ends, Opens, OpensExactly, OpensNot};
+ghost use Rattle.amqp_de.specs.Access.{Within, HasParts, Ends, Opens, OpensExactly, OpensNot, Plain};
 ghost use Rattle.amqp_de.specs.Decoding.{silenced};
-ghost use Rattle.amqp_de.specs.Parse.{list_data, tuple_data};
+ghost use Rattle.amqp_base.specs.Parse.{list_data, tuple_data};
 ghost use Rattle.amqp_de.specs.Places.{limit_of};
 ghost use Rattle.amqp_de.specs.ReadParts.{Progress, RefusesParts, RefusesTuple, open_list};
 ghost use Rattle.amqp_de.specs.ReadPairs.{broken_off};
 ghost use Rattle.amqp_de.specs.Seq.{listing, at_open};
 ghost use Rattle.amqp_de.specs.contracts.deserializer.Deserializer.{the_row};
-ghost use Rattle.amqp_de.specs.Calls.{NextElement};
+ghost use Rattle.amqp_de.specs.Calls.{NextElement, ElementNamed};
 
 use crate::constructor::{Constructor, Limit};
 use crate::header::list_count;
@@ -103,6 +103,7 @@ impl<R: Read> Deserializer<R> {
     pub(crate) fn open_list(&mut self) -> Result<Open, Error>
         ensures ok { IfOk result (λ o. Opens HasParts self.old (at_open self.new o)) }
         ensures exact { IfOk result (λ o. OpensExactly list_data self.old (at_open self.new o)) }
+        ensures plain { IfOk result (λ o. Plain (at_open self.new o)) }
         ensures err { IfErr result (λ e.
             OpensNot HasParts list_data R.buffers R.buffers self.old self.new e) }
         ensures missed { IfErr result (λ e. RefusesParts R.buffers self.old self.new e) }
@@ -116,6 +117,7 @@ impl<R: Read> Deserializer<R> {
     fn begin_list(&mut self) -> Result<Open, Error>
         ensures ok { IfOk result (λ o. Opens HasParts self.old (at_open self.new o)) }
         ensures exact { IfOk result (λ o. OpensExactly list_data self.old (at_open self.new o)) }
+        ensures plain { IfOk result (λ o. Plain (at_open self.new o)) }
         ensures err { IfErr result (λ e.
             OpensNot HasParts list_data R.buffers R.buffers self.old self.new e) }
     {
@@ -145,6 +147,7 @@ impl<R: Read> Deserializer<R> {
         ensures same_reference { IfOk result (λ a. a.de.ghost_name ≡ self.entry.ghost_name) }
         ensures opened { IfOk result (λ a. Opens HasParts self.old (open_list a)) }
         ensures exact { IfOk result (λ a. OpensExactly list_data self.old (open_list a)) }
+        ensures plain { IfOk result (λ a. Plain (open_list a)) }
     {
         let inner = self.open_list()?;
         Ok(Access {
@@ -213,6 +216,8 @@ impl<'a, R: Read> Access<'a, R, Elements> {
         ensures same_reference { self.new.de.ghost_name ≡ self.old.de.ghost_name }
         ensures next { NextElement T.meaning R.buffers (open_list self.old) result
             (open_list self.new) }
+        ensures named { IfErr result (λ e.
+            ElementNamed T.meaning R.buffers (open_list self.old) (open_list self.new) e) }
     {
         self.de.next_part(alloc, &mut self.inner)
     }
@@ -286,6 +291,8 @@ impl<R: Read> Deserializer<R> {
     ) -> Result<Option<T>, Error>
         ensures next { NextElement T.meaning R.buffers (at_open self.old inner.old) result
             (at_open self.new inner.new) }
+        ensures named { IfErr result (λ e. ElementNamed T.meaning R.buffers
+            (at_open self.old inner.old) (at_open self.new inner.new) e) }
     {
         if !inner.answers {
             return Err(Error::InvalidValue);

@@ -4,7 +4,7 @@ ghost use Rattle.std.specs.Prelude.{◌≡◌, ◌%◌, Bool, true, false, Optio
 ghost use Rattle.std.specs.Borrow.{sem, RestsIfErr};
 ghost use Rattle.amqp_base.specs.Item.{Item, no_pairs, map};
 ghost use Rattle.amqp_de.specs.Access.{HasPairs, Opens, OpensExactly, OpensNot};
-ghost use Rattle.amqp_de.specs.Parse.{map_data};
+ghost use Rattle.amqp_base.specs.Parse.{map_data};
 ghost use Rattle.amqp_de.specs.Seq.{listing, at_open};
 ghost use Rattle.amqp_de.specs.ReadParts.{open_list};
 ghost use Rattle.amqp_de.specs.ReadPairs.{PairsRead, NoMap};

@@ -2,7 +2,7 @@
 
 ghost use Rattle.std.specs.Prelude.{IfOk, IfErr};
 ghost use Rattle.amqp_de.specs.Steps.{Stops};
-ghost use Rattle.amqp_de.specs.Calls.{IsRead, IsRefused};
+ghost use Rattle.amqp_de.specs.Calls.{IsRead, IsRefused, IsNamed};
 ghost use Rattle.amqp_base.specs.Meaning.{option_of};
 
 use crate::{Deserialize, Deserializer};
@@ -23,6 +23,8 @@ impl<R: Read> Deserializer<R> {
         ensures ok { IfOk result (λ v. IsRead (option_of T.meaning) v self.old self.new) }
         ensures err { IfErr result (λ e.
             IsRefused (option_of T.meaning) R.buffers self.old self.new e) }
+        ensures named { IfErr result (λ e.
+            IsNamed (option_of T.meaning) R.buffers self.old self.new e) }
         ensures stops { Stops self.old result self.new }
     {
         match self.deserialize_any() {

@@ -3,7 +3,7 @@
 ghost use Rattle.std.specs.Prelude.{◌≡◌, ◌⊎◌, true, IfOk, IfErr, string_bytes};
 ghost use Rattle.amqp_base.specs.Codes.{Kind};
 ghost use Rattle.amqp_base.specs.Item.{binary, string, symbol};
-ghost use Rattle.amqp_de.specs.Parse.{sized_at, text_at};
+ghost use Rattle.amqp_base.specs.Parse.{sized_at, text_at};
 ghost use Rattle.amqp_de.specs.Steps.{Number, Unread, Payload, Text, Rejects, BytesFirst};
 ghost use Rattle.amqp_de.specs.Scalars.{ReadsScalar, MemoryLast};
 

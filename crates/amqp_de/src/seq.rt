@@ -4,7 +4,7 @@ ghost use Rattle.std.specs.Prelude.{◌≡◌, Ok, Err, IfOk, IfErr};
 ghost use Rattle.std.specs.Borrow.{sem, RestsIfErr};
 ghost use Rattle.amqp_de.specs.Access.{HasParts, Ends, Opens, OpensExactly};
 ghost use Rattle.amqp_de.specs.Decoding.{silenced};
-ghost use Rattle.amqp_de.specs.Parse.{list_data};
+ghost use Rattle.amqp_base.specs.Parse.{list_data};
 ghost use Rattle.amqp_de.specs.ReadParts.{RefusesParts, open_list, open_seq};
 ghost use Rattle.amqp_de.specs.Seq.{lender_of, seq_listing};
 ghost use Rattle.amqp_de.specs.contracts.deserializer.Deserializer.{the_row};

@@ -19,6 +19,7 @@ macro_rules! row {
 
 impl<R: Read, A: Deserialize<R>> Deserialize<R> for (A,) {
     #[inline(always)]
+    #[tactic(auto, using(crate::proofs::Naming::named_any))]
     fn deserialize(alloc: Global, de: &mut Deserializer<R>) -> Result<(A,), Error> {
         let (first, ()) = de.deserialize_row(alloc, row!(_))?;
         Ok((first,))
@@ -27,6 +28,7 @@ impl<R: Read, A: Deserialize<R>> Deserialize<R> for (A,) {
 
 impl<R: Read, A: Deserialize<R>, B: Deserialize<R>> Deserialize<R> for (A, B) {
     #[inline(always)]
+    #[tactic(auto, using(crate::proofs::Naming::named_any))]
     fn deserialize(alloc: Global, de: &mut Deserializer<R>) -> Result<(A, B), Error> {
         let (first, (second, ())) = de.deserialize_row(alloc, row!(_ _))?;
         Ok((first, second))
@@ -36,6 +38,7 @@ impl<R: Read, A: Deserialize<R>, B: Deserialize<R>> Deserialize<R> for (A, B) {
 impl<R: Read, A: Deserialize<R>, B: Deserialize<R>, C: Deserialize<R>> Deserialize<R>
     for (A, B, C) {
     #[inline(always)]
+    #[tactic(auto, using(crate::proofs::Naming::named_any))]
     fn deserialize(alloc: Global, de: &mut Deserializer<R>) -> Result<(A, B, C), Error> {
         let (first, (second, (third, ()))) = de.deserialize_row(alloc, row!(_ _ _))?;
         Ok((first, second, third))
@@ -50,6 +53,7 @@ impl<
     D: Deserialize<R>,
 > Deserialize<R> for (A, B, C, D) {
     #[inline(always)]
+    #[tactic(auto, using(crate::proofs::Naming::named_any))]
     fn deserialize(alloc: Global, de: &mut Deserializer<R>) -> Result<(A, B, C, D), Error> {
         let (first, (second, (third, (fourth, ())))) = de.deserialize_row(alloc, row!(_ _ _ _))?;
         Ok((first, second, third, fourth))

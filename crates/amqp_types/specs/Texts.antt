@@ -4,6 +4,7 @@ use Rattle.std.proofs.Common.{refl, sym, ◌∙◌}
 use Rattle.amqp_base.specs.Codes.{Kind}
 use Rattle.amqp_base.specs.Item.{Item, scalar, list, map, array, described, string, symbol}
 use Rattle.amqp_base.specs.Meaning.{Meaning}
+use Rattle.amqp_base.specs.Refusing.{any_refusal}
 use Rattle.amqp_base.specs.ReadBack.{of_own_kind, second}
 use Rattle.amqp_base.specs.Typing.{is_of}
 
@@ -34,6 +35,7 @@ a_symbol_ref content = record {
   takes = λ i. is_of Kind.string i || is_of Kind.symbol i;
   means = λ i v. means_text i (content v);
   same = λ v w. content v ≡ content w;
+  refuses = any_refusal;
   grows = false;
   in_described_list = λ _. refl;
   in_described_basic = λ _. refl;

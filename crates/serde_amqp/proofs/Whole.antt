@@ -1,5 +1,5 @@
 -- What whole calls give.
-use Rattle.std.proofs.Common.{◌≡◌, ℕ, Bool, true, false, ◌||◌, IsTrue, List, [], ◌++◌, length, take, drop, Option, Some, None, Result, Ok, Err, refl, sym, ap, subst, ◌∙◌, arith}
+use Rattle.std.proofs.Common.{◌≡◌, ℕ, Bool, true, false, ◌||◌, IsTrue, List, [], ◌++◌, length, take, drop, Option, Some, None, Result, Ok, Err, refl, sym, ap, subst, ◌∙◌, arith, ◌⊎◌, inl, inr}
 use Rattle.std.proofs.lemmas.List.{length-append, take_at, take-append-drop}
 use Rattle.std.proofs.lemmas.Option.{same_Some}
 use Rattle.std.specs.Prelude.{IfOk, IfErr}
@@ -11,9 +11,10 @@ use Rattle.amqp_base.specs.declared.error.Error.TheVariants.{OutOfMemory}
 use Rattle.amqp_base.proofs.OneFront.{same_wire}
 use Rattle.amqp_read.specs.Reading.{Reading}
 use Rattle.amqp_de.specs.Decoding.{Decoding, stands_under}
-use Rattle.amqp_de.specs.Law.{Front, Found, Missed, Excused, no_memory, faulted, uncounted}
+use Rattle.amqp_de.specs.Law.{Front, Found, Missed, Named, Excused, no_memory, faulted, uncounted}
 use Rattle.amqp_base.specs.Typing.{OneValue}
-use Rattle.serde_amqp.specs.Headline.{ReadFrom, ReadsAll, Answered, SameAgain}
+use Rattle.amqp_base.specs.Meaning.{Meaning}
+use Rattle.serde_amqp.specs.Headline.{ReadFrom, ReadsAll, Answered, SameAgain, NamedFrom}
 
 consumed : (k l : Option (List ℕ)) (s x : List ℕ) → k ≡ Some s → Consumes k l x → (rest : List ℕ) × (s ≡ x ++ rest)
 consumed None l s x e c = absurd cc
@@ -85,3 +86,14 @@ all_read takes means grows s old new (Err x) e f m =
 pub same_again : {T : Type 0} (means : Item → T → Type 0) (same : T → T → Type 0) (grows : Bool) → OneValue means same → (i : Item) (v : T) (r : Result T Error) → means i v → Answered means grows i r → SameAgain same grows v r
 same_again means same grows one i v (Ok w) m a = one i v w m a
 same_again means same grows one i v (Err e) m a = a
+
+-- a refusal has the name that the bytes call for
+pub named_from : {T : Type 0} (m : Meaning T) (s : List ℕ) (old new : Decoding) (r : Result T Error) → old ≡ fresh s → IfErr r (λ e. Named m.refuses (m.grows || false) false old new e) → IfErr r (λ e. NamedFrom m s e)
+named_from m s old new (Ok v) e n = tt
+named_from m s old new (Err x) e n =
+    let k : Named m.refuses (m.grows || false) false (fresh s) new x = rw e at n in
+    tell (k.why refl s refl refl)
+  where
+    tell : m.refuses bare s x ⊎ Excused (m.grows || false) false (fresh s).reading new.reading x → NamedFrom m s x
+    tell (inl p) = inl p
+    tell (inr y) = inr (excused m.grows (fresh s).reading new.reading x y)

@@ -1,5 +1,5 @@
 -- What whole calls promise.
-use Rattle.std.specs.Prelude.{◌≡◌, ℕ, Bool, IsTrue, List, Some, Result, Ok, Err}
+use Rattle.std.specs.Prelude.{◌≡◌, ◌⊎◌, ℕ, Bool, IsTrue, List, Some, Result, Ok, Err}
 use Rattle.amqp_base.specs.Item.{Item, Capped}
 use Rattle.amqp_base.specs.Canon.{canon}
 use Rattle.amqp_base.specs.Meaning.{Meaning}
@@ -24,6 +24,10 @@ Answered means grows i (Err e) = (e ≡ OutOfMemory) × IsTrue grows
 -- every item that the type takes and that stands at the front is answered
 pub record ReadsAll {T : Type 0} (takes : Item → Bool) (means : Item → T → Type 0) (grows : Bool) (s : List ℕ) (result : Result T Error) : Type 0 where
   pub answer : (i : Item) (n : ℕ) → Front lenient bare s i n → IsTrue (takes i) → Answered means grows i result
+
+-- a refusal that the type makes of the bytes, or want of memory where the type grows
+abbrev pub NamedFrom : {T : Type 0} → Meaning T → List ℕ → Error → Type 0
+NamedFrom m s e = m.refuses bare s e ⊎ ((e ≡ OutOfMemory) × IsTrue m.grows)
 
 -- the same value, or want of memory where the type grows
 abbrev pub SameAgain : {T : Type 0} → (T → T → Type 0) → Bool → T → Result T Error → Type 0

@@ -5,7 +5,7 @@
 ghost use Rattle.std.specs.Prelude.{◌≡◌, ◌⊎◌, None, Some, IfOk, IfErr, IsTrue};
 ghost use Rattle.amqp_base.specs.Canon.{canon};
 ghost use Rattle.amqp_base.specs.declared.error.Error.TheVariants.{OutOfMemory};
-ghost use Rattle.serde_amqp.specs.Headline.{ReadFrom, ReadsAll};
+ghost use Rattle.serde_amqp.specs.Headline.{ReadFrom, ReadsAll, NamedFrom};
 ghost use Rattle.amqp_base.specs.declared.shape.Setting.{Setting};
 
 pub mod de;
@@ -60,6 +60,7 @@ pub fn from_slice<'s, T: Deserialize<SliceReader<'s>>>(
         T.meaning.means i v) slice.now) }
     ensures only { ReadsAll T.meaning.takes T.meaning.means T.meaning.grows slice.now result }
     ensures memory { IfErr result (λ e. e ≡ OutOfMemory → IsTrue T.meaning.grows) }
+    ensures named { IfErr result (λ e. NamedFrom T.meaning slice.now e) }
 {
     let mut de = Deserializer::new(SliceReader::new(slice));
     T::deserialize(alloc, &mut de)

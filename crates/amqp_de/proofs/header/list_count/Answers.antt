@@ -1,7 +1,7 @@
 use Rattle.std.proofs.Common.{refl, arith}
 use Rattle.amqp_base.specs.Codes.{row, code_of}
 use Rattle.amqp_base.specs.declared.format_code.EncodingCodes.TheVariants.{List8, List32}
-use Rattle.amqp_de.specs.Parse.{list_data}
+use Rattle.amqp_base.specs.Parse.{list_data}
 use Rattle.amqp_de.proofs.Headers.{list_opens, list0_opens, list_refused, not_a_list, list_exact, list0_exact}
 use Rattle.amqp_de.proofs.header.list_count.Goals as goal
 

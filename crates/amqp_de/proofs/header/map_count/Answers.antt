@@ -1,7 +1,7 @@
 use Rattle.std.proofs.Common.{refl, arith}
 use Rattle.amqp_base.specs.Codes.{row, code_of}
 use Rattle.amqp_base.specs.declared.format_code.EncodingCodes.TheVariants.{Map8, Map32}
-use Rattle.amqp_de.specs.Parse.{map_data}
+use Rattle.amqp_base.specs.Parse.{map_data}
 use Rattle.amqp_de.proofs.MapHeaders.{map_opens, map_refused, not_a_map, map_exact}
 use Rattle.amqp_de.proofs.header.map_count.Goals as goal
 

@@ -1,8 +1,8 @@
-use Rattle.std.proofs.Common.{rules, arith, IsTrue, None}
+use Rattle.std.proofs.Common.{rules, arith, refl, IsTrue, None}
 use Rattle.amqp_base.specs.Wire.{bare}
 use Rattle.amqp_de.proofs.Opening.{list_plain, opens, opens_no_item, opens_no_data}
 use Rattle.amqp_de.specs.Access.{HasParts}
-use Rattle.amqp_de.specs.Parse.{list_data}
+use Rattle.amqp_base.specs.Parse.{list_data}
 use Rattle.amqp_de.proofs.Headers.{list_parses}
 use Rattle.amqp_de.proofs.deserializer.Deserializer.begin_list.Goals as goal
 
@@ -22,3 +22,6 @@ pub returns-in-Err-clause-err : goal.returns-in-Err-clause-err
 returns-in-Err-clause-err g c =
     let a : IsTrue c.args.self.now.answers = search rules in
     opens_no_item HasParts list_plain list_data g.R.Read.buffers _ _ _ a c.in-Err.ensures.err
+
+pub returns-in-Ok-list_count-clause-plain : goal.returns-in-Ok-list_count-clause-plain
+returns-in-Ok-list_count-clause-plain g c = rw c.replace.ensures.after (record { inherited = refl; limit = refl })

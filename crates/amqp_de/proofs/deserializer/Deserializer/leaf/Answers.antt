@@ -1,8 +1,8 @@
 use Rattle.std.proofs.Common.{◌||◌}
 use Rattle.amqp_base.specs.Typing.{is_of}
 use Rattle.amqp_base.proofs.KindPlaces.{of_kind}
-use Rattle.amqp_de.specs.Parse.{data_at}
-use Rattle.amqp_de.proofs.Answered.{reads_kind, found, missed_byte, missed_data, exact_data, byte_first, item_first}
+use Rattle.amqp_base.specs.Parse.{data_at}
+use Rattle.amqp_de.proofs.Answered.{reads_kind, found, missed_byte, missed_data, exact_data, byte_first, item_first, byte_named, data_named}
 use Rattle.amqp_de.proofs.deserializer.Deserializer.leaf.Goals as goal
 
 pub returns-in-Ok-read-clause-ok : goal.returns-in-Ok-read-clause-ok
@@ -33,3 +33,12 @@ returns-in-Err-read-clause-bytes_first g c = λ grows a.
 
 pub returns-in-Err-clause-bytes_first : goal.returns-in-Err-clause-bytes_first
 returns-in-Err-clause-bytes_first g c = λ grows a. byte_first (data_at g.L.Leaf.kind) g.R.Read.buffers _ _ _ c.in-Err.ensures.err
+
+-- refusals by name
+pub returns-in-Err-read-clause-named : goal.returns-in-Err-read-clause-named
+returns-in-Err-read-clause-named g c =
+    let b = rw (← c.self-2.view_is) at c.in-Ok.ensures.ok in
+    data_named g.L.Leaf.kind (g.L.Leaf.grows || g.R.Read.buffers) g.R.Read.buffers c.args.self.now _ (g.R.Read.reading c.read.new.reader) c.in-Ok.code c.in-Err-read.e b c.in-Err-read.ensures.err
+
+pub returns-in-Err-clause-named : goal.returns-in-Err-clause-named
+returns-in-Err-clause-named g c = byte_named g.L.Leaf.kind g.L.Leaf.grows g.R.Read.buffers _ _ _ c.in-Err.ensures.err

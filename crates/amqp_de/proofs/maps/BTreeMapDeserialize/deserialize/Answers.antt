@@ -1,6 +1,7 @@
 use Rattle.std.proofs.Common.{rules, refl, ◌∙◌}
 use Rattle.std.specs.BTreeMap.{insert_entry}
 use Rattle.amqp_de.proofs.ReadParts.{missed_on, missed_at, found_at}
+use Rattle.amqp_de.proofs.Naming.{named_any}
 use Rattle.amqp_de.proofs.Pairs.{entries_start, entries_step, entries_found, pair_read, pair_refused, pairs_end, insert_missed}
 use Rattle.amqp_de.specs.ReadParts.{open_list}
 use Rattle.amqp_de.proofs.maps.BTreeMapDeserialize.deserialize.Goals as goal
@@ -62,3 +63,10 @@ unfolding open_list
 returns-in-Err-insert-clause-err g c =
     let m = pair_read c.pairs.invariant.sofar.reads (rw c.in-Some.is at c.in-Ok.ensures.next) in
     insert_missed _ _ _ _ _ m.more _ _ (search rules)
+
+-- nothing is said of a map's refusals
+pub returns-in_err-access-clause-named : goal.returns-in_err-access-clause-named
+returns-in_err-access-clause-named g c = named_any _ _ _ _ _
+
+pub returns-in_err-end-clause-named : goal.returns-in_err-end-clause-named
+returns-in_err-end-clause-named g c = named_any _ _ _ _ _
