@@ -34,29 +34,45 @@ where
     is_taken && answer_of(&T::try_from(others)) == Answer::InvalidLength
 }
 
-#[test]
-fn decimals_and_uuids_are_their_bytes(rt: HostRuntime) {
+/// A decimal32 is its four bytes, and orders as they do.
+fn dec32_is_its_bytes() -> bool {
     let low = Dec32::from([1, 2, 3, 4]);
-    assert!(rt; low.as_inner() == &[1, 2, 3, 4]);
-    assert!(rt; low < Dec32::from([1, 2, 3, 5]));
-    assert!(rt; is_of_width(&[1, 2, 3, 5], &Dec32::from([1, 2, 3, 5]), &[1, 2, 3]));
-    assert!(rt; low.into_inner() == [1, 2, 3, 4]);
+    let high = Dec32::from([1, 2, 3, 5]);
+    let is_ordered = low < high;
+    let has_them = low.as_inner() == &[1, 2, 3, 4];
+    is_ordered && has_them && is_of_width(&[1, 2, 3, 5], &high, &[1, 2, 3])
+}
+
+/// A decimal64 is its eight bytes, also cloned.
+fn dec64_is_its_bytes() -> bool {
     let middle = Dec64::from([9; 8]);
     let again: Result<_, _> = middle.clone();
-    assert!(rt; matches!(&again, Ok(again) if *again == middle));
-    assert!(rt; is_of_width(&[9; 8], &middle, &[0; 9]));
+    let is_cloned = matches!(&again, Ok(again) if *again == middle);
+    let is_wide = is_of_width(&[9; 8], &middle, &[0; 9]);
     let bytes: [u8; 8] = middle.into();
-    assert!(rt; bytes == [9; 8]);
+    is_cloned && is_wide && bytes == [9; 8]
+}
+
+/// A uuid is its sixteen bytes, which can be put in place.
+fn uuid_is_its_bytes() -> bool {
+    let mut uuid = Uuid::from([5; 16]);
+    let is_wide = is_of_width(&[5; 16], &uuid, &[0; 17]);
+    *uuid.as_inner_mut() = [6; 16];
+    let has_them = uuid.as_inner() == &[6; 16];
+    let bytes: [u8; 16] = uuid.into();
+    is_wide && has_them && Uuid::from(bytes) > Uuid::from([5; 16])
+}
+
+#[test]
+fn decimals_and_uuids_are_their_bytes(rt: HostRuntime) {
+    assert!(rt; dec32_is_its_bytes());
+    assert!(rt; Dec32::from([1, 2, 3, 4]).into_inner() == [1, 2, 3, 4]);
+    assert!(rt; dec64_is_its_bytes());
     let high = Dec128::from([7; 16]);
     assert!(rt; is_of_width(&[7; 16], &high, &[0; 15]));
     assert!(rt; high.into_inner() == [7; 16]);
-    let mut uuid = Uuid::from([5; 16]);
-    assert!(rt; is_of_width(&[5; 16], &uuid, &[0; 17]));
-    *uuid.as_inner_mut() = [6; 16];
-    assert!(rt; uuid.as_inner() == &[6; 16]);
-    let bytes: [u8; 16] = uuid.into();
-    assert!(rt; Uuid::from(bytes) > Uuid::from([5; 16]));
-    assert!(rt; Uuid::from(bytes).into_inner() == [6; 16]);
+    assert!(rt; uuid_is_its_bytes());
+    assert!(rt; Uuid::from([6; 16]).into_inner() == [6; 16]);
 }
 
 /// A binary of the bytes has them, also lent and cloned.
