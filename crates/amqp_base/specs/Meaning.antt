@@ -315,9 +315,6 @@ row_of [] = no_field
 row_of (f ∷ fs) = field_of f.name f.meaning f.get (row_of fs)
 
 -- a part of a tuple has no name
-abbrev pub part_of : {V T : Type 0} → Meaning T → (V → T) → Row V → Row V
-part_of m get rest = field_of [] m get rest
-
 abbrev pub part : {V T : Type 0} → Meaning T → (V → T) → Field V
 part m get = at [] m get
 

@@ -18,7 +18,8 @@ pub const VALUE: &str = "AMQP1.0_VALUE";
 /// The name of an enum that reads any item as its payload.
 pub const UNTAGGED_ENUM: &str = "FE2O3_AMQP_UNTAGGED";
 
-/// The most elements of a list or an array that is read; of a map the most keys and values together.
+/// The most elements of a list or an array that is read; of a map the most keys and values
+/// together.
 pub const MAX_ARRAY_COUNT: usize = 65_536;
 
 /// Bytes that the size of a list8 counts before its elements: the count.
@@ -33,10 +34,12 @@ pub const OFFSET_MAP8: usize = 1;
 /// Bytes that the size of a map32 counts before its pairs: the count.
 pub const OFFSET_MAP32: usize = 4;
 
-/// Bytes that the size of an array8 counts before its elements: the count and a primitive constructor.
+/// Bytes that the size of an array8 counts before its elements: the count and a primitive
+/// constructor.
 pub const OFFSET_ARRAY8: usize = 2;
 
-/// Bytes that the size of an array32 counts before its elements: the count and a primitive constructor.
+/// Bytes that the size of an array32 counts before its elements: the count and a primitive
+/// constructor.
 pub const OFFSET_ARRAY32: usize = 5;
 
 /// Bytes of a decimal32.

@@ -2,7 +2,8 @@
 
 ghost use Rattle.std.specs.Prelude.{◌≡◌, ◌⊎◌, ℕ, List, string_bytes};
 ghost use Rattle.std.specs.IoError.{error_kind};
-ghost use Rattle.amqp_base.specs.declared.error.Error.TheVariants.{InvalidUtf8Encoding, OutOfMemory};
+ghost use Rattle.amqp_base.specs.declared.error.Error.TheVariants.{InvalidUtf8Encoding};
+ghost use Rattle.amqp_base.specs.declared.error.Error.TheVariants.{OutOfMemory};
 ghost use Rattle.amqp_base.specs.Faults.{refusal_of};
 ghost use Rattle.amqp_base.specs.Refusals.{IsCustom};
 
@@ -17,15 +18,16 @@ pub enum Error {
     /// A descriptor, a header behind one, or a decimal of another kind; or what `custom` was given.
     #[error("Message {0}")]
     Message(String),
-    /// `UnexpectedEof`: bytes are missing. `Other`: too long to write, or too many bytes read to be counted. Else
-    /// the source's or the writer's own fault.
+    /// `UnexpectedEof`: bytes are missing. `Other`: too long to write, or too many bytes read to be
+    /// counted. Else the source's or the writer's own fault.
     #[error("IO {0:?}")]
     Io(io::ErrorKind),
     /// A byte that is no format code, or a code of another kind than the call asks for.
     #[error("Invalid format code")]
     InvalidFormatCode,
-    /// A count above the cap, an array whose count or elements are above its size, a boolean or a character that
-    /// is none, an array element that can't be written, a call out of order, or a call after a refusal.
+    /// A count above the cap, an array whose count or elements are above its size, a boolean or a
+    /// character that is none, an array element that can't be written, a call out of order, or a
+    /// call after a refusal.
     #[error("Invalid value")]
     InvalidValue,
     /// A text that isn't UTF-8.

@@ -1,6 +1,7 @@
 //! Sources and sinks of bytes, and how often they failed.
 
-ghost use Rattle.std.specs.Prelude.{◌≡◌, ◌<◌, ◌≤◌, ℕ, Bool, true, false, List, [], ◌∷◌, length, Option, None, Some, ◌+◌, IfOk, IsTrue};
+ghost use Rattle.std.specs.Prelude.{◌≡◌, ◌<◌, ◌≤◌, ℕ, Bool, true, false, List, [], ◌∷◌, length};
+ghost use Rattle.std.specs.Prelude.{Option, None, Some, ◌+◌, IfOk, IsTrue};
 ghost use Rattle.std.specs.Borrow.{GName};
 ghost use Rattle.std.specs.Io.{ReadsAtMost};
 ghost use Rattle.std.specs.Io.KnownBytes.{WriteAppends, ReadConsumes, IsAtEnd};
@@ -11,8 +12,9 @@ use crate::Count;
 use std::io;
 use std::io::{Read, Write};
 
-/// How many faults a value has answered, and the kind of the last, for contracts alone. Reading and writing refuse with a
-/// device's own kind of fault only where this count rose, and then with that kind.
+/// How many faults a value has answered, and the kind of the last, for contracts alone. Reading and
+/// writing refuse with a device's own kind of fault only where this count rose, and then with that
+/// kind.
 pub trait FaultCount {
     ghost faults: { Self → ℕ };
 
@@ -31,10 +33,11 @@ pub trait Source: Read + FaultCount + Drop {
     /// The references through which it is lent, outermost first.
     ghost origin: { Self → List GName };
 
-    /// Reads some bytes into the front of `buf` and answers how many, at most its length. 0 for a buffer that isn't empty
-    /// comes only at the end of a source whose bytes are known, or that is honest. An `Err` is the kind of the device's
-    /// fault, the last one then: it raises the count of faults by 1 (want of memory of a source that grows may not) and takes none of the
-    /// known bytes, while `buf` may hold anything.
+    /// Reads some bytes into the front of `buf` and answers how many, at most its length. 0 for a
+    /// buffer that isn't empty comes only at the end of a source whose bytes are known, or that is
+    /// honest. An `Err` is the kind of the device's fault, the last one then: it raises the count
+    /// of faults by 1 (want of memory of a source that grows may not) and takes none of the known
+    /// bytes, while `buf` may hold anything.
     fn read_some(&mut self, buf: &mut [u8]) -> Result<usize, io::ErrorKind>
         ensures len { length buf.new ≡ length buf.old }
         ensures bound { IfOk result (λ n. n ≤ length buf.new) }
@@ -53,9 +56,10 @@ pub trait Source: Read + FaultCount + Drop {
 
 /// A writer, by the one call that the codec makes.
 pub trait Sink: Write + FaultCount + Drop {
-    /// Writes some bytes of the front of `bytes`, at least one where there is one, and answers how many. An `Err` is the
-    /// kind of the device's fault, the last one then: it raises the count of faults by 1 (want of memory of a sink that grows may not) and
-    /// leaves the known contents as they were.
+    /// Writes some bytes of the front of `bytes`, at least one where there is one, and answers how
+    /// many. An `Err` is the kind of the device's fault, the last one then: it raises the count of
+    /// faults by 1 (want of memory of a sink that grows may not) and leaves the known contents as
+    /// they were.
     fn write_some(&mut self, bytes: &[u8]) -> Result<usize, io::ErrorKind>
         ensures bound { IfOk result (λ n. n ≤ length bytes.now) }
         ensures some { IfOk result (λ n. 0 < length bytes.now → 0 < n) }
@@ -136,9 +140,9 @@ impl<W: Sink> Sink for &mut W {
     }
 }
 
-/// Any reader or writer, with its faults counted, by a counter that takes no bytes, and the kind of the last of them kept.
-/// It isn't claimed honest. A write that takes no byte of some is the fault `WriteZero`. No call retries an `Interrupted`
-/// fault.
+/// Any reader or writer, with its faults counted, by a counter that takes no bytes, and the kind of
+/// the last of them kept. It isn't claimed honest. A write that takes no byte of some is the fault
+/// `WriteZero`. No call retries an `Interrupted` fault.
 #[derive(Drop)]
 pub struct Counted<T> {
     inner: T,

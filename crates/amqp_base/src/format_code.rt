@@ -8,8 +8,9 @@ use crate::Error;
 use std::convert::TryFrom;
 use std::fmt;
 
-/// The format codes, each with its byte: the described constructor and the 39 primitive ones (part 1, sections 1.2 and
-/// 1.6; the number behind each is its section). `as u8` gives the byte, `try_from` the code of a byte.
+/// The format codes, each with its byte: the described constructor and the 39 primitive ones (part
+/// 1, sections 1.2 and 1.6; the number behind each is its section). `as u8` gives the byte,
+/// `try_from` the code of a byte.
 #[derive(Debug, Clone, Copy, PartialEq, Eq)]
 pub enum EncodingCodes {
     /// A descriptor and a value stand behind it (1.2).
@@ -88,9 +89,11 @@ pub enum EncodingCodes {
     Map8 = 0xc1,
     /// Map: a size and a count of 4 bytes each, then keys and values in turn (1.6.23).
     Map32 = 0xd1,
-    /// Array: a size and a count of 1 byte each, then element constructor, data of each element (1.6.24).
+    /// Array: a size and a count of 1 byte each, then element constructor, data of each element
+    /// (1.6.24).
     Array8 = 0xe0,
-    /// Array: a size and a count of 4 bytes each, then element constructor, data of each element (1.6.24).
+    /// Array: a size and a count of 4 bytes each, then element constructor, data of each element
+    /// (1.6.24).
     Array32 = 0xf0,
 }
 
@@ -103,7 +106,8 @@ pub enum Category {
     Variable(usize),
     /// A size and a count of so many bytes each, then items with constructors of their own.
     Compound(usize),
-    /// A size and a count of so many bytes each, one element constructor, then the data of each element.
+    /// A size and a count of so many bytes each, one element constructor, then the data of each
+    /// element.
     Array(usize),
 }
 

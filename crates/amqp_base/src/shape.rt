@@ -26,6 +26,7 @@ pub enum Shape {
     Tuple(usize),
     /// A map whose keys and values are its parts in turn.
     Map,
-    /// A map from the names of a struct's fields to their values, which are under the described map setting.
+    /// A map from the names of a struct's fields to their values, which are under the described map
+    /// setting.
     Fields,
 }

@@ -27,11 +27,11 @@ fn code_ahead<R: Read>(reader: &mut R) -> Result<EncodingCodes, Error>
 }
 
 impl<R: Read> Deserializer<R> {
-    /// The code of the next item (part 1, section 1.2): inside an array that of its elements, else that of the next
-    /// byte. Nothing is consumed, whatever is answered.
+    /// The code of the next item (part 1, section 1.2): inside an array that of its elements, else
+    /// that of the next byte. Nothing is consumed, whatever is answered.
     ///
-    /// `Io(UnexpectedEof)` where there is no byte, `InvalidFormatCode` where it is no code, and what the reader
-    /// refuses. A refusal ends the deserializer.
+    /// `Io(UnexpectedEof)` where there is no byte, `InvalidFormatCode` where it is no code, and
+    /// what the reader refuses. A refusal ends the deserializer.
     pub fn deserialize_any(&mut self) -> Result<EncodingCodes, Error>
         ensures ok { IfOk result (λ e. Looks self.old self.new e) }
         ensures err { IfErr result (λ e. LooksNot R.buffers self.old self.new e) }
@@ -58,10 +58,11 @@ impl<R: Read> Deserializer<R> {
         }
     }
 
-    /// The value of a newtype struct: it is nothing of its own on the wire, whatever its name, so this reads the value
-    /// that it holds.
+    /// The value of a newtype struct: it is nothing of its own on the wire, whatever its name, so
+    /// this reads the value that it holds.
     ///
-    /// The refusals are those of `T`; each of them, also one that `T` makes itself, ends the deserializer.
+    /// The refusals are those of `T`; each of them, also one that `T` makes itself, ends the
+    /// deserializer.
     #[inline(always)]
     pub fn deserialize_newtype_struct<T: Deserialize<R>>(
         &mut self,

@@ -9,7 +9,8 @@ pub(crate) enum Descriptor {
     Code(u64),
 }
 
-/// What an item stands under: a code of its own, the code of an array's elements, or their descriptor and code.
+/// What an item stands under: a code of its own, the code of an array's elements, or their
+/// descriptor and code.
 #[derive(Debug, Drop)]
 pub(crate) enum Constructor {
     Bare,

@@ -45,10 +45,11 @@ fn data<R: Read>(reader: &mut R, code: u8) -> Result<Decimal, Error>
 }
 
 impl<R: Read> Deserializer<R> {
-    /// A decimal of any of the three widths (part 1, sections 1.6.13 to 1.6.15): its 4, 8 or 16 bytes, as they are.
+    /// A decimal of any of the three widths (part 1, sections 1.6.13 to 1.6.15): its 4, 8 or 16
+    /// bytes, as they are.
     ///
-    /// `Io(UnexpectedEof)` where bytes are missing, `InvalidFormatCode` where another item stands. A refusal ends the
-    /// deserializer.
+    /// `Io(UnexpectedEof)` where bytes are missing, `InvalidFormatCode` where another item stands.
+    /// A refusal ends the deserializer.
     #[inline(always)]
     pub fn deserialize_decimal(&mut self) -> Result<Decimal, Error>
         ensures ok { IfOk result (λ d.
@@ -107,8 +108,9 @@ fn of_width<R: Read>(
 }
 
 impl<R: Read> Deserialize<R> for Dec32 {
-    /// A decimal32 (part 1, section 1.6.13). A decimal of another width is a `Message`, before its data are looked at, and
-    /// consumes nothing; else the refusals are those of `deserialize_decimal`.
+    /// A decimal32 (part 1, section 1.6.13). A decimal of another width is a `Message`, before its
+    /// data are looked at, and consumes nothing; else the refusals are those of
+    /// `deserialize_decimal`.
     #[tactic(auto, using(crate::proofs::Naming::named_any), unfolding(amqp_base::specs::Codes::row, amqp_base::specs::SameKind::same_kind, amqp_base::specs::SameKind::place))]
     fn deserialize(alloc: Global, de: &mut Deserializer<R>) -> Result<Dec32, Error> {
         match of_width(alloc, de, EncodingCodes::Decimal32, "expected a decimal32") {
@@ -122,8 +124,9 @@ impl<R: Read> Deserialize<R> for Dec32 {
 }
 
 impl<R: Read> Deserialize<R> for Dec64 {
-    /// A decimal64 (part 1, section 1.6.14). A decimal of another width is a `Message`, before its data are looked at, and
-    /// consumes nothing; else the refusals are those of `deserialize_decimal`.
+    /// A decimal64 (part 1, section 1.6.14). A decimal of another width is a `Message`, before its
+    /// data are looked at, and consumes nothing; else the refusals are those of
+    /// `deserialize_decimal`.
     #[tactic(auto, using(crate::proofs::Naming::named_any), unfolding(amqp_base::specs::Codes::row, amqp_base::specs::SameKind::same_kind, amqp_base::specs::SameKind::place))]
     fn deserialize(alloc: Global, de: &mut Deserializer<R>) -> Result<Dec64, Error> {
         match of_width(alloc, de, EncodingCodes::Decimal64, "expected a decimal64") {
@@ -137,8 +140,9 @@ impl<R: Read> Deserialize<R> for Dec64 {
 }
 
 impl<R: Read> Deserialize<R> for Dec128 {
-    /// A decimal128 (part 1, section 1.6.15). A decimal of another width is a `Message`, before its data are looked at,
-    /// and consumes nothing; else the refusals are those of `deserialize_decimal`.
+    /// A decimal128 (part 1, section 1.6.15). A decimal of another width is a `Message`, before its
+    /// data are looked at, and consumes nothing; else the refusals are those of
+    /// `deserialize_decimal`.
     #[tactic(auto, using(crate::proofs::Naming::named_any), unfolding(amqp_base::specs::Codes::row, amqp_base::specs::SameKind::same_kind, amqp_base::specs::SameKind::place))]
     fn deserialize(alloc: Global, de: &mut Deserializer<R>) -> Result<Dec128, Error> {
         match of_width(

@@ -9,15 +9,16 @@ use amqp_read::Read;
 use amqp_types::{Binary, Double, Float, Symbol, Timestamp, Uuid};
 use std::alloc::Global;
 
-/// A type that is read from a reader. Types of one's own implement it generically over `R`, by the calls of the
-/// `Deserializer` alone; `Typed` says which items the type takes, and which value each of them is.
+/// A type that is read from a reader. Types of one's own implement it generically over `R`, by the
+/// calls of the `Deserializer` alone; `Typed` says which items the type takes, and which value each
+/// of them is.
 pub trait Deserialize<R: Read>: Typed + Sized {
     /// Reads the value of the next item, and consumes just that item's bytes.
     ///
-    /// A value is answered only where a front of the bytes spells an item that the type takes. Where such an item
-    /// stands there, the only refusals are `OutOfMemory` (of a type that takes memory, or a reader that buffers), a
-    /// fault of the source, and `Io(Other)` where the bytes can't be counted. An error leaves the reader at most behind
-    /// the item.
+    /// A value is answered only where a front of the bytes spells an item that the type takes.
+    /// Where such an item stands there, the only refusals are `OutOfMemory` (of a type that takes
+    /// memory, or a reader that buffers), a fault of the source, and `Io(Other)` where the bytes
+    /// can't be counted. An error leaves the reader at most behind the item.
     fn deserialize(alloc: Global, de: &mut Deserializer<R>) -> Result<Self, Error>
         ensures ok { IfOk result (λ v. IsRead Self.meaning v de.old de.new) }
         ensures err { IfErr result (λ e. IsRefused Self.meaning R.buffers de.old de.new e) }

@@ -14,12 +14,14 @@ use std::marker::Model;
 
 /// Reads values from a reader, one after the other.
 ///
-/// After a refusal by one of its calls, and after an access that was dropped without its `end`, the deserializer is
-/// ended: every call is refused as `InvalidValue` and changes nothing, and `into_reader` still gives the reader.
+/// After a refusal by one of its calls, and after an access that was dropped without its `end`, the
+/// deserializer is ended: every call is refused as `InvalidValue` and changes nothing, and
+/// `into_reader` still gives the reader.
 ///
-/// Bytes are looked at from left to right, and the first rule broken names the refusal. Over a reader that buffers,
-/// every call that reads may also answer `OutOfMemory`, `Io` of the source's own kind, and `Io(Other)` where the count
-/// of the bytes consumed would pass `usize::MAX`; no received byte is lost then.
+/// Bytes are looked at from left to right, and the first rule broken names the refusal. Over a
+/// reader that buffers, every call that reads may also answer `OutOfMemory`, `Io` of the source's
+/// own kind, and `Io(Other)` where the count of the bytes consumed would pass `usize::MAX`; no
+/// received byte is lost then.
 #[derive(Drop)]
 pub struct Deserializer<R: Read> {
     pub(crate) reader: R,
@@ -35,7 +37,14 @@ impl<R: Read> Model for Deserializer<R> {
 
     ghost Value = { Decoding };
 
-    ghost view = { λ d. record { reading = R.reading d.reader; answers = d.answers; inherited = constructor_of d.inherited; described = d.described; begun = d.begun.n } };
+    ghost view = { λ d. record {
+      reading = R.reading d.reader;
+      answers = d.answers;
+      inherited =
+          constructor_of d.inherited;
+      described = d.described;
+      begun = d.begun.n;
+    } };
 }
 
 impl<R: Read> Deserializer<R> {
@@ -58,7 +67,8 @@ impl<R: Read> Deserializer<R> {
         }
     }
 
-    /// The reader, where it stands, also behind a refusal. What it has received and not consumed is still in it.
+    /// The reader, where it stands, also behind a refusal. What it has received and not consumed is
+    /// still in it.
     pub fn into_reader(self) -> R
         ensures { R.reading result ≡ self.reading }
     {

@@ -1,22 +1,26 @@
 //! The fields of a struct, read by their names or in order.
 
-ghost use Rattle.std.specs.Prelude.{◌≡◌, Bool, false, ◌||◌, IsTrue, Option, Some, None, List, ◌++◌, length, IfErr, OnOk};
+ghost use Rattle.std.specs.Prelude.{◌≡◌, Bool, false, ◌||◌, IsTrue, Option, Some, None, List, ◌++◌};
+ghost use Rattle.std.specs.Prelude.{length, IfErr, OnOk};
 ghost use Rattle.amqp_base.specs.Item.{Item, Items};
 ghost use Rattle.amqp_de.specs.Decoding.{Decoding};
 ghost use Rattle.amqp_de.specs.ReadParts.{Progress, open_list};
-ghost use Rattle.amqp_de.specs.ReadFields.{Slots, no_slots, slot, awaits, all_read, HaveValues, FieldRead, NoField, RowRead, NoRow};
+ghost use Rattle.amqp_de.specs.ReadFields.{Slots, no_slots, slot, awaits, all_read, HaveValues};
+ghost use Rattle.amqp_de.specs.ReadFields.{FieldRead, NoField, RowRead, NoRow};
 
 use crate::{Deserialize, ListAccess, MapAccess};
 use amqp_base::Error;
 use amqp_read::Read;
 use std::alloc::Global;
 
-/// The fields of a struct while it is read: a `Field` and the fields behind it, and `()` behind the last.
+/// The fields of a struct while it is read: a `Field` and the fields behind it, and `()` behind the
+/// last.
 pub trait Fields<R: Read>: Drop {
     ghost use Rattle.std.specs.Prelude.{Bool};
     ghost use Rattle.amqp_de.specs.ReadFields.{Slots};
 
-    /// Their values: that of the first field and those of the fields behind it, and `()` behind the last.
+    /// Their values: that of the first field and those of the fields behind it, and `()` behind the
+    /// last.
     type Values: Drop;
 
     /// The fields that have no value yet.
@@ -32,8 +36,9 @@ pub trait Fields<R: Read>: Drop {
 
     /// Reads the next value of a map as that of the field under a name.
     ///
-    /// A `Message` where no field without a value has this name, and then the value isn't looked at; else the refusals of the
-    /// field's type. Drop the access behind a refusal: its deserializer is ended then.
+    /// A `Message` where no field without a value has this name, and then the value isn't looked
+    /// at; else the refusals of the field's type. Drop the access behind a refusal: its
+    /// deserializer is ended then.
     fn read_field(
         &mut self,
         alloc: Global,
@@ -48,8 +53,8 @@ pub trait Fields<R: Read>: Drop {
 
     /// Reads the next elements of a list as the fields without a value, in order.
     ///
-    /// The refusals are those of the fields' types, and `SequenceLengthMismatch` where there are fewer elements. Drop the access
-    /// behind a refusal: its deserializer is ended then.
+    /// The refusals are those of the fields' types, and `SequenceLengthMismatch` where there are
+    /// fewer elements. Drop the access behind a refusal: its deserializer is ended then.
     fn read_elements(&mut self, alloc: Global, list: &mut ListAccess<'_, R>) -> Result<(), Error>
         ensures same_reference { list.new.de.ghost_name ≡ list.old.de.ghost_name }
         ensures read { OnOk result ((old : Decoding) (all rest : List (Item → Bool))
@@ -103,7 +108,8 @@ impl<R: Read> Fields<R> for () {
     }
 }
 
-/// A field under its name, and the fields behind it: `Field::new("bar", Field::new("is_fool", ()))`.
+/// A field under its name, and the fields behind it:
+/// `Field::new("bar", Field::new("is_fool", ()))`.
 #[derive(Drop)]
 pub struct Field<'n, T, Rest> {
     /// Its name.
@@ -152,7 +158,8 @@ impl<'n, T: Drop, Rest: Drop> Field<'n, T, Rest> {
 impl<'n, R: Read, T: Deserialize<R>, Rest: Fields<R>> Fields<R> for Field<'n, T, Rest> {
     type Values = (T, Rest::Values);
 
-    ghost slots = { λ f. slot f.name.now T.meaning.takes T.meaning.means f.value (Rest.slots f.rest) };
+    ghost slots = { λ f.
+        slot f.name.now T.meaning.takes T.meaning.means f.value (Rest.slots f.rest) };
 
     ghost grows = { T.meaning.grows || Rest.grows };
 

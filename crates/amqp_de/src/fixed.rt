@@ -121,10 +121,11 @@ impl Leaf for AsUuid {
 }
 
 impl<R: Read> Deserializer<R> {
-    /// A float (part 1, section 1.6.11): the bits of an IEEE 754 binary32, in 4 bytes. Every bit pattern is taken, and kept.
+    /// A float (part 1, section 1.6.11): the bits of an IEEE 754 binary32, in 4 bytes. Every bit
+    /// pattern is taken, and kept.
     ///
-    /// `Io(UnexpectedEof)` where bytes are missing, `InvalidFormatCode` where another item stands. A refusal ends the
-    /// deserializer.
+    /// `Io(UnexpectedEof)` where bytes are missing, `InvalidFormatCode` where another item stands.
+    /// A refusal ends the deserializer.
     #[inline(always)]
     pub fn deserialize_f32(&mut self) -> Result<Float, Error>
         ensures { ReadsScalar Kind.float float R.buffers R.buffers self.old result self.new }
@@ -132,10 +133,11 @@ impl<R: Read> Deserializer<R> {
         self.leaf(AsFloat)
     }
 
-    /// A double (part 1, section 1.6.12): the bits of an IEEE 754 binary64, in 8 bytes. Every bit pattern is taken, and kept.
+    /// A double (part 1, section 1.6.12): the bits of an IEEE 754 binary64, in 8 bytes. Every bit
+    /// pattern is taken, and kept.
     ///
-    /// `Io(UnexpectedEof)` where bytes are missing, `InvalidFormatCode` where another item stands. A refusal ends the
-    /// deserializer.
+    /// `Io(UnexpectedEof)` where bytes are missing, `InvalidFormatCode` where another item stands.
+    /// A refusal ends the deserializer.
     #[inline(always)]
     pub fn deserialize_f64(&mut self) -> Result<Double, Error>
         ensures { ReadsScalar Kind.double double R.buffers R.buffers self.old result self.new }
@@ -143,10 +145,11 @@ impl<R: Read> Deserializer<R> {
         self.leaf(AsDouble)
     }
 
-    /// A timestamp (part 1, section 1.6.17): milliseconds since the Unix epoch, two's complement in 8 bytes.
+    /// A timestamp (part 1, section 1.6.17): milliseconds since the Unix epoch, two's complement in
+    /// 8 bytes.
     ///
-    /// `Io(UnexpectedEof)` where bytes are missing, `InvalidFormatCode` where another item stands. A refusal ends the
-    /// deserializer.
+    /// `Io(UnexpectedEof)` where bytes are missing, `InvalidFormatCode` where another item stands.
+    /// A refusal ends the deserializer.
     #[inline(always)]
     pub fn deserialize_timestamp(&mut self) -> Result<Timestamp, Error>
         ensures { ReadsScalar Kind.timestamp timestamp R.buffers R.buffers self.old
@@ -157,8 +160,8 @@ impl<R: Read> Deserializer<R> {
 
     /// A uuid (part 1, section 1.6.18): 16 bytes.
     ///
-    /// `Io(UnexpectedEof)` where bytes are missing, `InvalidFormatCode` where another item stands. A refusal ends the
-    /// deserializer.
+    /// `Io(UnexpectedEof)` where bytes are missing, `InvalidFormatCode` where another item stands.
+    /// A refusal ends the deserializer.
     #[inline(always)]
     pub fn deserialize_uuid(&mut self) -> Result<Uuid, Error>
         ensures { ReadsScalar Kind.uuid uuid R.buffers R.buffers self.old result self.new }

@@ -3,7 +3,8 @@
 ghost use Rattle.std.specs.Prelude.{nat_lt, ◌&&◌, ◌≡◌, ◌⊎◌, ◌%◌, false, None, IfOk, IfErr};
 ghost use Rattle.amqp_base.specs.Wire.{bare};
 ghost use Rattle.amqp_de.specs.Access.{Header, HasParts, HasPairs, OpensData};
-ghost use Rattle.amqp_base.specs.Parse.{header_at, least_size, behind_byte, list_data, pairs_at, map_data};
+ghost use Rattle.amqp_base.specs.Parse.{header_at, least_size, behind_byte, list_data, pairs_at};
+ghost use Rattle.amqp_base.specs.Parse.{map_data};
 ghost use Rattle.amqp_de.specs.Steps.{Rejects, ParsesAs};
 
 use crate::payloads::number;
@@ -54,8 +55,8 @@ fn passes_size(is_array: bool, size: u32, count: u32) -> bool
     is_array && size < count
 }
 
-/// What a size must cover: the count's own bytes, and in an array with elements the first byte of their constructor; in one
-/// without elements nothing.
+/// What a size must cover: the count's own bytes, and in an array with elements the first byte of
+/// their constructor; in one without elements nothing.
 #[inline(always)]
 fn least_size(width: u32, is_array: bool, count: u32) -> u32
     requires { (width ≡ 1) ⊎ (width ≡ 4) }

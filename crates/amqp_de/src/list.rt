@@ -1,10 +1,12 @@
 //! The parts of a list, one at a time.
 
-ghost use Rattle.std.specs.Prelude.{◌≡◌, Bool, true, false, Option, Some, None, List, IsTrue, Ok, Err, IfOk, IfErr};
+ghost use Rattle.std.specs.Prelude.{◌≡◌, Bool, true, false, Option, Some, None, List, IsTrue, Ok};
+ghost use Rattle.std.specs.Prelude.{Err, IfOk, IfErr};
 ghost use Rattle.std.specs.Borrow.{sem, RestsIfErr};
 ghost use Rattle.amqp_base.specs.Item.{Item, none};
 ghost use Rattle.amqp_base.specs.declared.error.Error.TheVariants.{SequenceLengthMismatch};
-ghost use Rattle.amqp_de.specs.Access.{Within, HasParts, Ends, Opens, OpensExactly, OpensNot, Plain};
+ghost use Rattle.amqp_de.specs.Access.{Within, HasParts, Ends, Opens, OpensExactly, OpensNot};
+ghost use Rattle.amqp_de.specs.Access.{Plain};
 ghost use Rattle.amqp_de.specs.Decoding.{silenced};
 ghost use Rattle.amqp_base.specs.Parse.{list_data, tuple_data};
 ghost use Rattle.amqp_de.specs.Places.{limit_of};
@@ -22,8 +24,8 @@ use amqp_read::Read;
 use std::alloc::Global;
 use std::mem;
 
-/// The parts of an item, one at a time. Its deserializer answers nothing until `end` succeeded; where the access is dropped
-/// before, the deserializer is ended.
+/// The parts of an item, one at a time. Its deserializer answers nothing until `end` succeeded;
+/// where the access is dropped before, the deserializer is ended.
 pub struct Access<'a, R: Read, F, O = Open> {
     pub(crate) de: &'a mut Deserializer<R>,
     pub(crate) inner: O,
@@ -56,7 +58,8 @@ pub type ListAccess<'a, R> = Access<'a, R, Elements>;
 /// The keys and values of a map (part 1, section 1.6.23), one pair at a time.
 pub type MapAccess<'a, R> = Access<'a, R, Entries>;
 
-/// How many parts are left, whether calls are answered, what was inherited before, and where the parts must have ended.
+/// How many parts are left, whether calls are answered, what was inherited before, and where the
+/// parts must have ended.
 #[derive(Drop)]
 pub struct Open {
     pub(crate) left: u32,
@@ -179,13 +182,14 @@ impl<R: Read> Deserializer<R> {
         }
     }
 
-    /// Opens a tuple: a list (part 1, section 1.6.22) of `len` elements. Its code, size and count are consumed. The size
-    /// is not compared with the bytes that are there.
+    /// Opens a tuple: a list (part 1, section 1.6.22) of `len` elements. Its code, size and count
+    /// are consumed. The size is not compared with the bytes that are there.
     ///
-    /// In this order: `Io(UnexpectedEof)` where there is no byte, `InvalidFormatCode` where it is no list's code,
-    /// `Io(UnexpectedEof)` where size or count are missing, `InvalidValue` where the count is above 65,536,
-    /// `InvalidLength` where the size doesn't cover the count's own bytes, `SequenceLengthMismatch` where the count isn't
-    /// `len`. A refusal ends the deserializer.
+    /// In this order: `Io(UnexpectedEof)` where there is no byte, `InvalidFormatCode` where it is
+    /// no list's code, `Io(UnexpectedEof)` where size or count are missing, `InvalidValue` where
+    /// the count is above 65,536, `InvalidLength` where the size doesn't cover the count's own
+    /// bytes, `SequenceLengthMismatch` where the count isn't `len`. A refusal ends the
+    /// deserializer.
     #[tactic(auto, unfolding(crate::specs::ReadParts::open_list))]
     pub fn deserialize_tuple(&mut self, len: usize) -> Result<ListAccess<'_, R>, Error>
         ensures* refused { sem 𝓛 (RestsIfErr (the_row R.row R.Read) self.entry (λ a.
@@ -209,8 +213,9 @@ impl<R: Read> Deserializer<R> {
 impl<'a, R: Read> Access<'a, R, Elements> {
     /// The next element; `None` where all were read, and then nothing is consumed.
     ///
-    /// The refusals are those of `T`, and `InvalidValue` where the elements so far take more bytes than their array
-    /// has, or after a refusal. Each of them ends the access and its deserializer: every later call is `InvalidValue`.
+    /// The refusals are those of `T`, and `InvalidValue` where the elements so far take more bytes
+    /// than their array has, or after a refusal. Each of them ends the access and its deserializer:
+    /// every later call is `InvalidValue`.
     #[inline(always)]
     pub fn next_element<T: Deserialize<R>>(&mut self, alloc: Global) -> Result<Option<T>, Error>
         ensures same_reference { self.new.de.ghost_name ≡ self.old.de.ghost_name }
@@ -226,8 +231,8 @@ impl<'a, R: Read> Access<'a, R, Elements> {
 impl<'a, R: Read, F: Copy> Access<'a, R, F> {
     /// Ends the access: its deserializer answers again. Nothing is consumed.
     ///
-    /// `SequenceLengthMismatch` where elements were left unread, `InvalidValue` after a refusal; the deserializer is
-    /// ended then.
+    /// `SequenceLengthMismatch` where elements were left unread, `InvalidValue` after a refusal;
+    /// the deserializer is ended then.
     #[inline(always)]
     pub fn end(self) -> Result<(), Error>
         ensures ends { Ends (open_list self.entry) result self.exit.0.now }
@@ -237,7 +242,8 @@ impl<'a, R: Read, F: Copy> Access<'a, R, F> {
     }
 }
 
-/// What `SeqAccess::end` answers: the deserializer behind an access that ended. It answers again once this is dropped.
+/// What `SeqAccess::end` answers: the deserializer behind an access that ended. It answers again
+/// once this is dropped.
 #[derive(Drop)]
 pub struct Ended<'a, R: Read> {
     de: &'a mut Deserializer<R>,

@@ -1,6 +1,7 @@
 //! The keys and values of a map, one pair at a time.
 
-ghost use Rattle.std.specs.Prelude.{◌≡◌, ◌%◌, Bool, true, false, Option, Some, None, Ok, Err, IfOk, IfErr};
+ghost use Rattle.std.specs.Prelude.{◌≡◌, ◌%◌, Bool, true, false, Option, Some, None, Ok, Err, IfOk};
+ghost use Rattle.std.specs.Prelude.{IfErr};
 ghost use Rattle.std.specs.Borrow.{sem, RestsIfErr};
 ghost use Rattle.amqp_base.specs.Item.{Item, no_pairs, map};
 ghost use Rattle.amqp_de.specs.Access.{HasPairs, Opens, OpensExactly, OpensNot};
@@ -58,13 +59,13 @@ impl<R: Read> Deserializer<R> {
         self.begin_map()
     }
 
-    /// Opens a map (part 1, section 1.6.23): its code, size and count are consumed. The size is not compared with the bytes
-    /// that are there.
+    /// Opens a map (part 1, section 1.6.23): its code, size and count are consumed. The size is not
+    /// compared with the bytes that are there.
     ///
-    /// In this order: `Io(UnexpectedEof)` where there is no byte, `InvalidFormatCode` where it is no map's code,
-    /// `Io(UnexpectedEof)` where size or count are missing, `InvalidValue` where the count of keys and values is above
-    /// 65,536, `InvalidLength` where the size doesn't cover the count's own bytes, and where the count is odd. A refusal ends
-    /// the deserializer.
+    /// In this order: `Io(UnexpectedEof)` where there is no byte, `InvalidFormatCode` where it is
+    /// no map's code, `Io(UnexpectedEof)` where size or count are missing, `InvalidValue` where the
+    /// count of keys and values is above 65,536, `InvalidLength` where the size doesn't cover the
+    /// count's own bytes, and where the count is odd. A refusal ends the deserializer.
     #[inline(always)]
     pub fn deserialize_map(&mut self) -> Result<MapAccess<'_, R>, Error>
         ensures* refused { sem 𝓛 (RestsIfErr (the_row R.row R.Read) self.entry (λ a.
@@ -87,8 +88,9 @@ impl<R: Read> Deserializer<R> {
 impl<'a, R: Read> Access<'a, R, Entries> {
     /// The next key; `None` where all pairs were read, and then nothing is consumed.
     ///
-    /// The refusals are those of `K`, and `InvalidValue` where the value of the last key isn't read yet, or after a refusal.
-    /// Each of them ends the access and its deserializer: every later call is `InvalidValue`.
+    /// The refusals are those of `K`, and `InvalidValue` where the value of the last key isn't read
+    /// yet, or after a refusal. Each of them ends the access and its deserializer: every later call
+    /// is `InvalidValue`.
     #[inline(always)]
     pub fn next_key<K: Deserialize<R>>(&mut self, alloc: Global) -> Result<Option<K>, Error>
         ensures same_reference { self.new.de.ghost_name ≡ self.old.de.ghost_name }
@@ -107,8 +109,9 @@ impl<'a, R: Read> Access<'a, R, Entries> {
 
     /// The value of the last key.
     ///
-    /// The refusals are those of `V`, and `InvalidValue` where no key was read that has no value yet, or after a refusal.
-    /// Each of them ends the access and its deserializer: every later call is `InvalidValue`.
+    /// The refusals are those of `V`, and `InvalidValue` where no key was read that has no value
+    /// yet, or after a refusal. Each of them ends the access and its deserializer: every later call
+    /// is `InvalidValue`.
     #[inline(always)]
     pub fn next_value<V: Deserialize<R>>(&mut self, alloc: Global) -> Result<V, Error>
         ensures same_reference { self.new.de.ghost_name ≡ self.old.de.ghost_name }
@@ -127,7 +130,8 @@ impl<'a, R: Read> Access<'a, R, Entries> {
         }
     }
 
-    /// The next key and its value, as `next_key` and `next_value` one after the other; `None` where all pairs were read.
+    /// The next key and its value, as `next_key` and `next_value` one after the other; `None` where
+    /// all pairs were read.
     #[inline(always)]
     pub fn next_entry<K: Deserialize<R>, V: Deserialize<R>>(
         &mut self,

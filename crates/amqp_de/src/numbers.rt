@@ -122,8 +122,8 @@ impl Leaf for AsShort {
 impl<R: Read> Deserializer<R> {
     /// A ubyte (part 1, section 1.6.3): 1 byte.
     ///
-    /// `Io(UnexpectedEof)` where bytes are missing, `InvalidFormatCode` where another item stands. A refusal ends the
-    /// deserializer.
+    /// `Io(UnexpectedEof)` where bytes are missing, `InvalidFormatCode` where another item stands.
+    /// A refusal ends the deserializer.
     #[inline(always)]
     pub fn deserialize_u8(&mut self) -> Result<u8, Error>
         ensures { ReadsScalar Kind.ubyte ubyte R.buffers R.buffers self.old result self.new }
@@ -133,8 +133,8 @@ impl<R: Read> Deserializer<R> {
 
     /// An ushort (part 1, section 1.6.4): 2 bytes.
     ///
-    /// `Io(UnexpectedEof)` where bytes are missing, `InvalidFormatCode` where another item stands. A refusal ends the
-    /// deserializer.
+    /// `Io(UnexpectedEof)` where bytes are missing, `InvalidFormatCode` where another item stands.
+    /// A refusal ends the deserializer.
     #[inline(always)]
     pub fn deserialize_u16(&mut self) -> Result<u16, Error>
         ensures { ReadsScalar Kind.ushort ushort R.buffers R.buffers self.old result self.new }
@@ -144,8 +144,8 @@ impl<R: Read> Deserializer<R> {
 
     /// A byte (part 1, section 1.6.7): two's complement in 1 byte.
     ///
-    /// `Io(UnexpectedEof)` where bytes are missing, `InvalidFormatCode` where another item stands. A refusal ends the
-    /// deserializer.
+    /// `Io(UnexpectedEof)` where bytes are missing, `InvalidFormatCode` where another item stands.
+    /// A refusal ends the deserializer.
     #[inline(always)]
     pub fn deserialize_i8(&mut self) -> Result<i8, Error>
         ensures { ReadsScalar Kind.byte byte R.buffers R.buffers self.old result self.new }
@@ -155,8 +155,8 @@ impl<R: Read> Deserializer<R> {
 
     /// A short (part 1, section 1.6.8): two's complement in 2 bytes.
     ///
-    /// `Io(UnexpectedEof)` where bytes are missing, `InvalidFormatCode` where another item stands. A refusal ends the
-    /// deserializer.
+    /// `Io(UnexpectedEof)` where bytes are missing, `InvalidFormatCode` where another item stands.
+    /// A refusal ends the deserializer.
     #[inline(always)]
     pub fn deserialize_i16(&mut self) -> Result<i16, Error>
         ensures { ReadsScalar Kind.short short R.buffers R.buffers self.old result self.new }

@@ -11,11 +11,11 @@ use amqp_read::Read;
 use std::alloc::Global;
 
 impl<R: Read> Deserializer<R> {
-    /// A value that may be missing: null (part 1, section 1.6.1) is `None`, and its byte is consumed, save in an array,
-    /// where it isn't there. Any other item is read as a `T`.
+    /// A value that may be missing: null (part 1, section 1.6.1) is `None`, and its byte is
+    /// consumed, save in an array, where it isn't there. Any other item is read as a `T`.
     ///
-    /// `Io(UnexpectedEof)` where there is no byte, `InvalidFormatCode` where it is no code, else the refusals of `T`. Each
-    /// of them, also one that `T` makes itself, ends the deserializer.
+    /// `Io(UnexpectedEof)` where there is no byte, `InvalidFormatCode` where it is no code, else
+    /// the refusals of `T`. Each of them, also one that `T` makes itself, ends the deserializer.
     pub fn deserialize_option<T: Deserialize<R>>(
         &mut self,
         alloc: Global,
@@ -44,7 +44,8 @@ impl<R: Read> Deserializer<R> {
 }
 
 impl<R: Read, T: Deserialize<R>> Deserialize<R> for Option<T> {
-    /// Null is `None`, any other item a value of the type. The refusals are those of `deserialize_option`.
+    /// Null is `None`, any other item a value of the type. The refusals are those of
+    /// `deserialize_option`.
     #[inline(always)]
     fn deserialize(alloc: Global, de: &mut Deserializer<R>) -> Result<Option<T>, Error> {
         de.deserialize_option(alloc)

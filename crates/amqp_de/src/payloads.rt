@@ -156,8 +156,9 @@ impl Leaf for AsBinary {
 impl<R: Read> Deserializer<R> {
     /// A binary (part 1, section 1.6.19), with a length of 1 or of 4 bytes.
     ///
-    /// `Io(UnexpectedEof)` where bytes are missing, `InvalidFormatCode` where another item stands, a string or a symbol
-    /// too, `OutOfMemory` where the bytes, which are all there, find no memory. A refusal ends the deserializer.
+    /// `Io(UnexpectedEof)` where bytes are missing, `InvalidFormatCode` where another item stands,
+    /// a string or a symbol too, `OutOfMemory` where the bytes, which are all there, find no
+    /// memory. A refusal ends the deserializer.
     pub fn deserialize_byte_buf(&mut self, alloc: Global) -> Result<Vec<u8>, Error>
         ensures reads { ReadsScalar Kind.binary (λ v.
             binary v.items) true R.buffers self.old result self.new }
@@ -168,9 +169,9 @@ impl<R: Read> Deserializer<R> {
 
     /// A string (part 1, section 1.6.20), with a length of 1 or of 4 bytes, which counts bytes.
     ///
-    /// `Io(UnexpectedEof)` where bytes are missing, `InvalidFormatCode` where another item stands, a symbol or a binary
-    /// too, `InvalidUtf8Encoding` where all bytes are there and aren't UTF-8, `OutOfMemory` where the text finds no
-    /// memory. A refusal ends the deserializer.
+    /// `Io(UnexpectedEof)` where bytes are missing, `InvalidFormatCode` where another item stands,
+    /// a symbol or a binary too, `InvalidUtf8Encoding` where all bytes are there and aren't UTF-8,
+    /// `OutOfMemory` where the text finds no memory. A refusal ends the deserializer.
     #[inline(always)]
     pub fn deserialize_string(&mut self, alloc: Global) -> Result<String, Error>
         ensures reads { ReadsScalar Kind.string (λ s.
@@ -180,12 +181,12 @@ impl<R: Read> Deserializer<R> {
         self.leaf(AsString(alloc))
     }
 
-    /// A symbol (part 1, section 1.6.21), with a length of 1 or of 4 bytes. Any UTF-8 is taken: this profile's own rule,
-    /// the standard has ASCII alone.
+    /// A symbol (part 1, section 1.6.21), with a length of 1 or of 4 bytes. Any UTF-8 is taken:
+    /// this profile's own rule, the standard has ASCII alone.
     ///
-    /// `Io(UnexpectedEof)` where bytes are missing, `InvalidFormatCode` where another item stands, a string or a binary
-    /// too, `InvalidUtf8Encoding` where all bytes are there and aren't UTF-8, `OutOfMemory` where the text finds no
-    /// memory. A refusal ends the deserializer.
+    /// `Io(UnexpectedEof)` where bytes are missing, `InvalidFormatCode` where another item stands,
+    /// a string or a binary too, `InvalidUtf8Encoding` where all bytes are there and aren't UTF-8,
+    /// `OutOfMemory` where the text finds no memory. A refusal ends the deserializer.
     pub fn deserialize_symbol(&mut self, alloc: Global) -> Result<String, Error>
         ensures reads { ReadsScalar Kind.symbol (λ s.
             symbol (string_bytes s)) true R.buffers self.old result self.new }

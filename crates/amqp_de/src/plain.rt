@@ -109,8 +109,8 @@ impl Leaf for AsChar {
 impl<R: Read> Deserializer<R> {
     /// Null (part 1, section 1.6.1): a code without data.
     ///
-    /// `Io(UnexpectedEof)` where there is no byte, `InvalidFormatCode` where another item stands. A refusal ends the
-    /// deserializer.
+    /// `Io(UnexpectedEof)` where there is no byte, `InvalidFormatCode` where another item stands. A
+    /// refusal ends the deserializer.
     #[inline(always)]
     pub fn deserialize_unit(&mut self) -> Result<(), Error>
         ensures { ReadsScalar Kind.null (λ _. null) R.buffers R.buffers self.old result self.new }
@@ -120,8 +120,8 @@ impl<R: Read> Deserializer<R> {
 
     /// The value of a unit struct: null (part 1, section 1.6.1), whatever its name.
     ///
-    /// `Io(UnexpectedEof)` where there is no byte, `InvalidFormatCode` where another item stands. A refusal ends the
-    /// deserializer.
+    /// `Io(UnexpectedEof)` where there is no byte, `InvalidFormatCode` where another item stands. A
+    /// refusal ends the deserializer.
     #[inline(always)]
     pub fn deserialize_unit_struct(&mut self, name: &'static str) -> Result<(), Error>
         ensures { ReadsScalar Kind.null (λ _. null) R.buffers R.buffers self.old result self.new }
@@ -130,10 +130,12 @@ impl<R: Read> Deserializer<R> {
         self.deserialize_unit()
     }
 
-    /// A boolean, in any of its three encodings (part 1, section 1.6.2): a code that says all, or a byte, which is 0 or 1.
+    /// A boolean, in any of its three encodings (part 1, section 1.6.2): a code that says all, or a
+    /// byte, which is 0 or 1.
     ///
-    /// `Io(UnexpectedEof)` where bytes are missing, `InvalidFormatCode` where another item stands, `InvalidValue` where the
-    /// byte is there and is neither 0 nor 1. A refusal ends the deserializer.
+    /// `Io(UnexpectedEof)` where bytes are missing, `InvalidFormatCode` where another item stands,
+    /// `InvalidValue` where the byte is there and is neither 0 nor 1. A refusal ends the
+    /// deserializer.
     #[inline(always)]
     pub fn deserialize_bool(&mut self) -> Result<bool, Error>
         ensures { ReadsScalar Kind.boolean boolean R.buffers R.buffers self.old result self.new }
@@ -143,8 +145,9 @@ impl<R: Read> Deserializer<R> {
 
     /// A character (part 1, section 1.6.16): its code point in 4 bytes.
     ///
-    /// `Io(UnexpectedEof)` where bytes are missing, `InvalidFormatCode` where another item stands, `InvalidValue` where all
-    /// bytes are there and are no Unicode scalar value: a surrogate, or above 0x10FFFF. A refusal ends the deserializer.
+    /// `Io(UnexpectedEof)` where bytes are missing, `InvalidFormatCode` where another item stands,
+    /// `InvalidValue` where all bytes are there and are no Unicode scalar value: a surrogate, or
+    /// above 0x10FFFF. A refusal ends the deserializer.
     #[inline(always)]
     pub fn deserialize_char(&mut self) -> Result<char, Error>
         ensures { ReadsScalar Kind.char char R.buffers R.buffers self.old result self.new }

@@ -1,7 +1,8 @@
 //! Structs that are read by their fields.
 
 ghost use Rattle.std.specs.Prelude.{◌≡◌, false, IfOk, IfErr, OnErr};
-ghost use Rattle.amqp_de.specs.Calls.{FieldsRead, NamedRead, RowRead, FieldsRefused, NamedRefused, RowRefused};
+ghost use Rattle.amqp_de.specs.Calls.{FieldsRead, NamedRead, RowRead, FieldsRefused, NamedRefused};
+ghost use Rattle.amqp_de.specs.Calls.{RowRefused};
 ghost use Rattle.amqp_de.specs.Steps.{Stops};
 
 use crate::structs::is_map;
@@ -11,13 +12,16 @@ use amqp_read::Read;
 use std::alloc::Global;
 
 impl<R: Read> Deserializer<R> {
-    /// Reads the fields of a struct: out of a list of just so many elements (part 1, section 1.6.22) in order, or out of a
-    /// map (section 1.6.23) of just their names as strings, each once, in any order.
+    /// Reads the fields of a struct: out of a list of just so many elements (part 1, section
+    /// 1.6.22) in order, or out of a map (section 1.6.23) of just their names as strings, each
+    /// once, in any order.
     ///
-    /// In this order: `Io(UnexpectedEof)` where there is no byte, `InvalidFormatCode` where it is no list's or map's code, the
-    /// refusals of `deserialize_tuple` and `deserialize_map`. Then, of a list, those of the fields. Of a map, pair by pair,
-    /// the refusals of `String` for its key, `Message` where it is no name of a field or that of one that was read, and the
-    /// refusals of the field; behind the last pair `Message` where a field is missing. A refusal ends the deserializer.
+    /// In this order: `Io(UnexpectedEof)` where there is no byte, `InvalidFormatCode` where it is
+    /// no list's or map's code, the refusals of `deserialize_tuple` and `deserialize_map`. Then, of
+    /// a list, those of the fields. Of a map, pair by pair, the refusals of `String` for its key,
+    /// `Message` where it is no name of a field or that of one that was read, and the refusals of
+    /// the field; behind the last pair `Message` where a field is missing. A refusal ends the
+    /// deserializer.
     pub fn deserialize_fields<S: Fields<R>>(
         &mut self,
         alloc: Global,
@@ -71,10 +75,11 @@ impl<R: Read> Deserializer<R> {
         Ok(values)
     }
 
-    /// Reads the fields of a tuple, or of a struct that is a list alone: out of a list of just so many elements (part 1,
-    /// section 1.6.22), in order. Their names aren't looked at.
+    /// Reads the fields of a tuple, or of a struct that is a list alone: out of a list of just so
+    /// many elements (part 1, section 1.6.22), in order. Their names aren't looked at.
     ///
-    /// The refusals of `deserialize_tuple`, then those of the fields. A refusal ends the deserializer.
+    /// The refusals of `deserialize_tuple`, then those of the fields. A refusal ends the
+    /// deserializer.
     #[inline(always)]
     pub fn deserialize_row<S: Fields<R>>(
         &mut self,

@@ -152,8 +152,8 @@ impl Leaf for AsLong {
 impl<R: Read> Deserializer<R> {
     /// A uint, in any of its three encodings (part 1, section 1.6.5).
     ///
-    /// `Io(UnexpectedEof)` where bytes are missing, `InvalidFormatCode` where another item stands. A refusal ends the
-    /// deserializer.
+    /// `Io(UnexpectedEof)` where bytes are missing, `InvalidFormatCode` where another item stands.
+    /// A refusal ends the deserializer.
     #[inline(always)]
     pub fn deserialize_u32(&mut self) -> Result<u32, Error>
         ensures { ReadsScalar Kind.uint uint R.buffers R.buffers self.old result self.new }
@@ -163,8 +163,8 @@ impl<R: Read> Deserializer<R> {
 
     /// An ulong, in any of its three encodings (part 1, section 1.6.6).
     ///
-    /// `Io(UnexpectedEof)` where bytes are missing, `InvalidFormatCode` where another item stands. A refusal ends the
-    /// deserializer.
+    /// `Io(UnexpectedEof)` where bytes are missing, `InvalidFormatCode` where another item stands.
+    /// A refusal ends the deserializer.
     #[inline(always)]
     pub fn deserialize_u64(&mut self) -> Result<u64, Error>
         ensures { ReadsScalar Kind.ulong ulong R.buffers R.buffers self.old result self.new }
@@ -172,10 +172,11 @@ impl<R: Read> Deserializer<R> {
         self.leaf(AsUlong)
     }
 
-    /// An int, in either of its two encodings (part 1, section 1.6.9): two's complement in 1 or 4 bytes.
+    /// An int, in either of its two encodings (part 1, section 1.6.9): two's complement in 1 or 4
+    /// bytes.
     ///
-    /// `Io(UnexpectedEof)` where bytes are missing, `InvalidFormatCode` where another item stands. A refusal ends the
-    /// deserializer.
+    /// `Io(UnexpectedEof)` where bytes are missing, `InvalidFormatCode` where another item stands.
+    /// A refusal ends the deserializer.
     #[inline(always)]
     pub fn deserialize_i32(&mut self) -> Result<i32, Error>
         ensures { ReadsScalar Kind.int int R.buffers R.buffers self.old result self.new }
@@ -183,10 +184,11 @@ impl<R: Read> Deserializer<R> {
         self.leaf(AsInt)
     }
 
-    /// A long, in either of its two encodings (part 1, section 1.6.10): two's complement in 1 or 8 bytes.
+    /// A long, in either of its two encodings (part 1, section 1.6.10): two's complement in 1 or 8
+    /// bytes.
     ///
-    /// `Io(UnexpectedEof)` where bytes are missing, `InvalidFormatCode` where another item stands. A refusal ends the
-    /// deserializer.
+    /// `Io(UnexpectedEof)` where bytes are missing, `InvalidFormatCode` where another item stands.
+    /// A refusal ends the deserializer.
     #[inline(always)]
     pub fn deserialize_i64(&mut self) -> Result<i64, Error>
         ensures { ReadsScalar Kind.long long R.buffers R.buffers self.old result self.new }

@@ -16,8 +16,8 @@ use amqp_base::Error;
 use amqp_read::Read;
 use std::alloc::Global;
 
-/// The parts of a sequence, in the form that the item has. Its deserializer answers nothing until `end` succeeded;
-/// where the access is dropped before, the deserializer is ended.
+/// The parts of a sequence, in the form that the item has. Its deserializer answers nothing until
+/// `end` succeeded; where the access is dropped before, the deserializer is ended.
 #[derive(Drop)]
 pub enum SeqAccess<'a, R: Read> {
     /// The item is a list.
@@ -25,12 +25,13 @@ pub enum SeqAccess<'a, R: Read> {
 }
 
 impl<R: Read> Deserializer<R> {
-    /// Opens a list (part 1, sections 1.6.22 to 1.6.24): its code, size and count are consumed. The size is not
-    /// compared with the bytes that are there.
+    /// Opens a list (part 1, sections 1.6.22 to 1.6.24): its code, size and count are consumed. The
+    /// size is not compared with the bytes that are there.
     ///
-    /// In this order: `Io(UnexpectedEof)` where there is no byte, `InvalidFormatCode` where it is no list's code,
-    /// `Io(UnexpectedEof)` where size or count are missing, `InvalidValue` where the count is above 65,536,
-    /// `InvalidLength` where the size doesn't cover the count's own bytes. A refusal ends the deserializer.
+    /// In this order: `Io(UnexpectedEof)` where there is no byte, `InvalidFormatCode` where it is
+    /// no list's code, `Io(UnexpectedEof)` where size or count are missing, `InvalidValue` where
+    /// the count is above 65,536, `InvalidLength` where the size doesn't cover the count's own
+    /// bytes. A refusal ends the deserializer.
     #[inline(always)]
     pub fn deserialize_seq(&mut self, alloc: Global) -> Result<SeqAccess<'_, R>, Error>
         ensures* refused { sem 𝓛 (RestsIfErr (the_row R.row R.Read) self.entry (λ a.
@@ -54,7 +55,8 @@ impl<R: Read> Deserializer<R> {
 impl<'a, R: Read> SeqAccess<'a, R> {
     /// The next part; `None` where all were read, and then nothing is consumed.
     ///
-    /// Its refusals are those of `ListAccess::next_element`, and each of them ends the access and its deserializer.
+    /// Its refusals are those of `ListAccess::next_element`, and each of them ends the access and
+    /// its deserializer.
     #[inline(always)]
     #[tactic(auto, unfolding(crate::specs::ReadParts::open_list, crate::specs::ReadParts::open_seq))]
     pub fn next_element<T: Deserialize<R>>(&mut self, alloc: Global) -> Result<Option<T>, Error>
@@ -67,10 +69,11 @@ impl<'a, R: Read> SeqAccess<'a, R> {
         }
     }
 
-    /// Ends the access where all parts were read: the deserializer answers again. Nothing is consumed.
+    /// Ends the access where all parts were read: the deserializer answers again. Nothing is
+    /// consumed.
     ///
-    /// `SequenceLengthMismatch` where parts were left unread, `InvalidValue` after a refusal; the deserializer is ended
-    /// then.
+    /// `SequenceLengthMismatch` where parts were left unread, `InvalidValue` after a refusal; the
+    /// deserializer is ended then.
     #[inline(always)]
     pub fn end(self) -> Result<Ended<'a, R>, Error>
         ensures* refused { sem 𝓛 (RestsIfErr (the_row R.row R.Read) (lender_of self.entry) (λ d.
@@ -86,7 +89,8 @@ impl<'a, R: Read> SeqAccess<'a, R> {
         }
     }
 
-    /// The parts that are left, whichever form they stand in. Generic code that returns early reads through these.
+    /// The parts that are left, whichever form they stand in. Generic code that returns early reads
+    /// through these.
     #[inline(always)]
     #[tactic(auto, unfolding(crate::specs::ReadParts::open_list, crate::specs::ReadParts::open_seq))]
     pub fn into_elements(self) -> ListAccess<'a, R>

@@ -7,7 +7,9 @@ ghost use Rattle.amqp_base.specs.Structs.{is_described_name};
 ghost use Rattle.amqp_de.specs.Access.{Ends};
 ghost use Rattle.amqp_de.specs.Decoding.{silenced};
 ghost use Rattle.amqp_de.specs.Seq.{at_open};
-ghost use Rattle.amqp_de.specs.Forms.{struct_listing, struct_lender, FormOpened, StructOpened, TupleOpened, IsRow, NoStruct, RefusesStruct, RefusesRow, FormElement, FormKey, FormValue, FormEntry};
+ghost use Rattle.amqp_de.specs.Forms.{struct_listing, struct_lender, FormOpened, StructOpened};
+ghost use Rattle.amqp_de.specs.Forms.{TupleOpened, IsRow, NoStruct, RefusesStruct, RefusesRow};
+ghost use Rattle.amqp_de.specs.Forms.{FormElement, FormKey, FormValue, FormEntry};
 ghost use Rattle.amqp_de.specs.contracts.deserializer.Deserializer.{the_row};
 
 use crate::list::{Access, Elements, Ended, Entries, Open};
@@ -16,8 +18,8 @@ use amqp_base::{DESCRIBED_BASIC, DESCRIBED_LIST, DESCRIBED_MAP, EncodingCodes, E
 use amqp_read::Read;
 use std::alloc::Global;
 
-/// The fields of a struct, in the form that the item has. Its deserializer answers nothing until `end` succeeded; where the
-/// access is dropped before, the deserializer is ended.
+/// The fields of a struct, in the form that the item has. Its deserializer answers nothing until
+/// `end` succeeded; where the access is dropped before, the deserializer is ended.
 #[derive(Drop)]
 pub enum StructAccess<'a, R: Read> {
     /// The item is a list of the fields, in order.
@@ -104,13 +106,14 @@ impl<R: Read> Deserializer<R> {
         self.open_tuple(len)
     }
 
-    /// Opens a struct: a list of `len` fields (part 1, section 1.6.22), or a map from names to fields (section 1.6.23), whose
-    /// number of pairs isn't looked at. Its code, size and count are consumed. The size is not compared with the bytes that
-    /// are there.
+    /// Opens a struct: a list of `len` fields (part 1, section 1.6.22), or a map from names to
+    /// fields (section 1.6.23), whose number of pairs isn't looked at. Its code, size and count are
+    /// consumed. The size is not compared with the bytes that are there.
     ///
-    /// In this order: `InvalidValue` where `name` is one of those of described structs, `Io(UnexpectedEof)` where there is no
-    /// byte, `InvalidFormatCode` where it is no list's or map's code, and then the refusals of `deserialize_tuple` and
-    /// `deserialize_map`. A refusal ends the deserializer.
+    /// In this order: `InvalidValue` where `name` is one of those of described structs,
+    /// `Io(UnexpectedEof)` where there is no byte, `InvalidFormatCode` where it is no list's or
+    /// map's code, and then the refusals of `deserialize_tuple` and `deserialize_map`. A refusal
+    /// ends the deserializer.
     pub fn deserialize_struct(
         &mut self,
         alloc: Global,
@@ -141,10 +144,11 @@ impl<R: Read> Deserializer<R> {
         }
     }
 
-    /// Opens a tuple struct: a list of `len` fields (part 1, section 1.6.22). Its code, size and count are consumed.
+    /// Opens a tuple struct: a list of `len` fields (part 1, section 1.6.22). Its code, size and
+    /// count are consumed.
     ///
-    /// `InvalidValue` where `name` is one of those of described structs, else the refusals of `deserialize_tuple`. A refusal
-    /// ends the deserializer.
+    /// `InvalidValue` where `name` is one of those of described structs, else the refusals of
+    /// `deserialize_tuple`. A refusal ends the deserializer.
     pub fn deserialize_tuple_struct(
         &mut self,
         alloc: Global,
@@ -174,8 +178,8 @@ impl<R: Read> Deserializer<R> {
 impl<'a, R: Read> StructAccess<'a, R> {
     /// The next field of a list; `None` where all were read, and then nothing is consumed.
     ///
-    /// The refusals are those of `ListAccess::next_element`, and `InvalidValue` where the item is a map. Each of them ends
-    /// the access and its deserializer.
+    /// The refusals are those of `ListAccess::next_element`, and `InvalidValue` where the item is a
+    /// map. Each of them ends the access and its deserializer.
     pub fn next_element<T: Deserialize<R>>(&mut self, alloc: Global) -> Result<Option<T>, Error>
         ensures same_reference { (struct_lender self.new).ghost_name ≡ (struct_lender
             self.old).ghost_name }
@@ -189,8 +193,8 @@ impl<'a, R: Read> StructAccess<'a, R> {
 
     /// The next name of a map; `None` where all pairs were read, and then nothing is consumed.
     ///
-    /// The refusals are those of `MapAccess::next_key`, and `InvalidValue` where the item is a list. Each of them ends the
-    /// access and its deserializer.
+    /// The refusals are those of `MapAccess::next_key`, and `InvalidValue` where the item is a
+    /// list. Each of them ends the access and its deserializer.
     pub fn next_key<K: Deserialize<R>>(&mut self, alloc: Global) -> Result<Option<K>, Error>
         ensures same_reference { (struct_lender self.new).ghost_name ≡ (struct_lender
             self.old).ghost_name }
@@ -204,8 +208,8 @@ impl<'a, R: Read> StructAccess<'a, R> {
 
     /// The value of the last name of a map.
     ///
-    /// The refusals are those of `MapAccess::next_value`, and `InvalidValue` where the item is a list. Each of them ends the
-    /// access and its deserializer.
+    /// The refusals are those of `MapAccess::next_value`, and `InvalidValue` where the item is a
+    /// list. Each of them ends the access and its deserializer.
     pub fn next_value<V: Deserialize<R>>(&mut self, alloc: Global) -> Result<V, Error>
         ensures same_reference { (struct_lender self.new).ghost_name ≡ (struct_lender
             self.old).ghost_name }
@@ -219,8 +223,8 @@ impl<'a, R: Read> StructAccess<'a, R> {
 
     /// The next name of a map and its value; `None` where all pairs were read.
     ///
-    /// The refusals are those of `MapAccess::next_entry`, and `InvalidValue` where the item is a list. Each of them ends the
-    /// access and its deserializer.
+    /// The refusals are those of `MapAccess::next_entry`, and `InvalidValue` where the item is a
+    /// list. Each of them ends the access and its deserializer.
     pub fn next_entry<K: Deserialize<R>, V: Deserialize<R>>(
         &mut self,
         alloc: Global,
@@ -235,10 +239,11 @@ impl<'a, R: Read> StructAccess<'a, R> {
         }
     }
 
-    /// Ends the access where all fields were read: the deserializer answers again. Nothing is consumed.
+    /// Ends the access where all fields were read: the deserializer answers again. Nothing is
+    /// consumed.
     ///
-    /// `SequenceLengthMismatch` where something was left unread, `InvalidValue` after a refusal; the deserializer is ended
-    /// then.
+    /// `SequenceLengthMismatch` where something was left unread, `InvalidValue` after a refusal;
+    /// the deserializer is ended then.
     pub fn end(self) -> Result<Ended<'a, R>, Error>
         ensures* refused { sem 𝓛 (RestsIfErr (the_row R.row R.Read) (struct_lender self.entry) (λ d.
             d.de.ghost_name) result (λ last. last ≡ silenced (struct_listing self.entry).state)) }

@@ -1,6 +1,7 @@
 //! One line: which lines are good, and what is printed for one.
 
-ghost use Rattle.std.specs.Prelude.{◌≡◌, ◌==◌, ℕ, length, position, IfOk, IfErr, MatchOption, string_bytes};
+ghost use Rattle.std.specs.Prelude.{◌≡◌, ◌==◌, ℕ, length, position, IfOk, IfErr, MatchOption};
+ghost use Rattle.std.specs.Prelude.{string_bytes};
 ghost use Rattle.amqp_base.specs.declared.error.Error.TheVariants.{OutOfMemory};
 ghost use Rattle.amqp_probe.specs.Answer.{Answers, IsBad, Spells, error_name, text_of};
 
@@ -14,7 +15,8 @@ use std::alloc::{AllocError, Global};
 /// The longest line, in bytes, its line feed not counted.
 pub const LIMIT: usize = 65_536;
 
-/// What is printed for a line, without a line feed; None where the line is bad. `OutOfMemory` alone is an error.
+/// What is printed for a line, without a line feed; None where the line is bad. `OutOfMemory` alone
+/// is an error.
 pub fn answer(alloc: Global, line: &[u8]) -> Result<Option<String>, Error>
     ensures ok { IfOk result (λ text. MatchOption text (IsBad line.now) (λ text.
         Answers line.now (string_bytes text))) }

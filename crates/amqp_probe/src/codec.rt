@@ -20,7 +20,8 @@ pub enum Outcome {
     Refused(Error),
 }
 
-/// Decodes a value of the type from the front of the bytes, and encodes it again. `OutOfMemory` alone is an error.
+/// Decodes a value of the type from the front of the bytes, and encodes it again. `OutOfMemory`
+/// alone is an error.
 pub fn decoded(alloc: Global, kind: Kind, bytes: &[u8]) -> Result<Outcome, Error>
     ensures ok { IfOk result (λ outcome. Decoded kind bytes.now outcome) }
     ensures err { IfErr result (λ e. e ≡ OutOfMemory) }

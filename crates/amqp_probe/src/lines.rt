@@ -26,7 +26,8 @@ pub struct Lines {
 }
 
 impl Lines {
-    ghost use Rattle.std.specs.Prelude.{◌↔◌, ◌==◌, [], length, position, IsSome, false, if◌then◌else◌, IsTrue, IfOk, OnOk, IfErr, OnSome, IfSome};
+    ghost use Rattle.std.specs.Prelude.{◌↔◌, ◌==◌, [], length, position, IsSome, false};
+    ghost use Rattle.std.specs.Prelude.{if◌then◌else◌, IsTrue, IfOk, OnOk, IfErr, OnSome, IfSome};
     ghost use Rattle.std.specs.Io.KnownBytes.{Keeps, IsAtEnd};
     ghost use Rattle.std.specs.declared.io.ErrorKind.TheVariants.{Other};
     ghost use Rattle.amqp_base.specs.declared.error.Error.TheVariants.{Io, OutOfMemory};
@@ -46,9 +47,9 @@ impl Lines {
         })
     }
 
-    /// The next line, without its line feed; None at the end. Of a line above the limit one byte more than the limit
-    /// is given. An error is the source's fault, `OutOfMemory`, or `Io` of kind `Other` where the bytes read can't be
-    /// counted.
+    /// The next line, without its line feed; None at the end. Of a line above the limit one byte
+    /// more than the limit is given. An error is the source's fault, `OutOfMemory`, or `Io` of kind
+    /// `Other` where the bytes read can't be counted.
     pub fn next_line<S: Source>(
         &mut self,
         alloc: Global,
@@ -105,8 +106,8 @@ impl Lines {
         Ok(n > 0)
     }
 
-    /// Moves bytes to the back of a line, up to a line feed, which goes away, or until the line is too long. True
-    /// where a line feed was met.
+    /// Moves bytes to the back of a line, up to a line feed, which goes away, or until the line is
+    /// too long. True where a line feed was met.
     fn take_into(&mut self, line: &mut Vec<u8>) -> Result<bool, AllocError>
         requires some { self.old.start < self.old.end }
         requires short { vec_len line.old ≤ 65536 }

@@ -1,4 +1,5 @@
-//! Reads lines of a type and bytes, decodes each as AMQP 1.0, and prints what the value is encoded as.
+//! Reads lines of a type and bytes, decodes each as AMQP 1.0, and prints what the value is encoded
+//! as.
 #![tactic(auto)]
 
 mod answer;
@@ -16,8 +17,9 @@ use amqp_base::Counted;
 use std::env;
 use std::process::ExitCode;
 
-/// Standard input to standard output. The exit status is 0 where each line was answered, 2 after a bad line, and 3
-/// where reading, writing or memory failed; standard error says why. With `--help` it prints what a line is.
+/// Standard input to standard output. The exit status is 0 where each line was answered, 2 after a
+/// bad line, and 3 where reading, writing or memory failed; standard error says why. With `--help`
+/// it prints what a line is.
 fn main(rt: HostRuntime) -> ExitCode {
     if asks_for_help(&rt) {
         return match print!(rt; "{HELP}") {

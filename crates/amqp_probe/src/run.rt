@@ -1,6 +1,7 @@
 //! A whole run over an input.
 
-ghost use Rattle.std.specs.Prelude.{◌≡◌, ◌<◌, ◌⊎◌, [], IsTrue, IfOk, OnOk, IfErr, OnErr, IfSome, string_bytes};
+ghost use Rattle.std.specs.Prelude.{◌≡◌, ◌<◌, ◌⊎◌, [], IsTrue, IfOk, OnOk, IfErr, OnErr, IfSome};
+ghost use Rattle.std.specs.Prelude.{string_bytes};
 ghost use Rattle.std.specs.Io.KnownBytes.{Appends, Keeps, append_known};
 ghost use Rattle.amqp_base.specs.declared.error.Error.TheVariants.{OutOfMemory};
 ghost use Rattle.amqp_base.specs.Faults.{Extends};
@@ -14,10 +15,10 @@ use crate::why::{BadLine, Why, why_bad};
 use amqp_base::{Error, Sink, Source};
 use std::alloc::{AllocError, Global};
 
-/// Prints an answer for each line of the input, up to the first bad line, for which its number is printed. True at the
-/// end, false after a bad line. An error is the fault of the input or of the output (`Io` of its kind, or
-/// `OutOfMemory`), `OutOfMemory`, or `Io` of kind `Other` where the bytes read would pass `usize::MAX`; what the output
-/// held before stays at its front.
+/// Prints an answer for each line of the input, up to the first bad line, for which its number is
+/// printed. True at the end, false after a bad line. An error is the fault of the input or of the
+/// output (`Io` of its kind, or `OutOfMemory`), `OutOfMemory`, or `Io` of kind `Other` where the
+/// bytes read would pass `usize::MAX`; what the output held before stays at its front.
 pub fn run<S: Source, W: Sink>(alloc: Global, input: &mut S, output: &mut W) -> Result<bool, Error>
     ensures prints { IfOk result (λ good. IfSome (S.remaining input.old) (λ bytes.
         Prints bytes good (W.contents output.old) (W.contents output.new))) }
@@ -34,8 +35,8 @@ pub fn run<S: Source, W: Sink>(alloc: Global, input: &mut S, output: &mut W) -> 
     }
 }
 
-/// As `run`; after a bad line it says which and why. Answers are written in blocks: before more of the input is read, all
-/// that were given are written.
+/// As `run`; after a bad line it says which and why. Answers are written in blocks: before more of
+/// the input is read, all that were given are written.
 pub fn transcribe<S: Source, W: Sink>(
     alloc: Global,
     input: &mut S,
@@ -73,8 +74,8 @@ pub fn transcribe<S: Source, W: Sink>(
     Ok(None)
 }
 
-/// Puts the answer to a line behind the texts, or that the line of this number is bad, which it then answers why. Where
-/// it is refused, as `OutOfMemory`, the texts stay.
+/// Puts the answer to a line behind the texts, or that the line of this number is bad, which it
+/// then answers why. Where it is refused, as `OutOfMemory`, the texts stay.
 fn put_answer(
     alloc: Global,
     line: &[u8],

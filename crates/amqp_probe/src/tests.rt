@@ -1,4 +1,5 @@
-//! Lines, and whole runs over inputs and outputs of each kind. What a good line of each type is answered stands in the stored run.
+//! Lines, and whole runs over inputs and outputs of each kind. What a good line of each type is
+//! answered stands in the stored run.
 
 use crate::answer::{LIMIT, answer, find, parse};
 use crate::codec::{Outcome, decoded};
@@ -34,7 +35,8 @@ impl Read for Device<'_> {
     }
 }
 
-/// Takes at most `step` bytes a write, counts its writes, and answers `fault` in place of write number `at`.
+/// Takes at most `step` bytes a write, counts its writes, and answers `fault` in place of write
+/// number `at`.
 #[derive(Drop)]
 struct Paper {
     bytes: Vec<u8>,
@@ -162,7 +164,8 @@ fn bad_lines_have_a_reason(rt: HostRuntime) {
     assert!(rt; Why::UnknownType.text() == "unknown type");
 }
 
-/// A line of `length` bytes behind a short one: a type, its space, and digits of bytes 43; and the end.
+/// A line of `length` bytes behind a short one: a type, its space, and digits of bytes 43; and the
+/// end.
 fn long(alloc: Global, kind: &[u8], length: usize, end: &[u8]) -> Option<Vec<u8>> {
     let mut line = Vec::new(alloc);
     if line.extend_from_slice(b"u32 43\n").is_err() || line.extend_from_slice(kind).is_err() {
@@ -240,7 +243,8 @@ fn kind_of(e: &Error) -> Option<ErrorKind> {
     }
 }
 
-/// Where the read of this number fails, the run is refused so, and what was answered before is written.
+/// Where the read of this number fails, the run is refused so, and what was answered before is
+/// written.
 fn is_handed_on(alloc: Global, at: usize, kind: ErrorKind) -> bool {
     let input = b"u32 43\nu32 5207";
     let mut output = Vec::new(alloc);

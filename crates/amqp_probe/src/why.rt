@@ -22,8 +22,8 @@ pub struct BadLine {
     pub why: Why,
 }
 
-/// Why a bad line is bad: of the rules that it breaks, the first in the order of `Why`. The contract says that the
-/// reason is true of the line.
+/// Why a bad line is bad: of the rules that it breaks, the first in the order of `Why`. The
+/// contract says that the reason is true of the line.
 pub fn why_bad(line: &[u8]) -> Why
     ensures { Explains result line.now }
 {

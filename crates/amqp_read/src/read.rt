@@ -1,8 +1,10 @@
 //! What every reader does.
 
-ghost use Rattle.std.specs.Prelude.{◌≡◌, ◌≢◌, ◌⊎◌, ◌+◌, ◌<◌, ◌≤◌, ℕ, Bool, true, IsTrue, List, [], ◌∷◌, length, OnOk, OnErr, IfOk, IfErr, MatchOption};
+ghost use Rattle.std.specs.Prelude.{◌≡◌, ◌≢◌, ◌⊎◌, ◌+◌, ◌<◌, ◌≤◌, ℕ, Bool, true, IsTrue, List, []};
+ghost use Rattle.std.specs.Prelude.{◌∷◌, length, OnOk, OnErr, IfOk, IfErr, MatchOption};
 ghost use Rattle.amqp_read.specs.Reading.{Reading, Stays, Takes};
-ghost use Rattle.amqp_read.specs.Steps.{Shows, MayCome, Ended, IsShort, Fails, NotTaken, PassesCount, Holds, Looked};
+ghost use Rattle.amqp_read.specs.Steps.{Shows, MayCome, Ended, IsShort, Fails, NotTaken};
+ghost use Rattle.amqp_read.specs.Steps.{PassesCount, Holds, Looked};
 ghost use Rattle.amqp_base.specs.declared.error.Error.TheVariants.{OutOfMemory};
 
 use amqp_base::Error;
@@ -13,16 +15,19 @@ pub(crate) mod sealed {
     pub trait Sealed {}
 }
 
-/// Bytes to come, a position, and bytes that were received ahead. A refused call changes nothing that a caller sees:
-/// the position stays, and no received byte is lost. Lengths and positions are in bytes.
+/// Bytes to come, a position, and bytes that were received ahead. A refused call changes nothing
+/// that a caller sees: the position stays, and no received byte is lost. Lengths and positions are
+/// in bytes.
 ///
-/// Where a call needs more bytes than are to come, it answers what it says itself. Beside that a reader over a slice
-/// refuses nothing, `OutOfMemory` of `read_bytes` aside. A reader over a source also answers the source's own fault,
-/// `OutOfMemory` where its buffer finds no memory, and `Io(Other)` where the bytes consumed would pass `usize::MAX`.
+/// Where a call needs more bytes than are to come, it answers what it says itself. Beside that a
+/// reader over a slice refuses nothing, `OutOfMemory` of `read_bytes` aside. A reader over a source
+/// also answers the source's own fault, `OutOfMemory` where its buffer finds no memory, and
+/// `Io(Other)` where the bytes consumed would pass `usize::MAX`.
 pub trait Read: sealed::Sealed + Drop {
     ghost reading: { Self → Reading };
 
-    /// Whether bytes are received from a source, which may fail, into a buffer, which may find no memory.
+    /// Whether bytes are received from a source, which may fail, into a buffer, which may find no
+    /// memory.
     ghost buffers: { Bool };
 
     /// The next byte, which stays; `None` at the end.
@@ -47,7 +52,8 @@ pub trait Read: sealed::Sealed + Drop {
         ensures not_the_end { IfErr result (λ e. Fails buffers buffers (reading self.old)
             (reading self.new) e ⊎ PassesCount buffers 1 (reading self.old) e) };
 
-    /// Fills `buf` with the next bytes; `Io(UnexpectedEof)` where fewer are to come. A refusal leaves `buf` as it was.
+    /// Fills `buf` with the next bytes; `Io(UnexpectedEof)` where fewer are to come. A refusal
+    /// leaves `buf` as it was.
     fn read_exact(&mut self, buf: &mut [u8]) -> Result<(), Error>
         ensures len { length buf.new ≡ length buf.old }
         ensures ok { OnOk result (Takes (reading self.old) (reading self.new) buf.new) }
@@ -57,14 +63,15 @@ pub trait Read: sealed::Sealed + Drop {
             NotTaken buffers buffers (length buf.old) (reading self.old) (reading self.new) e) };
 
     /// The next `n` bytes, which stay; `None` where fewer are to come.
-    // No clause on how the reader ends reaches a caller's proof, since the error may own memory: see `SliceReader`'s.
+    // No clause on how the reader ends reaches a caller's proof, since the error may own memory:
+    // see `SliceReader`'s.
     fn peek_bytes(&mut self, n: usize) -> Result<Option<&[u8]>, Error>
         ensures ok { IfOk result (λ o. MatchOption o (IsShort n (reading self.old)) (λ b.
             (length b.now ≡ n) × MayCome (reading self.old) b.now)) }
         ensures why { OnErr result (IsTrue buffers) };
 
-    /// Consumes the next `n` bytes; `Io(UnexpectedEof)` where fewer are to come, `OutOfMemory` where the vector finds no
-    /// memory. Memory for it is asked for only after the bytes are there.
+    /// Consumes the next `n` bytes; `Io(UnexpectedEof)` where fewer are to come, `OutOfMemory`
+    /// where the vector finds no memory. Memory for it is asked for only after the bytes are there.
     fn read_bytes(&mut self, alloc: Global, n: usize) -> Result<Vec<u8>, Error>
         ensures ok { IfOk result (λ v.
             (length v.items ≡ n) × Takes (reading self.old) (reading self.new) v.items) }
@@ -75,7 +82,8 @@ pub trait Read: sealed::Sealed + Drop {
             (e ≡ OutOfMemory) → (IsTrue buffers ⊎ Holds n (reading self.old).to_come)) };
 }
 
-/// Consumes the next `N` bytes; `Io(UnexpectedEof)` where fewer are to come. A refusal consumes nothing.
+/// Consumes the next `N` bytes; `Io(UnexpectedEof)` where fewer are to come. A refusal consumes
+/// nothing.
 #[inline(always)]
 pub fn read_const_bytes<R: Read, const N: usize>(reader: &mut R) -> Result<[u8; N], Error>
     ensures ok { IfOk result (λ b.

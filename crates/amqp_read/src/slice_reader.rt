@@ -1,6 +1,7 @@
 //! A reader over bytes in memory.
 
-ghost use Rattle.std.specs.Prelude.{◌≡◌, ◌<◌, ◌≤◌, ◌+◌, ◌^◌, ℕ, Bool, true, false, List, [], ◌∷◌, length, IfOk, IfErr, OnErr, IsTrue, MatchOption, Some, None};
+ghost use Rattle.std.specs.Prelude.{◌≡◌, ◌<◌, ◌≤◌, ◌+◌, ◌^◌, ℕ, Bool, true, false, List, [], ◌∷◌};
+ghost use Rattle.std.specs.Prelude.{length, IfOk, IfErr, OnErr, IsTrue, MatchOption, Some, None};
 ghost use Rattle.std.specs.declared.io.ErrorKind.TheVariants.{UnexpectedEof};
 ghost use Rattle.amqp_base.specs.declared.error.Error.TheVariants.{Io};
 ghost use Rattle.std.specs.Borrow.{sem};
@@ -17,7 +18,8 @@ use std::alloc::Global;
 use std::io::ErrorKind;
 use std::marker::Model;
 
-/// Reads bytes in memory. All of them count as to come, none as received. No call takes memory but `read_bytes`.
+/// Reads bytes in memory. All of them count as to come, none as received. No call takes memory but
+/// `read_bytes`.
 #[derive(Drop)]
 pub struct SliceReader<'s> {
     rest: &'s [u8],
@@ -30,7 +32,16 @@ impl<'s> Model for SliceReader<'s> {
 
     ghost Value = { Reading };
 
-    ghost view = { λ r. record { to_come = Some r.rest.now; taken = r.taken; received = []; faults = 0; last_fault = None; honest = true; origin = [] } };
+    ghost view = { λ r. record {
+      to_come = Some r.rest.now;
+      taken = r.taken;
+      received = [];
+      faults =
+          0;
+      last_fault = None;
+      honest = true;
+      origin = [];
+    } };
 
     ghost invariant = { λ r. r.taken + length r.rest.now < 2 ^ 64 };
 }
@@ -54,8 +65,8 @@ impl<'s> SliceReader<'s> {
         }
     }
 
-    /// Consumes the next `n` bytes and lends them for as long as the slice lives; `Io(UnexpectedEof)` where fewer are
-    /// to come, which changes nothing.
+    /// Consumes the next `n` bytes and lends them for as long as the slice lives;
+    /// `Io(UnexpectedEof)` where fewer are to come, which changes nothing.
     #[inline(always)]
     pub fn get_byte_slice(&mut self, n: usize) -> Result<&'s [u8], Error>
         ensures ok { IfOk result (λ s. (length s.now ≡ n) × Takes self.old self.new s.now) }

@@ -1,13 +1,17 @@
 //! What is common to all compounds: their parts so far, and their header.
 
-ghost use Rattle.std.specs.Prelude.{◌≡◌, ◌==◌, ◌%◌, ◌<◌, ◌≤◌, ◌++◌, ◌∷◌, ℕ, Bool, List, length, [], true, false, IfOk, IfErr, OnOk, OnErr, Err, Some};
+ghost use Rattle.std.specs.Prelude.{◌≡◌, ◌==◌, ◌%◌, ◌<◌, ◌≤◌, ◌++◌, ◌∷◌, ℕ, Bool, List, length, []};
+ghost use Rattle.std.specs.Prelude.{true, false, IfOk, IfErr, OnOk, OnErr, Err, Some};
 ghost use Rattle.amqp_base.specs.Item.{Item, items_of};
 ghost use Rattle.amqp_base.specs.Shapes.{whole, setting_inside};
 ghost use Rattle.amqp_base.specs.Wire.{under};
 ghost use Rattle.amqp_ser.specs.State.{State, state, mark_of, unmarked, answering};
 ghost use Rattle.amqp_ser.specs.Law.{Wrote, Refused, Kept, Named, IsDevice, unwritten, found_after};
 ghost use Rattle.amqp_ser.specs.Appending.{Pays, as_error};
-ghost use Rattle.amqp_ser.specs.Compound.{the_buffer, open_parts, is_map, awaits_value, Empty, Run, Holds, Complete, RefusesOpen, BeginsWith, BreaksOff, parts_text, whole_text, shape_code, narrow_of, empty_list, next_mark};
+ghost use Rattle.amqp_ser.specs.Compound.{the_buffer, open_parts, is_map, awaits_value, Empty, Run};
+ghost use Rattle.amqp_ser.specs.Compound.{Holds, Complete, RefusesOpen, BeginsWith, BreaksOff};
+ghost use Rattle.amqp_ser.specs.Compound.{parts_text, whole_text, shape_code, narrow_of};
+ghost use Rattle.amqp_ser.specs.Compound.{empty_list, next_mark};
 
 use crate::serializer::{LONGEST, Mark, NARROW, Refusal, refused};
 use crate::{Serialize, Serializer};
@@ -18,8 +22,9 @@ use std::io::ErrorKind;
 /// Room for so many bytes of parts is taken when a compound opens.
 const FIRST_CAPACITY: usize = 64;
 
-/// The parts so far of a compound that is being written: their bytes in a buffer, and how many they are. Each part of
-/// the compound is written to the buffer, under the setting that its shape has inside.
+/// The parts so far of a compound that is being written: their bytes in a buffer, and how many they
+/// are. Each part of the compound is written to the buffer, under the setting that its shape has
+/// inside.
 #[derive(Drop)]
 pub struct Parts {
     pub(crate) shape: Shape,
@@ -73,7 +78,8 @@ impl Parts {
         self.count % 2 == 1
     }
 
-    /// Writes one more part. It is refused as the part's own `serialize`; then all that follows is `InvalidValue`.
+    /// Writes one more part. It is refused as the part's own `serialize`; then all that follows is
+    /// `InvalidValue`.
     #[inline(always)]
     pub(crate) fn write<T: Serialize>(&mut self, alloc: Global, value: &T) -> Result<(), Error>
         ensures ok { (pairs : Bool) (outer : State) →
@@ -105,7 +111,8 @@ impl Parts {
         }
     }
 
-    /// Writes one more key or value of a map. Out of turn it is `InvalidValue`, and so is then all that follows.
+    /// Writes one more key or value of a map. Out of turn it is `InvalidValue`, and so is then all
+    /// that follows.
     #[inline(always)]
     pub(crate) fn write_in_turn<T: Serialize>(
         &mut self,
@@ -227,11 +234,11 @@ impl<W: Sink> Serializer<W> {
         }
     }
 
-    /// Writes the whole that has these parts, on a serializer that their compound holds. It answers again where that
-    /// succeeds.
+    /// Writes the whole that has these parts, on a serializer that their compound holds. It answers
+    /// again where that succeeds.
     ///
-    /// `Io(Other)`: the parts have more than 4,294,967,291 bytes. `InvalidValue`: a part was refused, or the array that the
-    /// whole is to stand in has elements under another constructor.
+    /// `Io(Other)`: the parts have more than 4,294,967,291 bytes. `InvalidValue`: a part was
+    /// refused, or the array that the whole is to stand in has elements under another constructor.
     pub(crate) fn close(&mut self, parts: Parts) -> Result<(), Error>
         ensures ok { (pairs : Bool) → OnOk result ((s : State) (shape : Shape) (xs : List Item) →
             Holds s shape xs (open_parts pairs (state W.Write W.FaultCount self.old) parts) →
@@ -267,8 +274,9 @@ impl<W: Sink> Serializer<W> {
         Ok(())
     }
 
-    /// Writes a compound of so many parts with this body, on a serializer that the compound holds. It answers again
-    /// where that succeeds. A body of more than 4,294,967,291 bytes is `Io(Other)`.
+    /// Writes a compound of so many parts with this body, on a serializer that the compound holds.
+    /// It answers again where that succeeds. A body of more than 4,294,967,291 bytes is
+    /// `Io(Other)`.
     pub(crate) fn finish(&mut self, shape: Shape, count: usize, body: &[u8]) -> Result<(), Refusal>
         ensures law { count ≤ length body.now →
             Pays (answering (state W.Write W.FaultCount self.old))
@@ -301,7 +309,8 @@ impl<W: Sink> Serializer<W> {
             ),
         }
     }
-    /// Writes the whole outside arrays: an empty list as one byte, any other behind the shortest header.
+    /// Writes the whole outside arrays: an empty list as one byte, any other behind the shortest
+    /// header.
     #[inline(always)]
     fn finish_unmarked(&mut self, shape: Shape, count: usize, body: &[u8]) -> Result<(), Refusal>
         requires answers { self.old.stopped ≡ false }

@@ -1,7 +1,9 @@
 //! Structs, all fields at once.
 
-ghost use Rattle.std.specs.Prelude.{◌≡◌, ◌++◌, ◌∷◌, [], true, false, not, ◌&&◌, IsTrue, IfErr, OnOk, List};
-ghost use Rattle.amqp_base.specs.Structs.{FieldItem, named, struct_item, is_described_name, is_descriptor_name};
+ghost use Rattle.std.specs.Prelude.{◌≡◌, ◌++◌, ◌∷◌, [], true, false, not, ◌&&◌, IsTrue, IfErr};
+ghost use Rattle.std.specs.Prelude.{OnOk, List};
+ghost use Rattle.amqp_base.specs.Structs.{FieldItem, named, struct_item, is_described_name};
+ghost use Rattle.amqp_base.specs.Structs.{is_descriptor_name};
 ghost use Rattle.amqp_ser.specs.State.{State, state};
 ghost use Rattle.amqp_ser.specs.Law.{Wrote, Refused};
 ghost use Rattle.amqp_ser.specs.Compound.{struct_state, HoldsFields, BeginsWith};

@@ -16,11 +16,12 @@ use std::io::ErrorKind;
 /// The most bytes of a payload or of a compound's body: a size of four bytes counts four more.
 pub(crate) const LONGEST: usize = 4_294_967_291;
 
-/// The most bytes of a payload or of a compound's body behind a size of one byte. No text has a payload of 255
-/// bytes behind one byte, though it would fit.
+/// The most bytes of a payload or of a compound's body behind a size of one byte. No text has a
+/// payload of 255 bytes behind one byte, though it would fit.
 pub(crate) const NARROW: usize = 254;
 
-/// Why nothing was written, inside this crate. It is small enough for registers, as an `Error` with its text isn't.
+/// Why nothing was written, inside this crate. It is small enough for registers, as an `Error` with
+/// its text isn't.
 #[derive(Clone, Copy)]
 pub(crate) enum Refusal {
     /// The writer's own fault; or `Other`: too long to write.
@@ -51,17 +52,19 @@ pub(crate) enum Mark {
     Other(EncodingCodes),
 }
 
-/// Writes values to a writer, one item after the other, in the AMQP 1.0 encoding (part 1, section 1.2).
+/// Writes values to a writer, one item after the other, in the AMQP 1.0 encoding (part 1, section
+/// 1.2).
 ///
-/// What is written for a value is the one canonical text of its item: the shortest code of its kind, save that a
-/// payload of 255 bytes has four bytes of length. Between two calls nothing is kept but the setting.
+/// What is written for a value is the one canonical text of its item: the shortest code of its
+/// kind, save that a payload of 255 bytes has four bytes of length. Between two calls nothing is
+/// kept but the setting.
 ///
-/// Once one of its calls was refused, or a compound was dropped without `end`, every later call answers
-/// `InvalidValue`, also those of its compounds. What the writer held before stays in front of what it holds;
-/// `into_inner` gives it.
+/// Once one of its calls was refused, or a compound was dropped without `end`, every later call
+/// answers `InvalidValue`, also those of its compounds. What the writer held before stays in front
+/// of what it holds; `into_inner` gives it.
 ///
-/// Every call that writes may answer `Io` with the writer's own fault, or `OutOfMemory` where the writer can't grow or
-/// answers that fault. Its comment names the further errors.
+/// Every call that writes may answer `Io` with the writer's own fault, or `OutOfMemory` where the
+/// writer can't grow or answers that fault. Its comment names the further errors.
 #[derive(Drop)]
 pub struct Serializer<W> {
     /// The writer, to which all bytes are appended.
@@ -90,8 +93,8 @@ impl<W: Sink> Serializer<W> {
         }
     }
 
-    /// A serializer that appends to `writer`, and writes each text that it is handed directly as a symbol (section
-    /// 1.6.21). The parts of a compound are written as they are.
+    /// A serializer that appends to `writer`, and writes each text that it is handed directly as a
+    /// symbol (section 1.6.21). The parts of a compound are written as they are.
     pub fn symbol(writer: W) -> Serializer<W>
         ensures { Fresh W.Write W.FaultCount writer Setting.Symbol result }
     {
@@ -104,8 +107,8 @@ impl<W: Sink> Serializer<W> {
         }
     }
 
-    /// A serializer that appends to `writer`, and takes the values that it is handed directly as the fields of a described
-    /// list.
+    /// A serializer that appends to `writer`, and takes the values that it is handed directly as
+    /// the fields of a described list.
     pub fn described_list(writer: W) -> Serializer<W>
         ensures { Fresh W.Write W.FaultCount writer Setting.DescribedList result }
     {
@@ -118,8 +121,8 @@ impl<W: Sink> Serializer<W> {
         }
     }
 
-    /// A serializer that appends to `writer`, and writes a plain struct that it is handed directly as a map from the names
-    /// of its fields to their values.
+    /// A serializer that appends to `writer`, and writes a plain struct that it is handed directly
+    /// as a map from the names of its fields to their values.
     pub fn described_map(writer: W) -> Serializer<W>
         ensures { Fresh W.Write W.FaultCount writer Setting.DescribedMap result }
     {
@@ -132,8 +135,8 @@ impl<W: Sink> Serializer<W> {
         }
     }
 
-    /// A serializer that appends to `writer`, and takes each value that it is handed directly as the one behind a
-    /// descriptor.
+    /// A serializer that appends to `writer`, and takes each value that it is handed directly as
+    /// the one behind a descriptor.
     pub fn described_basic(writer: W) -> Serializer<W>
         ensures { Fresh W.Write W.FaultCount writer Setting.DescribedBasic result }
     {
@@ -198,8 +201,8 @@ impl<W: Sink> Serializer<W> {
         }
     }
 
-    /// Appends an element's data, behind its constructor where it is the first. An element of another
-    /// constructor than the first one's is `InvalidValue`.
+    /// Appends an element's data, behind its constructor where it is the first. An element of
+    /// another constructor than the first one's is `InvalidValue`.
     #[inline(always)]
     pub(crate) fn element(
         &mut self,
@@ -292,7 +295,8 @@ impl<W: Sink> Serializer<W> {
         self.serialize_unit(alloc)
     }
 
-    /// Writes the value itself, as an option that holds it. It is refused as the value's own `serialize`.
+    /// Writes the value itself, as an option that holds it. It is refused as the value's own
+    /// `serialize`.
     pub fn serialize_some<T: Serialize>(&mut self, alloc: Global, value: &T) -> Result<(), Error>
         ensures ok { OnOk result (Wrote (state W.Write W.FaultCount self.old)
             (T.meaning.item value.now (state W.Write W.FaultCount self.old).setting)
@@ -315,8 +319,8 @@ impl<W: Sink> Serializer<W> {
         }
     }
 
-    /// Writes the value itself, as a newtype that holds it; `name` isn't written. It is refused as the value's own
-    /// `serialize`.
+    /// Writes the value itself, as a newtype that holds it; `name` isn't written. It is refused as
+    /// the value's own `serialize`.
     pub fn serialize_newtype_struct<T: Serialize>(
         &mut self,
         alloc: Global,

@@ -3,7 +3,8 @@
 ghost use Rattle.amqp_base.specs.Meaning.{map_of};
 ghost use Rattle.amqp_base.specs.ReadBack.{both};
 ghost use Rattle.std.specs.Cmp.{IsEquivalence};
-ghost use Rattle.std.specs.Prelude.{◌≡◌, ◌==◌, ◌&&◌, ℕ, List, [], length, option_copied, IfOk, OnOk, IfErr, OnErr, true, refl};
+ghost use Rattle.std.specs.Prelude.{◌≡◌, ◌==◌, ◌&&◌, ℕ, List, [], length, option_copied, IfOk};
+ghost use Rattle.std.specs.Prelude.{OnOk, IfErr, OnErr, true, refl};
 ghost use Rattle.std.specs.Cmp.{on_per, and_per};
 ghost use Rattle.std.specs.Cmp.Lexicographic.{pointwise, lists_per};
 ghost use Rattle.std.specs.List.{IsDistinct};
@@ -19,10 +20,11 @@ use std::alloc::Global;
 use std::hash::Hash;
 use std::marker::Model;
 
-/// A map as the list of its pairs, whose keys differ, in the order in which the keys came (part 1, section 1.6.23: the order of
-/// a map's pairs counts). A contract sees that list.
+/// A map as the list of its pairs, whose keys differ, in the order in which the keys came (part 1,
+/// section 1.6.23: the order of a map's pairs counts). A contract sees that list.
 ///
-/// The seed of its hashes is fixed, so where strangers choose the keys, a `BTreeMap` is the other choice.
+/// The seed of its hashes is fixed, so where strangers choose the keys, a `BTreeMap` is the other
+/// choice.
 #[derive(Drop)]
 pub struct OrderedMap<K: Eq + Hash, V> {
     pairs: IndexMap<K, V>,
@@ -62,8 +64,9 @@ impl<K: Eq + Hash, V> OrderedMap<K, V> {
         self.len() == 0
     }
 
-    /// Puts a value at a key. A key that is there keeps its place, and gives the value that it had; a new key goes last. Where
-    /// there is no memory for it, the pair is handed back and the map is as it was.
+    /// Puts a value at a key. A key that is there keeps its place, and gives the value that it had;
+    /// a new key goes last. Where there is no memory for it, the pair is handed back and the map is
+    /// as it was.
     pub fn insert(&mut self, key: K, value: V) -> Result<Option<V>, (K, V)>
     where
         K: Drop,
@@ -95,8 +98,8 @@ impl<K: Eq + Hash, V> OrderedMap<K, V> {
         self.pairs.iter()
     }
 
-    /// A law, for contracts: two maps that one item means have the same entries, pair by pair, where keys that are the same are
-    /// equal. It does nothing when it runs.
+    /// A law, for contracts: two maps that one item means have the same entries, pair by pair,
+    /// where keys that are the same are equal. It does nothing when it runs.
     pub fn same_entries()
     where
         K: Typed,
@@ -109,7 +112,8 @@ impl<K: Eq + Hash, V> OrderedMap<K, V> {
 impl<K: Eq + Hash, V: PartialEq> PartialEq for OrderedMap<K, V> {
     ghost eq = { pointwise (λ p q. K.eq p.0 q.0 && V.eq p.1 q.1) };
 
-    ghost laws = { lists_per (and_per (on_per (λ p. p.0) K.PartialEq.laws) (on_per (λ p. p.1) V.laws)) };
+    ghost laws = { lists_per (and_per (on_per (λ p. p.0) K.PartialEq.laws)
+        (on_per (λ p. p.1) V.laws)) };
 
     /// Whether the lists of pairs are equal.
     fn eq(&self, other: &OrderedMap<K, V>) -> bool {
@@ -118,7 +122,10 @@ impl<K: Eq + Hash, V: PartialEq> PartialEq for OrderedMap<K, V> {
 }
 
 impl<K: Typed + Eq + Hash, V: Typed> Typed for OrderedMap<K, V> {
-    ghost meaning = { map_of K.meaning V.meaning (insert_entry K.eq) (λ keys. IsEquivalence K.eq × IsDistinct K.eq keys) (λ es h. distinct_again K.eq h.0.symm es h.1) (λ v. v) };
+    ghost meaning = { map_of K.meaning V.meaning (insert_entry K.eq)
+        (λ keys. IsEquivalence K.eq × IsDistinct K.eq keys)
+        (λ es h. distinct_again K.eq h.0.symm es h.1)
+        (λ v. v) };
 }
 
 impl<K: RoundTrip + Eq + Hash, V: RoundTrip> RoundTrip for OrderedMap<K, V> {

@@ -10,7 +10,8 @@ use amqp_base::{Error, NeverNull, RoundTrip, Typed};
 use std::alloc::Global;
 use std::ops::{Deref, DerefMut};
 
-/// A symbolic value (part 1, section 1.6.21). The standard has ASCII alone; here any UTF-8 text is a symbol.
+/// A symbolic value (part 1, section 1.6.21). The standard has ASCII alone; here any UTF-8 text is
+/// a symbol.
 #[derive(Debug, PartialEq, Eq, PartialOrd, Ord, Hash, Drop)]
 pub struct Symbol(pub String);
 
@@ -111,7 +112,8 @@ impl NeverNull for Symbol {
     ghost never_null = { refl };
 }
 
-/// A symbolic value whose text stands elsewhere (part 1, section 1.6.21). It is written as a symbol, and takes a string too.
+/// A symbolic value whose text stands elsewhere (part 1, section 1.6.21). It is written as a
+/// symbol, and takes a string too.
 #[derive(Debug, Clone, PartialEq, Eq, PartialOrd, Ord, Hash, Drop)]
 pub struct SymbolRef<'a>(pub &'a str);
 

@@ -1,4 +1,5 @@
-//! A file a family of types or calls, written and read; `answer`, `bytes` and `printed` hold what the tests of all families call.
+//! A file a family of types or calls, written and read; `answer`, `bytes` and `printed` hold what
+//! the tests of all families call.
 
 mod answer;
 mod arrays;

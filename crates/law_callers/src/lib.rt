@@ -1,4 +1,5 @@
-//! A caller of each law of the wire: what a crate above `amqp_base` can prove by it. Nothing here does anything at run time.
+//! A caller of each law of the wire: what a crate above `amqp_base` can prove by it. Nothing here
+//! does anything at run time.
 #![tactic(auto)]
 
 ghost use Rattle.std.specs.Prelude.{◌≡◌, ℕ, ◌*◌, ◌≤◌, List, ◌++◌, length, take, Some};

@@ -9,7 +9,8 @@ use serde_amqp::{
 };
 use std::alloc::Global;
 
-/// A number and a word, as a list of the two; under the described map setting as a map from the names of the fields.
+/// A number and a word, as a list of the two; under the described map setting as a map from the
+/// names of the fields.
 #[derive(Drop)]
 pub struct Foo {
     /// A number.

@@ -9,8 +9,8 @@ use serde_amqp::{
 };
 use std::alloc::Global;
 
-/// A text, and its number where it has one, as a list of the two; under the described map setting as a map from the names
-/// of the fields. A number that isn't there is null.
+/// A text, and its number where it has one, as a list of the two; under the described map setting
+/// as a map from the names of the fields. A number that isn't there is null.
 #[derive(Drop)]
 pub struct Note {
     /// A text.

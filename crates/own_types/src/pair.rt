@@ -26,7 +26,8 @@ impl<A: Typed, B: Typed> Typed for Pair<A, B> {
 }
 
 impl<A: RoundTrip, B: RoundTrip> RoundTrip for Pair<A, B> {
-    ghost reads_back = { both A.meaning.reads_back _ A.reads_back (both B.meaning.reads_back _ B.reads_back refl) };
+    ghost reads_back = { both A.meaning.reads_back _ A.reads_back
+        (both B.meaning.reads_back _ B.reads_back refl) };
 }
 
 impl<A: Typed, B: Typed> NeverNull for Pair<A, B> {

@@ -12,7 +12,8 @@ use serde_amqp::{
 };
 use std::alloc::Global;
 
-/// How soon something is wanted, as a ubyte: 0, 1 or 2. Another number is refused as `InvalidValue`.
+/// How soon something is wanted, as a ubyte: 0, 1 or 2. Another number is refused as
+/// `InvalidValue`.
 #[derive(Clone, Copy, Drop)]
 pub enum Priority {
     /// Some time.

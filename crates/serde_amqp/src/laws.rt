@@ -8,8 +8,9 @@ pub use amqp_base::laws::{
     items_bounded_plain, one_front, raw_agrees, round_trip, round_trip_always, same_entries,
 };
 
-/// What `to_vec` wrote for a sound value is read by `from_slice` as the same value, or the answer is `OutOfMemory`, where
-/// reading the type takes memory; where no list, array or map in it is above the cap.
+/// What `to_vec` wrote for a sound value is read by `from_slice` as the same value, or the answer
+/// is `OutOfMemory`, where reading the type takes memory; where no list, array or map in it is
+/// above the cap.
 pub fn kept<T: RoundTrip>()
     ensures { Kept T.meaning }
 {}

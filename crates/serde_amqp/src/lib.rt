@@ -1,5 +1,5 @@
-//! AMQP 1.0 values to bytes and back, proved: the canonical text of a value is written, and every text that the grammar
-//! allows is read.
+//! AMQP 1.0 values to bytes and back, proved: the canonical text of a value is written, and every
+//! text that the grammar allows is read.
 #![tactic(auto)]
 
 ghost use Rattle.std.specs.Prelude.{◌≡◌, ◌⊎◌, None, Some, IfOk, IfErr, IsTrue};
@@ -38,8 +38,8 @@ pub use amqp_types::{
 };
 use std::alloc::Global;
 
-/// The canonical text of a value. Refused where its item has none (`InvalidValue`; `Io(Other)` where a payload or a body is
-/// above 4,294,967,291 bytes), and as `OutOfMemory`.
+/// The canonical text of a value. Refused where its item has none (`InvalidValue`; `Io(Other)`
+/// where a payload or a body is above 4,294,967,291 bytes), and as `OutOfMemory`.
 pub fn to_vec<T: Serialize>(alloc: Global, value: &T) -> Result<Vec<u8>, Error>
     ensures ok { IfOk result (λ v. canon (T.meaning.item value.now Setting.Plain) ≡ Some v.items) }
     ensures err { IfErr result (λ e.
@@ -50,8 +50,8 @@ pub fn to_vec<T: Serialize>(alloc: Global, value: &T) -> Result<Vec<u8>, Error>
     Ok(ser.into_inner())
 }
 
-/// The value at the front of the bytes; bytes behind it are ignored. Refused where no item stands there that the type
-/// takes, and as `OutOfMemory` where reading the type takes memory.
+/// The value at the front of the bytes; bytes behind it are ignored. Refused where no item stands
+/// there that the type takes, and as `OutOfMemory` where reading the type takes memory.
 pub fn from_slice<'s, T: Deserialize<SliceReader<'s>>>(
     alloc: Global,
     slice: &'s [u8],

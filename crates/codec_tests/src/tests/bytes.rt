@@ -1,5 +1,6 @@
-//! Whole values and their bytes, by `to_vec` and `from_slice`. Each call answers a `bool`, or the name of a refusal: a test's proof then
-//! carries along neither a value that owns memory nor the contract of a call.
+//! Whole values and their bytes, by `to_vec` and `from_slice`. Each call answers a `bool`, or the
+//! name of a refusal: a test's proof then carries along neither a value that owns memory nor the
+//! contract of a call.
 
 use super::answer::{Answer, UNEXPECTED_EOF, name_of};
 use serde_amqp::{Deserialize, Deserializer, Read, Serialize, SliceReader, from_slice, to_vec};
@@ -95,7 +96,8 @@ pub(crate) fn is_canonical<'s, T: Serialize + Deserialize<SliceReader<'s>> + Par
     is_written_as(alloc, value, bytes) && is_form(alloc, bytes, value)
 }
 
-/// Refused as a code of another kind; as no code, where 0x57 stands there; and where no byte does, as too few.
+/// Refused as a code of another kind; as no code, where 0x57 stands there; and where no byte does,
+/// as too few.
 pub(crate) fn takes_its_codes<'s, T: Deserialize<SliceReader<'s>>>(
     alloc: Global,
     other: &'s [u8],

@@ -1,4 +1,5 @@
-//! A deserializer's calls one after the other, looks at the next item, and what follows a refusal or a dropped access.
+//! A deserializer's calls one after the other, looks at the next item, and what follows a refusal
+//! or a dropped access.
 
 use super::answer::{Answer, UNEXPECTED_EOF, answer_of, name_of};
 use amqp_base::EncodingCodes;

@@ -1,4 +1,5 @@
-//! Maps: `OrderedMap` and `BTreeMap`, repeated keys, what headers are refused for, and the most pairs that are read.
+//! Maps: `OrderedMap` and `BTreeMap`, repeated keys, what headers are refused for, and the most
+//! pairs that are read.
 
 use super::answer::{Answer, UNEXPECTED_EOF};
 use super::bytes::{is_read_as, is_text, is_written_as, refuses};

@@ -1,4 +1,5 @@
-//! Numbers without a point: each type by each of its constructors, with the first and the last value.
+//! Numbers without a point: each type by each of its constructors, with the first and the last
+//! value.
 
 use super::bytes::{are_canonical, is_form, is_read_as, takes_its_codes};
 use amqp_de::Deserializer;

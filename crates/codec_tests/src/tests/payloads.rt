@@ -1,4 +1,5 @@
-//! Binaries, strings and symbols. Every form and refusal of a string and a symbol is a line of the probe's run.
+//! Binaries, strings and symbols. Every form and refusal of a string and a symbol is a line of the
+//! probe's run.
 
 use super::bytes::{is_form, is_read_as, is_text, is_written_as, takes_its_codes};
 use amqp_de::Deserializer;
