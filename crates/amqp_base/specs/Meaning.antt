@@ -6,7 +6,7 @@ use Rattle.std.proofs.lemmas.List.Elements.{All-nil, All-cons}
 use Rattle.amqp_base.specs.Codes.{Kind}
 use Rattle.amqp_base.specs.Canon.{kind_of}
 use Rattle.amqp_base.specs.Item.{Item, Scalar, scalar, string, null}
-use Rattle.amqp_base.specs.Refusing.{Refusing, any_refusal, scalar_refusal, option_refusal, list_refusal}
+use Rattle.amqp_base.specs.Refusing.{Refusing, any_refusal, scalar_refusal, chosen_refusal, option_refusal, list_refusal, all_awaited, row_refusal, map_refusal, struct_refusal}
 use Rattle.amqp_base.specs.Shapes.{whole}
 use Rattle.amqp_base.specs.Typing.{OneValue, is_of, is_null, text_item, is_list_of, means_list, all_same}
 use Rattle.amqp_base.specs.OneValue.{one_of, one_list, bytes_in}
@@ -115,7 +115,7 @@ chosen_of k grows content allowed own = record {
   takes = λ i. is_of k.kind i && allowed (k.inside i);
   means = λ i v. i ≡ scalar (k.make (content v));
   same = λ v w. content v ≡ content w;
-  refuses = any_refusal;
+  refuses = chosen_refusal k.kind (λ i. allowed (k.inside i));
   grows = grows;
   in_described_list = λ _. refl;
   in_described_basic = λ _. refl;
@@ -130,9 +130,12 @@ chosen_of k grows content allowed own = record {
   not_null = λ _ v. k.not_null (content v);
 }
 
--- the same, where nothing is said of what is refused
+-- the same, where it refuses so; and where nothing is said of what is refused
+abbrev pub refused_as : {T : Type 0} → Refusing → Meaning T → Meaning T
+refused_as refuses m = record m { refuses = refuses }
+
 abbrev pub unnamed : {T : Type 0} → Meaning T → Meaning T
-unnamed m = record m { refuses = any_refusal }
+unnamed m = refused_as any_refusal m
 
 -- a text: a symbol under the symbol setting, else a string
 abbrev pub text_of : {T : Type 0} → Bool → (T → List ℕ) → Meaning T
@@ -230,7 +233,7 @@ map_of k x put distinct again content = record {
   takes = is_map_of k.takes x.takes;
   means = λ i v. means_map k.means x.means put i (content v);
   same = λ v w. SameRows k.same x.same put (content v) (content w);
-  refuses = any_refusal;
+  refuses = map_refusal k.takes k.refuses x.takes x.refuses;
   grows = true;
   in_described_list = λ _. refl;
   in_described_basic = λ _. refl;
@@ -253,6 +256,7 @@ pub record Row (V : Type 0) : Type 1 where
   pub takes : List (Item → Bool)
   pub means : V → List {1} (Item → Type 0)
   pub same : V → V → Type 0
+  pub refuses : List {1} Refusing
   pub grows : Bool
   pub one : (v w : V) → OneRow names (means v) (means w) (same v w)
   pub sound : V → Type 0
@@ -272,6 +276,7 @@ no_field = record {
   takes = [];
   means = λ _. [];
   same = λ _ _. Unit {0};
+  refuses = [];
   grows = false;
   one = λ _ _. one_none;
   sound = λ _. Unit {0};
@@ -289,6 +294,7 @@ field_of name m get rest = record {
   takes = m.takes ∷ rest.takes;
   means = λ v. field m.means (get v) ∷ rest.means v;
   same = λ v w. m.same (get v) (get w) × rest.same v w;
+  refuses = m.refuses ∷ rest.refuses;
   grows = m.grows || rest.grows;
   one = λ v w. one_field name m.one_value (get v) (get w) (rest.one v w);
   sound = λ v. m.sound (get v) × rest.sound v;
@@ -329,7 +335,7 @@ struct_of row = record {
   takes = takes_struct row.names row.takes;
   means = λ i v. means_struct row.names (row.means v) i;
   same = row.same;
-  refuses = any_refusal;
+  refuses = struct_refusal (all_awaited row.names) row.names row.takes row.refuses;
   grows = true;
   in_described_list = λ v. struct_in_list (row.items v);
   in_described_basic = λ v. struct_in_basic (row.items v);
@@ -357,7 +363,7 @@ row_as list taken read not_null row = record {
   takes = takes_fields row.takes;
   means = λ i v. means_fields (row.means v) i;
   same = row.same;
-  refuses = any_refusal;
+  refuses = row_refusal (all_awaited row.takes) row.takes row.refuses;
   grows = row.grows;
   in_described_list = λ _. refl;
   in_described_basic = λ _. refl;

@@ -14,3 +14,8 @@ IsCustom text e = ⊥
 abbrev pub IsDevice : Error → Type 0
 IsDevice (Io kind) = (kind ≢ UnexpectedEof) × (kind ≢ Other)
 IsDevice e = ⊥
+
+-- a message, of whatever text
+abbrev pub IsMessage : Error → Type 0
+IsMessage (Message s) = Unit {0}
+IsMessage e = ⊥

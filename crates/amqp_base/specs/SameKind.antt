@@ -1,5 +1,5 @@
 -- Kinds are told apart by their place in the table of kinds.
-use Rattle.std.specs.Prelude.{ℕ, ◌==◌, Bool}
+use Rattle.std.specs.Prelude.{ℕ, ◌==◌, Bool, ◌||◌}
 use Rattle.amqp_base.specs.Codes.{Kind}
 
 -- the place of a kind among the kinds, by which kinds are told apart
@@ -33,3 +33,7 @@ place Kind.array = 24
 -- whether two kinds are the same
 unfoldable pub same_kind : Kind → Kind → Bool
 same_kind a b = place a == place b
+
+-- the three kinds of decimals (1.6.13 to 1.6.15)
+abbrev pub is_decimal_kind : Kind → Bool
+is_decimal_kind k = same_kind k Kind.decimal32 || (same_kind k Kind.decimal64 || same_kind k Kind.decimal128)

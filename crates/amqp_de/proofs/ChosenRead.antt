@@ -1,5 +1,5 @@
 -- Reading a type that has some of the values of another.
-use Rattle.std.proofs.Common.{◌≡◌, ℕ, Bool, false, ◌||◌, List, ◌++◌, Some, IsTrue}
+use Rattle.std.proofs.Common.{◌≡◌, ℕ, Bool, false, ◌||◌, List, ◌++◌, Some, IsTrue, sym, subst, inl, inr, ◌⊎◌}
 use Rattle.amqp_base.specs.Item.{Item}
 use Rattle.amqp_base.specs.Wire.{Wire, lenient}
 use Rattle.amqp_base.specs.Meaning.{Meaning}
@@ -8,10 +8,10 @@ use Rattle.amqp_base.specs.declared.error.Error.{Error}
 use Rattle.amqp_base.specs.declared.error.Error.TheVariants.{InvalidValue}
 use Rattle.amqp_base.proofs.OneFront.{same_wire}
 use Rattle.amqp_de.specs.Decoding.{Decoding, stands_under}
-use Rattle.amqp_de.specs.Law.{Front, Found, Missed}
+use Rattle.amqp_de.specs.Law.{Excused, Front, Found, Missed, Named}
 use Rattle.amqp_de.proofs.Answered.{spent_refused}
 use Rattle.amqp_de.proofs.PartsRead.{missed_more}
-use Rattle.amqp_de.proofs.Readings.{behind}
+use Rattle.amqp_de.proofs.Readings.{behind, excused_more}
 use Rattle.amqp_de.proofs.ReadParts.{or_more}
 use Rattle.amqp_de.proofs.Weaker.{found_as}
 
@@ -46,3 +46,19 @@ module _ {V A : Type 0} (of : Meaning A) (some : Meaning V) (content : V → A) 
         device = more.device;
         memory = more.memory;
       }
+
+  -- refusals by name
+  pub chosen_none_named : (a : A) → allowed a ≡ false → Found of.takes (λ i. of.means i a) old new → Named some.refuses (some.grows || buffers) buffers old new InvalidValue
+  chosen_none_named a n f = record {
+    why = λ x s at h.
+        let o = f.front x in
+        let b = behind old.reading new.reading s o.text o.step at in
+        inl (subst (λ (z : List ℕ). some.refuses (stands_under old) z InvalidValue) (sym b.2) (c.own_refusal (stands_under old) o.text b.0 o.item a o.spelled o.taken o.value n));
+  }
+
+  pub chosen_named : (e : Error) → Named of.refuses (of.grows || buffers) buffers old new e → Named some.refuses (some.grows || buffers) buffers old new e
+  chosen_named e n = record { why = λ x s at h. tell s (n.why x s at h) }
+    where
+      tell : (s : List ℕ) → of.refuses (stands_under old) s e ⊎ Excused (of.grows || buffers) buffers old.reading new.reading e → some.refuses (stands_under old) s e ⊎ Excused (some.grows || buffers) buffers old.reading new.reading e
+      tell s (inl p) = inl (c.outer_refusal (stands_under old) s e p)
+      tell s (inr y) = inr (excused_more old.reading new.reading e (or_more of.grows some.grows buffers c.grows) y)

@@ -23,7 +23,7 @@ count_fields (f ∷ fs) none t = absurd cc
 count_fields (f ∷ fs) (more i is) t = ap suc (count_fields fs is (right_of (f i) _ t))
 
 -- the number of parts is looked at once the list's own header was read
-tuple_item : (len : ℕ) (c : Constructor) (s : List ℕ) → item_at (tuple_data len) c s ≡ (item_at list_data c s >>= λ n. of_length len n.0 n.1)
+pub tuple_item : (len : ℕ) (c : Constructor) (s : List ℕ) → item_at (tuple_data len) c s ≡ (item_at list_data c s >>= λ n. of_length len n.0 n.1)
 unfolding tuple_data
 tuple_item len c s = at_byte (byte_under c s)
   where
@@ -38,7 +38,7 @@ tuple_item len c s = at_byte (byte_under c s)
 same_length : (len n : ℕ) (s : List ℕ) → n ≡ len → of_length len n s ≡ Ok (n, s)
 same_length len n s h = rw (eq-eqb n len h) refl
 
-other_length : (len n : ℕ) (s : List ℕ) → (n ≡ len → ⊥) → of_length len n s ≡ Err SequenceLengthMismatch
+pub other_length : (len n : ℕ) (s : List ℕ) → (n ≡ len → ⊥) → of_length len n s ≡ Err SequenceLengthMismatch
 other_length len n s h = rw (ne_eqb n len h) refl
 
 pub tuple_exactly : (len : ℕ) (old : Decoding) (l : Listing) → OpensExactly list_data old l → l.left ≡ len → OpensExactly (tuple_data len) old l

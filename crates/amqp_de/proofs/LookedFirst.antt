@@ -2,7 +2,7 @@
 use Rattle.std.proofs.Common.{◌≡◌, ℕ, ◌≤◌, Bool, true, IsTrue, List, ◌++◌, length, Option, Some, None, refl, sym, ap, ◌∙◌, arith}
 use Rattle.std.specs.Io.KnownBytes.{Keeps, Consumes}
 use Rattle.amqp_base.specs.declared.error.Error.{Error}
-use Rattle.amqp_base.specs.declared.error.Error.TheVariants.{InvalidFormatCode, Message, Io, OutOfMemory}
+use Rattle.amqp_base.specs.declared.error.Error.TheVariants.{Message, Io, OutOfMemory}
 use Rattle.amqp_base.specs.declared.format_code.EncodingCodes.{EncodingCodes}
 use Rattle.amqp_base.specs.Codes.{Kind, row}
 use Rattle.amqp_base.specs.Item.{Item}
@@ -14,9 +14,9 @@ use Rattle.amqp_read.specs.Steps.{Looked}
 use Rattle.amqp_de.specs.Decoding.{Decoding, stands_under}
 use Rattle.amqp_de.specs.Law.{Found, Missed, Excused, Overfull, Spent, refused_free, no_memory, faulted, uncounted}
 use Rattle.amqp_de.specs.Look.{item_kind, looked_at, Looks, LooksNot}
-use Rattle.amqp_de.proofs.Received.{agree_front, left_behind, keeps_known, may_known, may_taken}
+use Rattle.amqp_de.proofs.Received.{agree_front, left_behind, keeps_known, may_known}
 use Rattle.amqp_de.proofs.Readings.{advances_then, steady_then, stayed, excused_more}
-use Rattle.amqp_de.proofs.Answered.{of_kind_is, not_refused, spent_refused}
+use Rattle.amqp_de.proofs.Answered.{of_kind_is, not_refused}
 use Rattle.amqp_de.proofs.Looking.{own_byte, code_stands}
 
 keeps_overfull : (n : ℕ) (k l : Option (List ℕ)) → Keeps k l → Overfull n l → Overfull n k
@@ -126,21 +126,5 @@ missed_custom k buffers old new x text e l n c = record {
   spent = λ a. none_spent old new l.begun l.looked.stays;
   steady = (stayed l.looked.stays);
   device = λ d. absurd (custom_device text e c d);
-  memory = λ _. refl;
-}
-
--- an item of another kind was read
-pub missed_other : (k : Kind) (buffers : Bool) (takes : Item → Bool) (means : Item → Type 0) (old mid new : Decoding) (x : EncodingCodes) → Looks old mid x → Found takes means mid new → ((i : Item) → means i → item_kind i ≡ k → ⊥)
-    → Missed (is_of k) true buffers old new InvalidFormatCode
-missed_other k buffers takes means old mid new x l f n = record {
-  why = λ a i t rest w q at h.
-      let o = f.front l.answers in
-      let known = keeps_known old.reading.to_come mid.reading.to_come (t ++ rest) l.looked.stays.to_come at in
-      let same = same_place old mid x l in
-      let v : Wire lenient (stands_under old) o.text o.item = rw same at (o.spelled) in
-      absurd (n o.item o.value (sym (l.kind o.item o.text v (may_taken mid.reading new.reading o.text o.step)) ∙ l.kind i t w (may_known mid.reading t rest known) ∙ kind_is k i q));
-  spent = λ a. let same = same_place old mid x l in let s = f.spent l.answers in spent_refused old new (spent_behind old mid new x _ l (rw same at s));
-  steady = advances_then old.reading mid.reading new.reading (stayed l.looked.stays) f.steady;
-  device = λ d. absurd d;
   memory = λ _. refl;
 }

@@ -34,6 +34,10 @@ any_again e = tell (code_again e)
     tell (inl p) = any_code_is (row e).byte e p
     tell (inr p) = rw p described_byte
 
+-- codes have bytes of their own
+pub same_byte : (d e : EncodingCodes) → (row d).byte ≡ (row e).byte → d ≡ e
+same_byte d e h = cc (any_again d, any_again e, h)
+
 any_none : (b : ℕ) → ((d : EncodingCodes) → (row d).byte ≡ b → ⊥) → any_code b ≡ Err InvalidFormatCode
 unfolding any_code row
 any_none zero n = absurd (n DescribedType refl)

@@ -1,25 +1,22 @@
 -- Refusals by the names that the bytes call for.
-use Rattle.std.proofs.Common.{◌≡◌, ℕ, zero, suc, ◌<◌, Bool, true, ◌||◌, IsTrue, List, length, ◌++◌, Option, Some, None, Result, Ok, Err, IfErr, IsErrAnd, refl, sym, ap, subst, ◌∙◌, arith, inl, inr, ◌⊎◌}
+use Rattle.std.proofs.Common.{◌≡◌, ℕ, Bool, ◌||◌, IsTrue, List, length, Option, Some, None, Result, Ok, Err, IfErr, IsErrAnd, refl, sym, ap, subst, ◌∙◌, arith, inl, inr, ◌⊎◌}
 use Rattle.amqp_base.specs.declared.error.Error.{Error}
-use Rattle.amqp_base.specs.declared.error.Error.TheVariants.{InvalidValue, OutOfMemory}
+use Rattle.amqp_base.specs.declared.error.Error.TheVariants.{InvalidValue}
 use Rattle.amqp_base.specs.declared.format_code.EncodingCodes.{EncodingCodes}
 use Rattle.amqp_base.specs.declared.format_code.EncodingCodes.TheVariants.{Null}
 use Rattle.amqp_base.specs.Codes.{Kind, row}
 use Rattle.amqp_base.specs.SameKind.{same_kind, place}
 use Rattle.amqp_base.specs.Value.{payload, read}
 use Rattle.std.proofs.lemmas.Bool.{le-ltb}
-use Rattle.amqp_base.specs.Item.{Item, Items, null}
-use Rattle.amqp_base.specs.Wire.{Constructor, bare, Wire, lenient}
-use Rattle.amqp_base.specs.Parse.{Parsed, ◌>>=◌, byte_under, any_code, with_rest, behind_byte, item_at, code_at, data_at, list_data}
-use Rattle.amqp_base.specs.Refusing.{Refusing, any_refusal, scalar_refusal, option_refusal, PartThen, part_refusal, ListThen, list_refusal}
-use Rattle.amqp_read.specs.Reading.{Reading}
+use Rattle.amqp_base.specs.Item.{null}
+use Rattle.amqp_base.specs.Wire.{Constructor}
+use Rattle.amqp_base.specs.Parse.{Parsed, ◌>>=◌, byte_under, any_code, with_rest, behind_byte, item_at, code_at, data_at}
+use Rattle.amqp_base.specs.Refusing.{Refusing, any_refusal, scalar_refusal, option_refusal}
 use Rattle.amqp_de.specs.Decoding.{Decoding, stands_under, ready}
-use Rattle.amqp_de.specs.Law.{Excused, Named, no_memory}
+use Rattle.amqp_de.specs.Law.{Excused, Named}
 use Rattle.amqp_de.specs.Look.{Looks, LooksNot}
-use Rattle.amqp_de.specs.Access.{Listing, HasParts, Opens, OpensExactly, OpensNot, Part, PartNamed, Passes, Plain, NoEnd, Within}
-use Rattle.amqp_de.specs.ReadParts.{PartsRead}
-use Rattle.amqp_de.proofs.PartsRead.{end_refused}
-use Rattle.amqp_de.proofs.Readings.{takes_then, behind, excused_before, excused_more}
+use Rattle.amqp_de.specs.Access.{Listing, PartNamed, Passes, Within}
+use Rattle.amqp_de.proofs.Readings.{excused_more}
 use Rattle.amqp_de.proofs.Received.{keeps_known}
 use Rattle.amqp_de.proofs.LookedFirst.{excused_kept, same_place}
 use Rattle.amqp_de.proofs.ReadParts.{or_right}
@@ -56,7 +53,7 @@ at_byte : {A : Type 0} (f : EncodingCodes → List ℕ → Parsed A) (rest : Lis
 at_byte f rest (Ok b) x h = at_code f b.1 rest (any_code b.0) x h
 at_byte f rest (Err e) x h = absurd cc
 
-by_code : {A : Type 0} (f : EncodingCodes → List ℕ → Parsed A) (c : Constructor) (s rest : List ℕ) (x : EncodingCodes) → code_at c s ≡ Ok (x, rest) → item_at f c s ≡ f x rest
+pub by_code : {A : Type 0} (f : EncodingCodes → List ℕ → Parsed A) (c : Constructor) (s rest : List ℕ) (x : EncodingCodes) → code_at c s ≡ Ok (x, rest) → item_at f c s ≡ f x rest
 by_code f c s rest x h = at_byte f rest (byte_under c s) x h
 
 null_there : (rest : List ℕ) (e : Error) → data_at Kind.null Null rest ≡ Err e → ⊥
@@ -102,91 +99,10 @@ option_value refuses grows buffers old mid new x e l n =
     tell s (inl p) = inl (inr p)
     tell s (inr y) = inr y
 
--- ---- lists
-
--- what is refused at this place of a list, the whole is refused as
-pub record Reaches (takes : Item → Bool) (refuses : Refusing) (from now : Listing) : Type 0 where
-  pub back : (s : List ℕ) → from.state.reading.to_come ≡ Some s → (rest : List ℕ) × (now.state.reading.to_come ≡ Some rest) × ((e : Error) → part_refusal takes refuses now.left rest e → part_refusal takes refuses from.left s e)
-
-pub stands_bare : (d : Decoding) → d.inherited ≡ bare → stands_under d ≡ bare
-stands_bare d h = rw h refl
-
-module _ (takes : Item → Bool) (refuses : Refusing) (from : Listing) where
-  pub reaches_start : Reaches takes refuses from from
-  reaches_start = record { back = λ s at. (s, at, λ e p. p) }
-
-  pub reaches_step : {means : Item → Type 0} (now next : Listing) → stands_under now.state ≡ bare → Reaches takes refuses from now → Part takes means now next → Reaches takes refuses from next
-  reaches_step now next b r p = record {
-    back = λ s at.
-        let y = r.back s at in
-        let k = behind now.state.reading next.state.reading y.0 p.front.text p.front.step y.1 in (
-          k.0,
-          k.1,
-          λ e q. y.2 e (subst (λ (n : ℕ). part_refusal takes refuses n y.0 e) (sym p.left) (inr (record {
-            item = p.front.item;
-            text = p.front.text;
-            rest = k.0;
-            spelled = subst (λ (c : Constructor). Wire lenient c p.front.text p.front.item) b p.front.spelled;
-            taken = p.front.taken;
-            split = k.2;
-            behind = q;
-          }))),
-        );
-  }
-
-  -- a part was refused here
-  here : (n : ℕ) (s : List ℕ) (e : Error) → 0 < n → refuses bare s e → part_refusal takes refuses n s e
-  here zero s e l p = absurd (omega (arith, l))
-  here (suc n) s e l p = inl p
-
-  module _ (buffers : Bool) (old last : Decoding) (e : Error) (o : Opens HasParts old from) (x : OpensExactly list_data old from) (l : Plain from) where
-    pub list_part : {parts : Items} (now next : Listing) (grows : Bool) → PartsRead from parts now → Reaches takes refuses from now → 0 < now.left → PartNamed refuses grows buffers now next e → last.reading ≡ next.state.reading
-        → Named (list_refusal takes refuses) true buffers old last e
-    unfolding list_refusal
-    list_part now next grows so_far r some n same = record {
-      why = λ a s at h.
-          let z = x.exact s at in
-          let y = r.back z.0 z.1 in
-          let honest = so_far.step.steady.honest ∙ (o.step.steady.honest ∙ h) in
-          tell s z.0 y.0 z.2 (y.2 e) (n.why so_far.answers y.0 y.1 honest);
-    }
-      where
-        tell : (s behind_it rest : List ℕ) → item_at list_data (stands_under old) s ≡ Ok (from.left, behind_it) → (part_refusal takes refuses now.left rest e → part_refusal takes refuses from.left behind_it e)
-            → (refuses (stands_under now.state) rest e ⊎ Passes now.limit e) ⊎ Excused grows buffers now.state.reading next.state.reading e
-            → ((item_at list_data (stands_under old) s ≡ Err e) ⊎ ListThen takes refuses (stands_under old) s e) ⊎ Excused true buffers old.reading last.reading e
-        tell s behind_it rest header back (inl (inl p)) =
-            let b = stands_bare now.state (so_far.inherited ∙ l.inherited) in
-            inl (inr (record {
-              count = from.left;
-              rest = behind_it;
-              header = header;
-              part = back (here now.left rest e some (subst (λ (c : Constructor). refuses c rest e) b p));
-            }))
-        tell s behind_it rest header back (inl (inr p)) = let q : Passes None e = subst (λ (m : Option ℕ). Passes m e) (so_far.limit ∙ l.limit) p in absurd q
-        tell s behind_it rest header back (inr y) = inr (rw same (excused_before old.reading now.state.reading next.state.reading (o.text ++ so_far.text) e (takes_then old.reading from.state.reading now.state.reading o.text so_far.text o.step so_far.step) (excused_more now.state.reading next.state.reading e (λ _. refl) y)))
-
-    -- the end isn't refused, as all was read
-    pub list_end : {parts : Items} (now : Listing) → PartsRead from parts now → now.left ≡ 0 → NoEnd now last e → Named (list_refusal takes refuses) true buffers old last e
-    list_end {parts} now so_far z n = absurd ((end_refused old from parts now o so_far last e n).0 z)
-
-  -- no memory was there for a part
-  pub list_no_room : (buffers : Bool) (old last : Decoding) → Named (list_refusal takes refuses) true buffers old last OutOfMemory
-  list_no_room buffers old last = record { why = λ a s at h. inr (no_memory refl refl) }
-
 -- a refusal that `?` passes on
 pub named_on : {A : Type 0} {refuses : Refusing} {grows buffers : Bool} {old : Decoding} {e : Error} (r : Result A Error) (last x : Decoding) → IsErrAnd r (λ y. y ≡ e) → last ≡ x → Named refuses grows buffers old x e → IfErr r (λ y. Named refuses grows buffers old last y)
 named_on (Ok v) last x h l n = absurd h
 named_on (Err y) last x h l n = rw (h, l) n
-
--- no list was opened
-pub list_unopened : {grows : Bool} (takes : Item → Bool) (refuses : Refusing) (buffers : Bool) (old last : Decoding) (e : Error) → OpensNot HasParts list_data grows buffers old last e → Named (list_refusal takes refuses) true buffers old last e
-unfolding list_refusal
-list_unopened {grows = grows} takes refuses buffers old last e o = record { why = λ a s at h. tell s ((o.rejects a).why s at h) }
-  where
-    tell : (s : List ℕ) → (item_at list_data (stands_under old) s ≡ Err e) ⊎ Excused grows buffers old.reading last.reading e
-        → ((item_at list_data (stands_under old) s ≡ Err e) ⊎ ListThen takes refuses (stands_under old) s e) ⊎ Excused true buffers old.reading last.reading e
-    tell s (inl p) = inl (inl p)
-    tell s (inr y) = inr (excused_more old.reading last.reading e (λ _. refl) y)
 
 -- ---- a part of an access
 

@@ -1,5 +1,8 @@
 -- What calls answer, by the meaning of the type that is read.
-use Rattle.std.specs.Prelude.{Bool, true, ◌||◌, Option, Result}
+use Rattle.std.specs.Prelude.{Bool, true, ◌||◌, List, Option, Result}
+use Rattle.amqp_base.specs.Item.{Item}
+use Rattle.amqp_base.specs.Refusing.{Refusing, opened_refusal, row_refusal, fields_refusal, struct_refusal}
+use Rattle.amqp_base.specs.Parse.{map_data}
 use Rattle.amqp_base.specs.declared.error.Error.{Error}
 use Rattle.amqp_base.specs.Meaning.{Meaning}
 use Rattle.amqp_de.specs.Decoding.{Decoding}
@@ -8,7 +11,7 @@ use Rattle.amqp_de.specs.Access.{Listing, Next, PartNamed}
 use Rattle.amqp_base.specs.Fields.{takes_fields, means_fields}
 use Rattle.amqp_base.specs.NamedFields.{takes_map, takes_struct, means_map, means_struct}
 use Rattle.amqp_de.specs.ReadFields.{Slots}
-use Rattle.amqp_de.specs.ReadPairs.{NextKey, NextValue, NextEntry}
+use Rattle.amqp_de.specs.ReadPairs.{KeyNext, ValueNext, NextKey, NextValue, NextEntry, TurnNamed, EntryTurnNamed}
 
 -- the item at the front was read as this value
 abbrev pub IsRead : {T : Type 0} → Meaning T → T → Decoding → Decoding → Type 0
@@ -31,6 +34,15 @@ ElementNamed m buffers old new e = PartNamed m.refuses (m.grows || buffers) buff
 
 abbrev pub KeyAnswer : {K : Type 0} → Meaning K → Bool → Listing → Result (Option K) Error → Listing → Type 0
 KeyAnswer m buffers old r new = NextKey m.takes m.means (m.grows || buffers) buffers old r new
+
+abbrev pub KeyNamed : {K : Type 0} → Meaning K → Bool → Listing → Listing → Error → Type 0
+KeyNamed m buffers old new e = TurnNamed KeyNext m.refuses (m.grows || buffers) buffers old new e
+
+abbrev pub ValueNamed : {V : Type 0} → Meaning V → Bool → Listing → Listing → Error → Type 0
+ValueNamed m buffers old new e = TurnNamed ValueNext m.refuses (m.grows || buffers) buffers old new e
+
+abbrev pub EntryNamed : {K V : Type 0} → Meaning K → Meaning V → Bool → Listing → Listing → Error → Type 0
+EntryNamed k v buffers old new e = EntryTurnNamed k.takes k.means k.refuses v.refuses (k.grows || buffers) (v.grows || buffers) buffers old new e
 
 abbrev pub ValueAnswer : {V : Type 0} → Meaning V → Bool → Listing → Result V Error → Listing → Type 0
 ValueAnswer m buffers old r new = NextValue m.takes m.means (m.grows || buffers) buffers old r new
@@ -57,3 +69,13 @@ NamedRefused s buffers old new e = Missed (takes_map s.names s.kinds) true buffe
 
 abbrev pub RowRefused : {V : Type 0} → Slots V → Bool → Bool → Decoding → Decoding → Error → Type 0
 RowRefused s grows buffers old new e = Missed (takes_fields s.kinds) (grows || buffers) buffers old new e
+
+-- and out of a list by the name that the bytes call for
+abbrev pub RowNamed : {V : Type 0} → Slots V → List (Item → Bool) → List {1} Refusing → Bool → Bool → Decoding → Decoding → Error → Type 0
+RowNamed s takes refuses grows buffers old new e = Named (row_refusal s.awaited takes refuses) (grows || buffers) buffers old new e
+
+abbrev pub MapNamed : {V : Type 0} → Slots V → List (Item → Bool) → List {1} Refusing → Bool → Decoding → Decoding → Error → Type 0
+MapNamed s takes refuses buffers old new e = Named (opened_refusal map_data (fields_refusal s.all_names takes refuses s.awaited)) true buffers old new e
+
+abbrev pub FieldsNamed : {V : Type 0} → Slots V → List (Item → Bool) → List {1} Refusing → Bool → Decoding → Decoding → Error → Type 0
+FieldsNamed s takes refuses buffers old new e = Named (struct_refusal s.awaited s.all_names takes refuses) true buffers old new e

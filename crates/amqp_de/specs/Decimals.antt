@@ -1,18 +1,14 @@
 -- Decimals of any width.
-use Rattle.std.specs.Prelude.{ℕ, Bool, false, ◌||◌, if◌then◌else◌, List, Err}
+use Rattle.std.specs.Prelude.{ℕ, Bool, false, if◌then◌else◌, List, Err}
 use Rattle.amqp_base.specs.declared.error.Error.TheVariants.{InvalidFormatCode}
 use Rattle.amqp_base.specs.declared.format_code.EncodingCodes.{EncodingCodes}
-use Rattle.amqp_base.specs.Codes.{Kind, row}
-use Rattle.amqp_base.specs.SameKind.{same_kind}
+use Rattle.amqp_base.specs.Codes.{row}
+use Rattle.amqp_base.specs.SameKind.{is_decimal_kind}
 use Rattle.amqp_base.specs.Canon.{kind_of}
 use Rattle.amqp_base.specs.Item.{Scalar, decimal32, decimal64, decimal128, Item, scalar}
 use Rattle.amqp_types.specs.declared.decimal.Decimal.{Decimal}
 use Rattle.amqp_types.specs.declared.decimal.Decimal.TheVariants.{Dec32, Dec64, Dec128}
 use Rattle.amqp_base.specs.Parse.{Parsed, by_category}
-
--- the three kinds (1.6.13 to 1.6.15)
-abbrev pub is_decimal_kind : Kind → Bool
-is_decimal_kind k = same_kind k Kind.decimal32 || (same_kind k Kind.decimal64 || same_kind k Kind.decimal128)
 
 -- an item of one of them
 abbrev pub is_decimal : Item → Bool

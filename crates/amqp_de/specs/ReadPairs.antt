@@ -7,7 +7,8 @@ use Rattle.amqp_base.specs.Maps.{all_pairs_taken, is_map_of}
 use Rattle.amqp_de.specs.Decoding.{Decoding}
 use Rattle.amqp_de.specs.Law.{Missed}
 use Rattle.amqp_base.specs.Parse.{map_data}
-use Rattle.amqp_de.specs.Access.{Listing, HasPairs, Opens, OpensNot, Part, NoPart}
+use Rattle.amqp_base.specs.Refusing.{Refusing}
+use Rattle.amqp_de.specs.Access.{Listing, HasPairs, Opens, OpensNot, Part, NoPart, PartNamed}
 use Rattle.amqp_de.specs.ReadParts.{PartsRead, and_last}
 
 -- A key comes next where as many keys as values are left; else the value of the last key.
@@ -55,6 +56,15 @@ abbrev pub NextEntry : {K V : Type 0} → (Item → Bool) → (Item → Bool) �
 NextEntry key value means_key means_value grows_key grows_value buffers old (Ok None) new = (old.left ≡ 0) × (new ≡ old) × IsTrue old.answers
 NextEntry key value means_key means_value grows_key grows_value buffers old (Ok (Some p)) new = NextPair key value means_key means_value grows_key grows_value buffers old p.0 p.1 new
 NextEntry key value means_key means_value grows_key grows_value buffers old (Err e) new = NoEntry key value means_key grows_key grows_value buffers old new e
+
+-- Of known bytes a key or a value whose turn it is is refused as its type refuses it.
+pub record TurnNamed (Turn : Listing → Type 0) (refuses : Refusing) (grows buffers : Bool) (old new : Listing) (e : Error) : Type 0 where
+  pub part : Turn old → PartNamed refuses grows buffers old new e
+
+-- and of a pair its key, or the value behind a key
+pub data EntryTurnNamed {K : Type 0} (key : Item → Bool) (means_key : Item → K → Type 0) (refuses_key refuses_value : Refusing) (grows_key grows_value buffers : Bool) (old new : Listing) (e : Error) : Type 0 where
+  key_named : TurnNamed KeyNext refuses_key grows_key buffers old new e → EntryTurnNamed key means_key refuses_key refuses_value grows_key grows_value buffers old new e
+  value_named : (k : K) (mid : Listing) → NextKey key means_key grows_key buffers old (Ok (Some k)) mid → TurnNamed ValueNext refuses_value grows_value buffers mid new e → EntryTurnNamed key means_key refuses_key refuses_value grows_key grows_value buffers old new e
 
 -- one more pair behind these
 abbrev pub and_pair : Pairs → Item → Item → Pairs

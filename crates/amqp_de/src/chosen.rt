@@ -1,7 +1,7 @@
 //! Types that have some of the values of another.
 
 ghost use Rattle.std.specs.Prelude.{IfOk, IfErr};
-ghost use Rattle.amqp_de.specs.Calls.{IsRead, IsRefused};
+ghost use Rattle.amqp_de.specs.Calls.{IsRead, IsRefused, IsNamed};
 
 use crate::{Deserialize, Deserializer};
 use amqp_base::{Error, Typed};
@@ -42,6 +42,7 @@ impl<R: Read> Deserializer<R> {
         T::Of: Deserialize<R>,
         ensures ok { IfOk result (λ v. IsRead T.meaning v self.old self.new) }
         ensures err { IfErr result (λ e. IsRefused T.meaning R.buffers self.old self.new e) }
+        ensures named { IfErr result (λ e. IsNamed T.meaning R.buffers self.old self.new e) }
     {
         match <T::Of as Deserialize<R>>::deserialize(alloc, self) {
             Ok(value) => match T::choose(value) {

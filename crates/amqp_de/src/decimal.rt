@@ -5,10 +5,11 @@ ghost use Rattle.amqp_base.specs.Codes.{row, codes};
 ghost use Rattle.amqp_base.specs.Canon.{kind_of};
 ghost use Rattle.amqp_base.specs.Item.{scalar};
 ghost use Rattle.amqp_base.specs.Typing.{is_of};
-ghost use Rattle.amqp_base.specs.declared.error.Error.TheVariants.{InvalidFormatCode};
-ghost use Rattle.amqp_de.specs.Decimals.{is_decimal_kind, is_decimal, decimal_at, decimal};
+ghost use Rattle.amqp_base.specs.Refusing.{decimal_refusal};
+ghost use Rattle.amqp_base.specs.SameKind.{is_decimal_kind};
+ghost use Rattle.amqp_de.specs.Decimals.{is_decimal, decimal_at, decimal};
 ghost use Rattle.amqp_de.specs.Decoding.{stands_under};
-ghost use Rattle.amqp_de.specs.Law.{Found, Missed};
+ghost use Rattle.amqp_de.specs.Law.{Found, Missed, Named};
 ghost use Rattle.amqp_de.specs.OneCode.{alone};
 ghost use Rattle.amqp_base.specs.Parse.{item_at, behind_byte};
 ghost use Rattle.amqp_de.specs.Steps.{IsData, Rejects, Exact, Stops};
@@ -86,11 +87,13 @@ fn of_width<R: Read>(
 ) -> Result<Decimal, Error>
     requires { IsTrue (alone (row wanted).kind (row wanted).byte codes) ×
         IsTrue (is_decimal_kind (row wanted).kind) }
-    ensures ok { IfOk result (λ d. Found is_decimal (λ i. i ≡ scalar (decimal d)) de.old de.new) }
-    ensures other { IfOk result (λ d. (kind_of (decimal d) ≡ (row wanted).kind → ⊥) →
-        Missed (is_of (row wanted).kind) true R.buffers de.old de.new InvalidFormatCode) }
+    ensures ok { IfOk result (λ d.
+        Found (is_of (row wanted).kind) (λ i. i ≡ scalar (decimal d)) de.old de.new) }
+    ensures width { IfOk result (λ d. kind_of (decimal d) ≡ (row wanted).kind) }
     ensures err { IfErr result (λ e.
         Missed (is_of (row wanted).kind) true R.buffers de.old de.new e) }
+    ensures named { IfErr result (λ e.
+        Named (decimal_refusal (row wanted).kind) true R.buffers de.old de.new e) }
 {
     match de.deserialize_any() {
         Ok(code) => {
@@ -111,7 +114,7 @@ impl<R: Read> Deserialize<R> for Dec32 {
     /// A decimal32 (part 1, section 1.6.13). A decimal of another width is a `Message`, before its
     /// data are looked at, and consumes nothing; else the refusals are those of
     /// `deserialize_decimal`.
-    #[tactic(auto, using(crate::proofs::Naming::named_any), unfolding(amqp_base::specs::Codes::row, amqp_base::specs::SameKind::same_kind, amqp_base::specs::SameKind::place))]
+    #[tactic(auto, unfolding(amqp_base::specs::Codes::row, amqp_base::specs::SameKind::same_kind, amqp_base::specs::SameKind::place))]
     fn deserialize(alloc: Global, de: &mut Deserializer<R>) -> Result<Dec32, Error> {
         match of_width(alloc, de, EncodingCodes::Decimal32, "expected a decimal32") {
             Ok(decimal) => match decimal {
@@ -127,7 +130,7 @@ impl<R: Read> Deserialize<R> for Dec64 {
     /// A decimal64 (part 1, section 1.6.14). A decimal of another width is a `Message`, before its
     /// data are looked at, and consumes nothing; else the refusals are those of
     /// `deserialize_decimal`.
-    #[tactic(auto, using(crate::proofs::Naming::named_any), unfolding(amqp_base::specs::Codes::row, amqp_base::specs::SameKind::same_kind, amqp_base::specs::SameKind::place))]
+    #[tactic(auto, unfolding(amqp_base::specs::Codes::row, amqp_base::specs::SameKind::same_kind, amqp_base::specs::SameKind::place))]
     fn deserialize(alloc: Global, de: &mut Deserializer<R>) -> Result<Dec64, Error> {
         match of_width(alloc, de, EncodingCodes::Decimal64, "expected a decimal64") {
             Ok(decimal) => match decimal {
@@ -143,7 +146,7 @@ impl<R: Read> Deserialize<R> for Dec128 {
     /// A decimal128 (part 1, section 1.6.15). A decimal of another width is a `Message`, before its
     /// data are looked at, and consumes nothing; else the refusals are those of
     /// `deserialize_decimal`.
-    #[tactic(auto, using(crate::proofs::Naming::named_any), unfolding(amqp_base::specs::Codes::row, amqp_base::specs::SameKind::same_kind, amqp_base::specs::SameKind::place))]
+    #[tactic(auto, unfolding(amqp_base::specs::Codes::row, amqp_base::specs::SameKind::same_kind, amqp_base::specs::SameKind::place))]
     fn deserialize(alloc: Global, de: &mut Deserializer<R>) -> Result<Dec128, Error> {
         match of_width(
             alloc,

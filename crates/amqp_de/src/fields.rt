@@ -1,12 +1,14 @@
 //! The fields of a struct, read by their names or in order.
 
-ghost use Rattle.std.specs.Prelude.{◌≡◌, Bool, false, ◌||◌, IsTrue, Option, Some, None, List, ◌++◌};
+ghost use Rattle.std.specs.Prelude.{◌≡◌, ◌+◌, Bool, false, ◌||◌, IsTrue, Option, Some, None};
+ghost use Rattle.std.specs.Prelude.{List, [], ◌∷◌, ◌++◌};
 ghost use Rattle.std.specs.Prelude.{length, IfErr, OnOk};
 ghost use Rattle.amqp_base.specs.Item.{Item, Items};
 ghost use Rattle.amqp_de.specs.Decoding.{Decoding};
 ghost use Rattle.amqp_de.specs.ReadParts.{Progress, open_list};
 ghost use Rattle.amqp_de.specs.ReadFields.{Slots, no_slots, slot, awaits, all_read, HaveValues};
-ghost use Rattle.amqp_de.specs.ReadFields.{FieldRead, NoField, RowRead, NoRow};
+ghost use Rattle.amqp_de.specs.ReadFields.{FieldRead, NoField, RowRead, NoRow, ElementsNamed};
+ghost use Rattle.amqp_de.specs.ReadFields.{FieldPicked, FieldNamed};
 
 use crate::{Deserialize, ListAccess, MapAccess};
 use amqp_base::Error;
@@ -16,7 +18,9 @@ use std::alloc::Global;
 /// The fields of a struct while it is read: a `Field` and the fields behind it, and `()` behind the
 /// last.
 pub trait Fields<R: Read>: Drop {
-    ghost use Rattle.std.specs.Prelude.{Bool};
+    ghost use Rattle.std.specs.Prelude.{Bool, List};
+    ghost use Rattle.amqp_base.specs.Item.{Item};
+    ghost use Rattle.amqp_base.specs.Refusing.{Refusing};
     ghost use Rattle.amqp_de.specs.ReadFields.{Slots};
 
     /// Their values: that of the first field and those of the fields behind it, and `()` behind the
@@ -25,6 +29,11 @@ pub trait Fields<R: Read>: Drop {
 
     /// The fields that have no value yet.
     ghost slots: { Self → Slots Self.Values };
+
+    /// Which items each field takes, with a value or without, and how it refuses bytes.
+    ghost takes: { List (Item → Bool) };
+
+    ghost refuses: { List {1} Refusing };
 
     /// Whether one of them takes memory.
     ghost grows: { Bool };
@@ -49,6 +58,10 @@ pub trait Fields<R: Read>: Drop {
         ensures read { OnOk result (FieldRead name.now (slots self.old) (slots self.new)
             (open_list map.old) (open_list map.new)) }
         ensures refused { IfErr result (λ e. NoField name.now (slots self.old) R.buffers
+            (open_list map.old) (open_list map.new) e) }
+        ensures picked { OnOk result (FieldPicked name.now (slots self.old) (slots self.new) takes
+            (open_list map.old) (open_list map.new)) }
+        ensures named { IfErr result (λ e. FieldNamed name.now (slots self.old) refuses R.buffers
             (open_list map.old) (open_list map.new) e) };
 
     /// Reads the next elements of a list as the fields without a value, in order.
@@ -64,7 +77,11 @@ pub trait Fields<R: Read>: Drop {
         ensures refused { IfErr result (λ e. (old : Decoding) (all rest : List (Item → Bool))
             (parts : Items) → Progress old all ((slots self.old).kinds ++ rest) parts
             (open_list list.old) →
-            NoRow all (grows || R.buffers) R.buffers old list.new.de.now e) };
+            NoRow all (grows || R.buffers) R.buffers old list.new.de.now e) }
+        ensures named { IfErr result (λ e. ElementsNamed (slots self.old).awaited takes refuses
+            (grows || R.buffers) R.buffers (open_list list.old) list.new.de.now e) }
+        ensures counted { OnOk result ((open_list list.old).left ≡
+            length (slots self.old).kinds + (open_list list.new).left) };
 
     /// The values, where every field has one.
     fn into_values(self) -> Option<Self::Values>
@@ -76,6 +93,10 @@ impl<R: Read> Fields<R> for () {
     type Values = ();
 
     ghost slots = { λ _. no_slots };
+
+    ghost takes = { [] };
+
+    ghost refuses = { [] };
 
     ghost grows = { false };
 
@@ -160,6 +181,10 @@ impl<'n, R: Read, T: Deserialize<R>, Rest: Fields<R>> Fields<R> for Field<'n, T,
 
     ghost slots = { λ f.
         slot f.name.now T.meaning.takes T.meaning.means f.value (Rest.slots f.rest) };
+
+    ghost takes = { T.meaning.takes ∷ Rest.takes };
+
+    ghost refuses = { T.meaning.refuses ∷ Rest.refuses };
 
     ghost grows = { T.meaning.grows || Rest.grows };
 

@@ -4,13 +4,14 @@ ghost use Rattle.std.specs.Prelude.{◌≡◌, ◌%◌, Bool, true, false, Optio
 ghost use Rattle.std.specs.Prelude.{IfErr};
 ghost use Rattle.std.specs.Borrow.{sem, RestsIfErr};
 ghost use Rattle.amqp_base.specs.Item.{Item, no_pairs, map};
-ghost use Rattle.amqp_de.specs.Access.{HasPairs, Opens, OpensExactly, OpensNot};
+ghost use Rattle.amqp_de.specs.Access.{HasPairs, Opens, OpensExactly, OpensNot, Plain};
 ghost use Rattle.amqp_base.specs.Parse.{map_data};
 ghost use Rattle.amqp_de.specs.Seq.{listing, at_open};
 ghost use Rattle.amqp_de.specs.ReadParts.{open_list};
 ghost use Rattle.amqp_de.specs.ReadPairs.{PairsRead, NoMap};
 ghost use Rattle.amqp_de.specs.contracts.deserializer.Deserializer.{the_row};
 ghost use Rattle.amqp_de.specs.Calls.{KeyAnswer, ValueAnswer, EntryAnswer};
+ghost use Rattle.amqp_de.specs.Calls.{KeyNamed, ValueNamed, EntryNamed};
 
 use crate::constructor::Constructor;
 use crate::header::map_count;
@@ -27,6 +28,7 @@ impl<R: Read> Deserializer<R> {
         ensures ok { IfOk result (λ o. Opens HasPairs self.old (at_open self.new o)) }
         ensures even { IfOk result (λ o. o.left % 2 ≡ 0) }
         ensures exact { IfOk result (λ o. OpensExactly map_data self.old (at_open self.new o)) }
+        ensures plain { IfOk result (λ o. Plain (at_open self.new o)) }
         ensures err { IfErr result (λ e.
             OpensNot HasPairs map_data R.buffers R.buffers self.old self.new e) }
     {
@@ -52,6 +54,7 @@ impl<R: Read> Deserializer<R> {
     pub(crate) fn open_pairs(&mut self) -> Result<Open, Error>
         ensures ok { IfOk result (λ o. Opens HasPairs self.old (at_open self.new o)) }
         ensures exact { IfOk result (λ o. OpensExactly map_data self.old (at_open self.new o)) }
+        ensures plain { IfOk result (λ o. Plain (at_open self.new o)) }
         ensures err { IfErr result (λ e. NoMap R.buffers self.old self.new e) }
         ensures pairs { IfOk result (λ o. (key value : Item → Bool) →
             PairsRead self.old key value no_pairs (at_open self.new o)) }
@@ -73,6 +76,7 @@ impl<R: Read> Deserializer<R> {
         ensures same_reference { IfOk result (λ a. a.de.ghost_name ≡ self.entry.ghost_name) }
         ensures opened { IfOk result (λ a. Opens HasPairs self.old (listing a)) }
         ensures exact { IfOk result (λ a. OpensExactly map_data self.old (listing a)) }
+        ensures plain { IfOk result (λ a. Plain (open_list a)) }
         ensures pairs { IfOk result (λ a.
             (key value : Item → Bool) → PairsRead self.old key value no_pairs (open_list a)) }
     {
@@ -96,6 +100,8 @@ impl<'a, R: Read> Access<'a, R, Entries> {
         ensures same_reference { self.new.de.ghost_name ≡ self.old.de.ghost_name }
         ensures next { KeyAnswer K.meaning R.buffers (open_list self.old) result
             (open_list self.new) }
+        ensures named { IfErr result (λ e. KeyNamed K.meaning R.buffers (open_list self.old)
+            (open_list self.new) e) }
     {
         if self.inner.left % 2 == 1 {
             self.inner.answers = false;
@@ -117,6 +123,8 @@ impl<'a, R: Read> Access<'a, R, Entries> {
         ensures same_reference { self.new.de.ghost_name ≡ self.old.de.ghost_name }
         ensures next { ValueAnswer V.meaning R.buffers (open_list self.old) result
             (open_list self.new) }
+        ensures named { IfErr result (λ e. ValueNamed V.meaning R.buffers (open_list self.old)
+            (open_list self.new) e) }
     {
         if self.inner.left % 2 == 0 {
             self.inner.answers = false;
@@ -140,6 +148,8 @@ impl<'a, R: Read> Access<'a, R, Entries> {
         ensures same_reference { self.new.de.ghost_name ≡ self.old.de.ghost_name }
         ensures next { EntryAnswer K.meaning V.meaning R.buffers (open_list self.old) result
             (open_list self.new) }
+        ensures named { IfErr result (λ e. EntryNamed K.meaning V.meaning R.buffers (open_list self.old)
+            (open_list self.new) e) }
     {
         match self.next_key(alloc) {
             Ok(Some(key)) => match self.next_value(alloc) {

@@ -2,7 +2,7 @@
 
 ghost use Rattle.std.specs.Prelude.{◌≡◌, false, IfOk, IfErr, OnErr};
 ghost use Rattle.amqp_de.specs.Calls.{FieldsRead, NamedRead, RowRead, FieldsRefused, NamedRefused};
-ghost use Rattle.amqp_de.specs.Calls.{RowRefused};
+ghost use Rattle.amqp_de.specs.Calls.{RowRefused, RowNamed, MapNamed, FieldsNamed};
 ghost use Rattle.amqp_de.specs.Steps.{Stops};
 
 use crate::structs::is_map;
@@ -30,6 +30,8 @@ impl<R: Read> Deserializer<R> {
         ensures ok { IfOk result (λ vs. FieldsRead (S.slots fields) vs self.old self.new) }
         ensures err { IfErr result (λ e.
             FieldsRefused (S.slots fields) R.buffers self.old self.new e) }
+        ensures named { IfErr result (λ e. FieldsNamed (S.slots fields) S.takes S.refuses R.buffers
+            self.old self.new e) }
         ensures stops { Stops self.old result self.new }
     {
         match self.deserialize_any() {
@@ -55,6 +57,8 @@ impl<R: Read> Deserializer<R> {
         ensures ok { IfOk result (λ vs. NamedRead (S.slots fields) vs self.old self.new) }
         ensures err { IfErr result (λ e.
             NamedRefused (S.slots fields) R.buffers self.old self.new e) }
+        ensures named { IfErr result (λ e. MapNamed (S.slots fields) S.takes S.refuses R.buffers
+            self.old self.new e) }
         ensures closed { OnErr result (self.new.answers ≡ false) }
     {
         let mut slots = fields;
@@ -89,6 +93,8 @@ impl<R: Read> Deserializer<R> {
         ensures ok { IfOk result (λ vs. RowRead (S.slots fields) vs self.old self.new) }
         ensures err { IfErr result (λ e.
             RowRefused (S.slots fields) S.grows R.buffers self.old self.new e) }
+        ensures named { IfErr result (λ e. RowNamed (S.slots fields) S.takes S.refuses S.grows
+            R.buffers self.old self.new e) }
         ensures closed { OnErr result (self.new.answers ≡ false) }
     {
         let mut slots = fields;

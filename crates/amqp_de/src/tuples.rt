@@ -19,29 +19,41 @@ macro_rules! row {
 
 impl<R: Read, A: Deserialize<R>> Deserialize<R> for (A,) {
     #[inline(always)]
-    #[tactic(auto, using(crate::proofs::Naming::named_any))]
     fn deserialize(alloc: Global, de: &mut Deserializer<R>) -> Result<(A,), Error> {
-        let (first, ()) = de.deserialize_row(alloc, row!(_))?;
-        Ok((first,))
+        match de.deserialize_row(alloc, row!(_)) {
+            Ok(values) => {
+                let (first, ()) = values;
+                Ok((first,))
+            }
+            Err(e) => Err(e),
+        }
     }
 }
 
 impl<R: Read, A: Deserialize<R>, B: Deserialize<R>> Deserialize<R> for (A, B) {
     #[inline(always)]
-    #[tactic(auto, using(crate::proofs::Naming::named_any))]
     fn deserialize(alloc: Global, de: &mut Deserializer<R>) -> Result<(A, B), Error> {
-        let (first, (second, ())) = de.deserialize_row(alloc, row!(_ _))?;
-        Ok((first, second))
+        match de.deserialize_row(alloc, row!(_ _)) {
+            Ok(values) => {
+                let (first, (second, ())) = values;
+                Ok((first, second))
+            }
+            Err(e) => Err(e),
+        }
     }
 }
 
 impl<R: Read, A: Deserialize<R>, B: Deserialize<R>, C: Deserialize<R>> Deserialize<R>
     for (A, B, C) {
     #[inline(always)]
-    #[tactic(auto, using(crate::proofs::Naming::named_any))]
     fn deserialize(alloc: Global, de: &mut Deserializer<R>) -> Result<(A, B, C), Error> {
-        let (first, (second, (third, ()))) = de.deserialize_row(alloc, row!(_ _ _))?;
-        Ok((first, second, third))
+        match de.deserialize_row(alloc, row!(_ _ _)) {
+            Ok(values) => {
+                let (first, (second, (third, ()))) = values;
+                Ok((first, second, third))
+            }
+            Err(e) => Err(e),
+        }
     }
 }
 
@@ -53,9 +65,13 @@ impl<
     D: Deserialize<R>,
 > Deserialize<R> for (A, B, C, D) {
     #[inline(always)]
-    #[tactic(auto, using(crate::proofs::Naming::named_any))]
     fn deserialize(alloc: Global, de: &mut Deserializer<R>) -> Result<(A, B, C, D), Error> {
-        let (first, (second, (third, (fourth, ())))) = de.deserialize_row(alloc, row!(_ _ _ _))?;
-        Ok((first, second, third, fourth))
+        match de.deserialize_row(alloc, row!(_ _ _ _)) {
+            Ok(values) => {
+                let (first, (second, (third, (fourth, ())))) = values;
+                Ok((first, second, third, fourth))
+            }
+            Err(e) => Err(e),
+        }
     }
 }

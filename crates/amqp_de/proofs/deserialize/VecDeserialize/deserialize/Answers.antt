@@ -1,10 +1,11 @@
-use Rattle.std.proofs.Common.{rules, ◌||◌, refl, sym, subst, ◌∙◌}
+use Rattle.std.proofs.Common.{rules, ◌||◌, true, refl, sym, subst, ◌∙◌}
 use Rattle.std.proofs.lemmas.Result.{err_from_is_err_and}
 use Rattle.amqp_de.specs.Access.{Listing}
 use Rattle.amqp_de.specs.Seq.{listing}
 use Rattle.amqp_de.specs.ReadParts.{open_list}
 use Rattle.amqp_de.proofs.Sequence.{Sofar, sofar_start, sofar_step, none_opened, part_missed, push_missed, seq_found}
-use Rattle.amqp_de.proofs.Naming.{reaches_start, reaches_step, stands_bare, list_unopened, list_part, list_no_room, list_end, named_on}
+use Rattle.amqp_de.proofs.Naming.{named_on}
+use Rattle.amqp_de.proofs.NamedParts.{reaches_start, reaches_step, unopened_as, list_part, no_room_as, no_end}
 use Rattle.amqp_de.proofs.ReadParts.{missed_on}
 use Rattle.amqp_de.proofs.deserialize.VecDeserialize.deserialize.Goals as goal
 
@@ -26,7 +27,7 @@ items-init g c =
     record {
       same = refl;
       sofar = sofar_start g.T.Typed.meaning.takes g.T.Typed.meaning.means (listing c.in_ok-access.access) c.args.de.now c.new-items.result.items opened c.new-items.ensures.items;
-      reaches = reaches_start g.T.Typed.meaning.takes g.T.Typed.meaning.refuses _;
+      reaches = reaches_start _ _ c.in_ok-access.ensures.plain;
     }
 
 pub items-preserved : goal.items-preserved
@@ -37,7 +38,7 @@ items-preserved g c =
     record {
       same = c.in-Ok.ensures.same_reference ∙ v.same;
       sofar = rw c.in_ok-push.ensures.items (sofar_step g.T.Typed.meaning.takes g.T.Typed.meaning.means (listing c.in_ok-access.access) _ _ _ c.in-Some.item v.sofar f.0);
-      reaches = reaches_step g.T.Typed.meaning.takes g.T.Typed.meaning.refuses (listing c.in_ok-access.access) (listing c.items.access) (listing c.next_element.new.self) (stands_bare (listing c.items.access).state (v.sofar.reads.inherited ∙ c.in_ok-access.ensures.plain.inherited)) v.reaches f.0;
+      reaches = reaches_step g.T.Typed.meaning.takes g.T.Typed.meaning.refuses _ _ _ v.reaches f.0;
     }
 
 pub returns-clause-ok : goal.returns-clause-ok
@@ -60,17 +61,17 @@ returns-in_err-push-clause-err g c =
 pub returns-in_err-access-clause-named : goal.returns-in_err-access-clause-named
 returns-in_err-access-clause-named g c =
     let d = rw c.in_err-access.was at c.deserialize_list.follows.holds-at-none in
-    named_on _ _ _ c.from_residual.ensures.1 refl (list_unopened g.T.Typed.meaning.takes g.T.Typed.meaning.refuses g.R.Read.buffers c.args.de.now _ _ d)
+    named_on _ _ _ c.from_residual.ensures.1 refl (unopened_as _ _ true g.R.Read.buffers c.args.de.now _ _ (λ _. refl) d)
 
 pub returns-in-Err-clause-named : goal.returns-in-Err-clause-named
 unfolding open_list
 returns-in-Err-clause-named g c =
     let v = c.items.invariant in
     let a = c.in_ok-access.ensures in
-    list_part g.T.Typed.meaning.takes g.T.Typed.meaning.refuses _ g.R.Read.buffers c.args.de.now _ _ a.opened a.exact a.plain _ _ _ v.sofar.reads v.reaches (c.in-Err.ensures.next.some_left v.sofar.reads.answers) c.in-Err.ensures.named (search rules)
+    list_part g.T.Typed.meaning.takes g.T.Typed.meaning.refuses g.R.Read.buffers c.args.de.now _ _ _ _ _ a.opened a.exact v.sofar.reads v.reaches (c.in-Err.ensures.next.some_left v.sofar.reads.answers) c.in-Err.ensures.named (search rules)
 
 pub returns-in_err-push-clause-named : goal.returns-in_err-push-clause-named
-returns-in_err-push-clause-named g c = named_on _ _ _ c.from_residual-in_err-push.ensures.1 refl (list_no_room g.T.Typed.meaning.takes g.T.Typed.meaning.refuses (listing c.in_ok-access.access) g.R.Read.buffers _ _)
+returns-in_err-push-clause-named g c = named_on _ _ _ c.from_residual-in_err-push.ensures.1 refl (no_room_as _ g.R.Read.buffers _ _)
 
 pub returns-in_err-end-clause-named : goal.returns-in_err-end-clause-named
 unfolding open_list
@@ -78,4 +79,4 @@ returns-in_err-end-clause-named g c =
     let f = rw c.in_default.is at c.in-Ok.ensures.next in
     let s = subst (λ (l : Listing). Sofar g.T.Typed.meaning.takes g.T.Typed.meaning.means (listing c.in_ok-access.access) l c.items.items.items) (sym f.1) c.items.invariant.sofar in
     let a = c.in_ok-access.ensures in
-    named_on _ _ _ c.from_residual-in_err-end.ensures.1 (search rules) (list_end g.T.Typed.meaning.takes g.T.Typed.meaning.refuses _ g.R.Read.buffers c.args.de.now _ _ a.opened a.exact a.plain _ s.reads (search rules) c.in_err-end.ensures.ends)
+    named_on _ _ _ c.from_residual-in_err-end.ensures.1 (search rules) (no_end _ true g.R.Read.buffers c.args.de.now _ _ _ _ a.opened s.reads (search rules) c.in_err-end.ensures.ends)

@@ -1,5 +1,6 @@
 use Rattle.std.proofs.Common.{refl}
 use Rattle.amqp_de.proofs.PartsRead.{missed_more}
+use Rattle.amqp_de.proofs.NamedFields.{code_named, map_named, list_named}
 use Rattle.amqp_de.proofs.StructForms.{found_map, found_row, missed_map, missed_row, missed_code}
 use Rattle.amqp_de.proofs.deserializer.Deserializer.deserialize_fields.Goals as goal
 
@@ -17,3 +18,14 @@ returns-in-Err-deserialize_row-clause-err g c = missed_row _ _ g.R.Read.buffers 
 
 pub returns-in-Err-clause-err : goal.returns-in-Err-clause-err
 returns-in-Err-clause-err g c = missed_code _ _ g.R.Read.buffers _ _ _ c.in-Err.ensures.err
+
+-- ---- refusals by name
+
+pub returns-in-Err-read_map-clause-named : goal.returns-in-Err-read_map-clause-named
+returns-in-Err-read_map-clause-named g c = map_named (g.S.Fields.slots c.args.fields) g.S.Fields.takes g.S.Fields.refuses g.R.Read.buffers _ _ _ _ c.in-Ok.code (c.is_map.ensures.yes c.if-is_map.true) c.in-Ok.ensures.ok c.in-Err-read_map.ensures.named
+
+pub returns-in-Err-deserialize_row-clause-named : goal.returns-in-Err-deserialize_row-clause-named
+returns-in-Err-deserialize_row-clause-named g c = list_named (g.S.Fields.slots c.args.fields) g.S.Fields.takes g.S.Fields.refuses g.R.Read.buffers _ _ _ _ c.in-Ok.code (c.is_map.ensures.no c.if-is_map.false) c.in-Ok.ensures.ok c.in-Err-deserialize_row.ensures.named
+
+pub returns-in-Err-clause-named : goal.returns-in-Err-clause-named
+returns-in-Err-clause-named g c = code_named (g.S.Fields.slots c.args.fields) g.S.Fields.takes g.S.Fields.refuses g.R.Read.buffers _ _ _ c.in-Err.ensures.err

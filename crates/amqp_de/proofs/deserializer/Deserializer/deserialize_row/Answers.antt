@@ -1,4 +1,7 @@
-use Rattle.std.proofs.Common.{rules, refl, ◌||◌}
+use Rattle.std.proofs.Common.{rules, refl, sym, ◌∙◌, ◌||◌}
+use Rattle.amqp_de.proofs.Naming.{named_on}
+use Rattle.amqp_de.proofs.NamedParts.{no_end}
+use Rattle.amqp_de.proofs.NamedRows.{row_unopened, row_of_others, row_named, none_behind}
 use Rattle.amqp_de.specs.ReadParts.{open_list}
 use Rattle.amqp_de.proofs.ReadParts.{missed_by, or_right, found_at, found_meant, fields_unopened, end_answered, end_refused, closed_at, on_err}
 use Rattle.amqp_de.proofs.StructForms.{row_opened, other_row, unread}
@@ -49,3 +52,36 @@ unfolding open_list
 returns-in_default-clause-closed g c =
     let row = c.in_ok-read_elements.ensures.read _ _ _ _ (row_opened _ _ c.in_ok-list.ensures.opened (g.S.Fields.slots c.args.fields).kinds) in
     closed_at (search rules) row.progress.reads.closed
+
+-- ---- refusals by name
+
+pub returns-in_err-list-clause-named : goal.returns-in_err-list-clause-named
+returns-in_err-list-clause-named g c =
+    let none = rw c.in_err-list.was at c.deserialize_list.follows.holds-at-none in
+    named_on _ _ _ c.from_residual.ensures.1 refl (row_unopened (g.S.Fields.slots c.args.fields).awaited g.S.Fields.takes g.S.Fields.refuses _ _ _ _ _ (or_right g.S.Fields.grows g.R.Read.buffers) none)
+
+pub returns-then-not-are-clause-named : goal.returns-then-not-are-clause-named
+unfolding open_list
+returns-then-not-are-clause-named g c =
+    let s = g.S.Fields.slots c.args.fields in
+    row_of_others s.awaited g.S.Fields.takes g.S.Fields.refuses _ _ _ _ _ c.in_ok-list.ensures.exact (λ k. c.are.ensures.no c.if-not-are.true (s.counted ∙ sym k))
+
+pub returns-in_err-read_elements-clause-named : goal.returns-in_err-read_elements-clause-named
+unfolding open_list
+returns-in_err-read_elements-clause-named g c =
+    let s = g.S.Fields.slots c.args.fields in
+    let o = c.in_ok-list.ensures in
+    named_on _ _ _ c.from_residual-in_err-read_elements.ensures.1 (search rules) (row_named s.awaited g.S.Fields.takes g.S.Fields.refuses _ _ _ _ _ _ o.opened o.exact o.plain (sym (c.are.ensures.yes c.if-not-are.false) ∙ s.counted) c.in_err-read_elements.ensures.named)
+
+pub returns-in_default-clause-named : goal.returns-in_default-clause-named
+returns-in_default-clause-named g c =
+    let row = c.in_ok-read_elements.ensures.read _ _ _ _ (row_opened _ _ c.in_ok-list.ensures.opened (g.S.Fields.slots c.args.fields).kinds) in
+    absurd (unread _ (c.into_values.ensures.none c.in_default.is) row.full)
+
+pub returns-in_err-end-clause-named : goal.returns-in_err-end-clause-named
+unfolding open_list
+returns-in_err-end-clause-named g c =
+    let row = c.in_ok-read_elements.ensures.read _ _ _ _ (row_opened _ _ c.in_ok-list.ensures.opened (g.S.Fields.slots c.args.fields).kinds) in
+    let p = row.progress in
+    let none = none_behind _ _ _ c.in_ok-read_elements.ensures.counted (c.are.ensures.yes c.if-not-are.false) in
+    named_on _ _ _ c.from_residual-in_err-end.ensures.1 (search rules) (no_end _ _ _ _ _ _ _ _ p.opened p.reads none c.in_err-end.ensures.ends)

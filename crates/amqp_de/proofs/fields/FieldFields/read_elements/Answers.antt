@@ -1,5 +1,7 @@
-use Rattle.std.proofs.Common.{◌||◌}
+use Rattle.std.proofs.Common.{rules, ◌||◌, arith}
+use Rattle.amqp_de.specs.ReadParts.{open_list}
 use Rattle.amqp_de.proofs.ReadParts.{part_read, or_left, or_right, or_more}
+use Rattle.amqp_de.proofs.NamedRows.{elements_had, element_refused, element_none, elements_behind}
 use Rattle.amqp_de.proofs.Slots.{row_had, row_more, row_refused, row_refused_more, row_ended}
 use Rattle.amqp_de.proofs.fields.FieldFields.read_elements.Goals as goal
 
@@ -33,3 +35,34 @@ returns-in-Ok-None-clause-refused g c =
 
 pub returns-in-Err-next_element-clause-refused : goal.returns-in-Err-next_element-clause-refused
 returns-in-Err-next_element-clause-refused g c = rw c.in-None.is (λ old all rest parts p. row_refused_more (or_more g.T.Typed.meaning.grows (g.T.Typed.meaning.grows || g.Rest.Fields.grows) g.R.Read.buffers (or_left _ _)) (row_refused _ _ p c.in-Err-next_element.ensures.next))
+
+-- ---- refusals by name
+
+pub returns-in-Err-clause-named : goal.returns-in-Err-clause-named
+returns-in-Err-clause-named g c = rw c.in-Some.is (elements_had (or_more g.Rest.Fields.grows (g.T.Typed.meaning.grows || g.Rest.Fields.grows) g.R.Read.buffers (or_right _ _)) c.in-Err.ensures.named)
+
+pub returns-in-Err-read_elements-clause-named : goal.returns-in-Err-read_elements-clause-named
+returns-in-Err-read_elements-clause-named g c =
+    let behind = rw c.put.ensures.before at c.in-Err-read_elements.ensures.named in
+    let n = rw c.in-Ok-Some.field-0-is at c.in-Ok-Some.ensures.next in
+    rw c.in-None.is (elements_behind _ (or_more g.Rest.Fields.grows (g.T.Typed.meaning.grows || g.Rest.Fields.grows) g.R.Read.buffers (or_right _ _)) n.0 behind)
+
+pub returns-in-Ok-None-clause-named : goal.returns-in-Ok-None-clause-named
+returns-in-Ok-None-clause-named g c =
+    let n = rw c.in-Ok-None.field-0-is at c.in-Ok-None.ensures.next in
+    rw c.in-None.is (element_none n.0)
+
+pub returns-in-Err-next_element-clause-named : goal.returns-in-Err-next_element-clause-named
+unfolding open_list
+returns-in-Err-next_element-clause-named g c = rw c.in-None.is (element_refused _ (or_more g.T.Typed.meaning.grows (g.T.Typed.meaning.grows || g.Rest.Fields.grows) g.R.Read.buffers (or_left _ _)) (search rules) c.in-Err-next_element.ensures.named)
+
+-- ---- how many elements are left
+
+pub returns-in-Ok-clause-counted : goal.returns-in-Ok-clause-counted
+returns-in-Ok-clause-counted g c = rw c.in-Some.is c.in-Ok.ensures.counted
+
+pub returns-in-Ok-read_elements-clause-counted : goal.returns-in-Ok-read_elements-clause-counted
+returns-in-Ok-read_elements-clause-counted g c =
+    let behind = rw c.put.ensures.before at c.in-Ok-read_elements.ensures.counted in
+    let n = rw c.in-Ok-Some.field-0-is at c.in-Ok-Some.ensures.next in
+    rw c.in-None.is (omega (arith, n.0.left, behind))
