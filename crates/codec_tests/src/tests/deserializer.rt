@@ -25,7 +25,7 @@ fn items_are_read_one_after_the_other(rt: HostRuntime) {
     assert!(rt; matches!(de.into_reader().next(), Ok(Some(0x40))));
 }
 
-/// A number and a list are read; what stands behind them is refused, and all that follows.
+/// A number and a list.
 #[test]
 fn a_newtype_struct_is_its_value(rt: HostRuntime) {
     let alloc = rt.alloc();
@@ -38,11 +38,18 @@ fn a_newtype_struct_is_its_value(rt: HostRuntime) {
         Ok(counts) => counts.as_slice() == [0u32].as_slice(),
         Err(_) => false,
     };
+    assert!(rt; number && list && de.into_reader().bytes_consumed() == 6);
+}
+
+/// What is another item is refused, and all that follows.
+#[test]
+fn a_newtype_struct_is_refused_as_its_value(rt: HostRuntime) {
+    let alloc = rt.alloc();
+    let mut de = Deserializer::new(SliceReader::new(b"\x43\x43"));
     let other = answer_of(&de.deserialize_newtype_struct::<i32>(alloc, "Celsius"));
     let behind = answer_of(&de.deserialize_u32());
-    assert!(rt; number && list);
     assert!(rt; other == Answer::InvalidFormatCode && behind == Answer::InvalidValue);
-    assert!(rt; de.into_reader().bytes_consumed() == 7);
+    assert!(rt; de.into_reader().bytes_consumed() == 1);
 }
 
 /// What a look at the next code answers.

@@ -21,8 +21,8 @@ fn reads_in_turn(alloc: Global) -> bool {
     key && value && behind && ended
 }
 
-/// A value is asked for before its key, and a second key before the value of the first.
-fn refuses_out_of_turn(alloc: Global) -> bool {
+/// A value is asked for before its key.
+fn refuses_a_value_first(alloc: Global) -> bool {
     let mut de = Deserializer::new(SliceReader::new(ONE_PAIR));
     let Ok(mut pairs) = de.deserialize_map() else {
         return false;
@@ -30,9 +30,11 @@ fn refuses_out_of_turn(alloc: Global) -> bool {
     let value = answer_of(&pairs.next_value::<bool>(alloc));
     let key = answer_of(&pairs.next_key::<u32>(alloc));
     let ended = answer_of(&pairs.end());
-    let is_value_refused = value == Answer::InvalidValue
-        && key == Answer::InvalidValue
-        && ended == Answer::InvalidValue;
+    value == Answer::InvalidValue && key == Answer::InvalidValue && ended == Answer::InvalidValue
+}
+
+/// A second key is asked for before the value of the first.
+fn refuses_a_second_key(alloc: Global) -> bool {
     let mut de = Deserializer::new(SliceReader::new(ONE_PAIR));
     let Ok(mut pairs) = de.deserialize_map() else {
         return false;
@@ -40,8 +42,7 @@ fn refuses_out_of_turn(alloc: Global) -> bool {
     let first = matches!(pairs.next_key::<u32>(alloc), Ok(Some(0)));
     let second = answer_of(&pairs.next_key::<u32>(alloc));
     let ended = answer_of(&pairs.end());
-    let is_key_refused = second == Answer::InvalidValue && ended == Answer::InvalidValue;
-    is_value_refused && first && is_key_refused
+    first && second == Answer::InvalidValue && ended == Answer::InvalidValue
 }
 
 /// The map is ended before a value was read, and nothing is read behind it.
@@ -60,7 +61,8 @@ fn refuses_an_unread_value(alloc: Global) -> bool {
 fn keys_and_values_are_read_in_turn(rt: HostRuntime) {
     let alloc = rt.alloc();
     assert!(rt; reads_in_turn(alloc));
-    assert!(rt; refuses_out_of_turn(alloc));
+    assert!(rt; refuses_a_value_first(alloc));
+    assert!(rt; refuses_a_second_key(alloc));
     assert!(rt; refuses_an_unread_value(alloc));
 }
 

@@ -116,17 +116,25 @@ fn numbers_are_written_by_name(rt: HostRuntime) {
 }
 
 #[test]
-fn numbers_are_read_by_name(rt: HostRuntime) {
-    let mut de = Deserializer::new(SliceReader::new(
-        b"\x50\xff\x60\xfe\xff\x52\xff\x53\xff\x51\x80\x61\xff\xfe\x54\x80\x55\x80",
-    ));
-    let unsigned = matches!(de.deserialize_u8(), Ok(255))
-        && matches!(de.deserialize_u16(), Ok(0xfeff))
-        && matches!(de.deserialize_u32(), Ok(255))
-        && matches!(de.deserialize_u64(), Ok(255));
-    let signed = matches!(de.deserialize_i8(), Ok(-128))
-        && matches!(de.deserialize_i16(), Ok(-2))
-        && matches!(de.deserialize_i32(), Ok(-128))
-        && matches!(de.deserialize_i64(), Ok(-128));
-    assert!(rt; unsigned && signed && de.into_reader().bytes_consumed() == 18);
+fn unsigned_numbers_are_read_by_name(rt: HostRuntime) {
+    let bytes = b"\x50\xff\x60\xfe\xff\x52\xff\x53\xff";
+    let mut de = Deserializer::new(SliceReader::new(bytes));
+    let ubyte = matches!(de.deserialize_u8(), Ok(255));
+    let ushort = matches!(de.deserialize_u16(), Ok(0xfeff));
+    let uint = matches!(de.deserialize_u32(), Ok(255));
+    let ulong = matches!(de.deserialize_u64(), Ok(255));
+    assert!(rt; ubyte && ushort && uint && ulong);
+    assert!(rt; de.into_reader().bytes_consumed() == 9);
+}
+
+#[test]
+fn signed_numbers_are_read_by_name(rt: HostRuntime) {
+    let bytes = b"\x51\x80\x61\xff\xfe\x54\x80\x55\x80";
+    let mut de = Deserializer::new(SliceReader::new(bytes));
+    let byte = matches!(de.deserialize_i8(), Ok(-128));
+    let short = matches!(de.deserialize_i16(), Ok(-2));
+    let int = matches!(de.deserialize_i32(), Ok(-128));
+    let long = matches!(de.deserialize_i64(), Ok(-128));
+    assert!(rt; byte && short && int && long);
+    assert!(rt; de.into_reader().bytes_consumed() == 9);
 }

@@ -19,21 +19,29 @@ fn an_option_is_null_or_the_value(rt: HostRuntime) {
     assert!(rt; is_read_as(alloc, b"\x40", &None::<()>));
 }
 
-/// Options of five types, one after the other.
+/// Options of values without parts, one after the other.
 #[test]
 fn null_comes_before_the_value(rt: HostRuntime) {
     let alloc = rt.alloc();
-    let mut de = Deserializer::new(SliceReader::new(b"\x40\x54\x01\x40\x45\x40"));
+    let mut de = Deserializer::new(SliceReader::new(b"\x40\x54\x01\x40"));
     let no_int = gave(&de.deserialize_option::<i32>(alloc), &None);
     let int = gave(&de.deserialize_option::<i32>(alloc), &Some(1));
     let no_unit = gave(&de.deserialize_option::<()>(alloc), &None);
+    assert!(rt; no_int && int && no_unit);
+    assert!(rt; de.into_reader().bytes_consumed() == 4);
+}
+
+/// Options of a list and of a tuple.
+#[test]
+fn null_comes_before_the_parts(rt: HostRuntime) {
+    let alloc = rt.alloc();
+    let mut de = Deserializer::new(SliceReader::new(b"\x45\x40"));
     let list = gave(
         &de.deserialize_option::<Vec<u32>>(alloc),
         &Some(Vec::new(alloc)),
     );
     let no_pair = gave(&de.deserialize_option::<(u32, bool)>(alloc), &None);
-    assert!(rt; no_int && int && no_unit && list && no_pair);
-    assert!(rt; de.into_reader().bytes_consumed() == 6);
+    assert!(rt; list && no_pair && de.into_reader().bytes_consumed() == 2);
 }
 
 /// The bytes are refused, and what is asked for next because of that.

@@ -75,7 +75,7 @@ fn strings_and_symbols_are_texts(rt: HostRuntime) {
 }
 
 #[test]
-fn calls_by_name(rt: HostRuntime) {
+fn payloads_are_written_by_name(rt: HostRuntime) {
     let alloc = rt.alloc();
     let mut ser = Serializer::new(Vec::new(alloc));
     let is_written = ser.serialize_bytes(alloc, b"\x00\xff").is_ok()
@@ -83,6 +83,11 @@ fn calls_by_name(rt: HostRuntime) {
         && ser.serialize_symbol(alloc, "ab").is_ok();
     let written = b"\xa0\x02\x00\xff\xa1\x04amqp\xa3\x02ab";
     assert!(rt; is_written && ser.writer.as_slice() == written.as_slice());
+}
+
+#[test]
+fn payloads_are_read_by_name(rt: HostRuntime) {
+    let alloc = rt.alloc();
     let bytes = b"\xa0\x02\x00\xff\xa1\x02hi\xa3\x04amqp";
     let mut de = Deserializer::new(SliceReader::new(bytes));
     let binary = match de.deserialize_byte_buf(alloc) {
