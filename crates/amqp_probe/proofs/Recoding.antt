@@ -14,6 +14,7 @@ use Rattle.amqp_base.specs.Wire.{lenient, bare, Front}
 use Rattle.amqp_base.specs.Canon.{canon}
 use Rattle.amqp_base.specs.Fields.{all_meanings, means_fields}
 use Rattle.amqp_base.specs.Options.{means_option, option_item}
+use Rattle.amqp_base.specs.Refusing.{Refusing}
 use Rattle.amqp_base.specs.Typing.{is_null, all_mean, means_list}
 use Rattle.amqp_base.specs.declared.shape.Setting.{Setting}
 use Rattle.amqp_base.specs.Maps.{all_pairs_mean, means_map, pair_items}
@@ -22,8 +23,8 @@ use Rattle.amqp_base.specs.declared.shape.Shape.{Shape}
 use Rattle.amqp_base.proofs.OneFront.{same_wire}
 use Rattle.amqp_read.specs.Reading.{Reading}
 use Rattle.amqp_de.specs.Decoding.{Decoding}
-use Rattle.amqp_de.specs.Law.{Found, Missed, Excused, no_memory, faulted, uncounted}
-use Rattle.amqp_probe.specs.Codec.{Decoded, Recodes, Recoded, IsRefused, takes, kept, same_key, put_pair, put_pairs}
+use Rattle.amqp_de.specs.Law.{Found, Missed, Named, Excused, no_memory, faulted, uncounted}
+use Rattle.amqp_probe.specs.Codec.{Decoded, Recodes, Recoded, TakesNone, IsRefused, takes, refuses, kept, same_key, put_pair, put_pairs}
 use Rattle.amqp_probe.specs.declared.kind.Kind.{Kind}
 use Rattle.amqp_probe.specs.declared.kind.Kind.TheVariants.{MapStringU32}
 use Rattle.amqp_probe.specs.declared.codec.Outcome.{Outcome}
@@ -68,14 +69,24 @@ excused grows old new e (faulted i p q) = absurd cc
 excused grows old new e (uncounted p q o) = absurd cc
 
 -- no value was read, and not for want of memory
-pub read_none : (taken_by : Item → Bool) (grows : Bool) (s : List ℕ) (e : Error) (old new : Decoding) → old ≡ fresh s → e ≢ OutOfMemory → Missed taken_by (grows || false) false old new e → (i : Item) (n : ℕ) → Front lenient bare s i n → IsTrue (taken_by i) → ⊥
+pub read_none : (taken_by : Item → Bool) (grows : Bool) (s : List ℕ) (e : Error) (old new : Decoding) → old ≡ fresh s → e ≢ OutOfMemory → Missed taken_by (grows || false) false old new e → TakesNone taken_by s
 read_none taken_by grows s e old new q d m i n f t =
     let k : Missed taken_by (grows || false) false (fresh s) new e = rw q at m in
     d (excused (grows || false) _ _ e (k.why refl i (take n s) (drop n s) f.spelled t (ap Some (sym (take-append-drop n s))) refl))
 
+-- and it is refused as the bytes call for
+pub read_refused : (refused_by : Refusing) (grows : Bool) (s : List ℕ) (e : Error) (old new : Decoding) → old ≡ fresh s → e ≢ OutOfMemory → Named refused_by (grows || false) false old new e → refused_by bare s e
+read_refused refused_by grows s e old new q d m =
+    let k : Named refused_by (grows || false) false (fresh s) new e = rw q at m in
+    tell (k.why refl s refl refl)
+  where
+    tell : refused_by bare s e ⊎ Excused (grows || false) false (fresh s).reading new.reading e → refused_by bare s e
+    tell (inl p) = p
+    tell (inr x) = absurd (d (excused (grows || false) _ _ e x))
+
 -- ---- for a type whose values are written as the items that mean them, or as what is kept of them
 
-pub decoded_as : {T : Type 0} (kind : Kind) (means : Item → T → Type 0) (written : T → Item) (s : List ℕ) (o : Outcome) → ((i : Item) (v : T) → means i v → written v ≡ kept kind i) → Recoded (takes kind) means written s o → Decoded kind s o
+pub decoded_as : {T : Type 0} (kind : Kind) (means : Item → T → Type 0) (written : T → Item) (s : List ℕ) (o : Outcome) → ((i : Item) (v : T) → means i v → written v ≡ kept kind i) → Recoded (takes kind) (refuses kind) means written s o → Decoded kind s o
 decoded_as kind means written s (Value canonical rest) w (n, r, left) = record {
   item = r.item;
   consumed = n;
@@ -84,13 +95,20 @@ decoded_as kind means written s (Value canonical rest) w (n, r, left) = record {
   text = ap canon (sym (w r.item r.value r.meant)) ∙ r.text;
   left = left;
 }
-decoded_as kind means written s (Refused e) w (d, inl f) = (d, λ canonical rest h. f h.item h.consumed h.front h.taken)
+decoded_as kind means written s (Refused e) w (d, inl f) = (d, λ canonical rest h. f.0 h.item h.consumed h.front h.taken, inl f.1)
 decoded_as kind means written s (Refused e) w (d, inr (n, r)) = (
   d,
   λ canonical rest h.
       let same = same_item s h.item r.item h.consumed n h.front r.front in
       let none_is : canon (kept kind h.item) ≡ None = ap canon (ap (kept kind) same ∙ sym (w r.item r.value r.meant)) ∙ r.text in
       absurd cc (none_is, h.text),
+  inr (record {
+    item = r.item;
+    consumed = n;
+    front = r.front;
+    taken = r.taken;
+    text = ap canon (sym (w r.item r.value r.meant)) ∙ r.text;
+  }),
 )
 
 -- a list is written as the list that means it, where its elements are
@@ -178,20 +196,20 @@ module _ (eq : String Global → String Global → Bool) (as_bytes : (a b : Stri
   map_kept (described d v) es m = absurd m
 
 pub decoded_ok : {T : Type 0} (kind : Kind) (means : Item → T → Type 0) (written : T → Item) (s : List ℕ) (r : Result Outcome Error) → ((i : Item) (v : T) → means i v → written v ≡ kept kind i)
-    → IfOk r (λ o. Recoded (takes kind) means written s o) → IfOk r (λ o. Decoded kind s o)
+    → IfOk r (λ o. Recoded (takes kind) (refuses kind) means written s o) → IfOk r (λ o. Decoded kind s o)
 decoded_ok kind means written s (Ok o) w d = decoded_as kind means written s o w d
 decoded_ok kind means written s (Err e) w d = tt
 
 -- a refusal where nothing was read, or what was read has no text
-pub none_recoded : {T : Type 0} (taken_by : Item → Bool) (means : Item → T → Type 0) (written : T → Item) (grows : Bool) (s : List ℕ) (e : Error) (r : Result Outcome Error) (old new : Decoding) → old ≡ fresh s → Missed taken_by (grows || false) false old new e
-    → IfOk r (λ o. IsRefused e o) → IfOk r (λ o. Recoded taken_by means written s o)
-none_recoded taken_by means written grows s e (Ok (Value c n)) old new q m k = absurd k
-none_recoded taken_by means written grows s e (Ok (Refused f)) old new q m k = (rw k.0 k.1, inl (read_none taken_by grows s e old new q k.1 m))
-none_recoded taken_by means written grows s e (Err f) old new q m k = tt
+pub none_recoded : {T : Type 0} (taken_by : Item → Bool) (refused_by : Refusing) (means : Item → T → Type 0) (written : T → Item) (grows : Bool) (s : List ℕ) (e : Error) (r : Result Outcome Error) (old new : Decoding) → old ≡ fresh s → Missed taken_by (grows || false) false old new e → Named refused_by (grows || false) false old new e
+    → IfOk r (λ o. IsRefused e o) → IfOk r (λ o. Recoded taken_by refused_by means written s o)
+none_recoded taken_by refused_by means written grows s e (Ok (Value c n)) old new q m h k = absurd k
+none_recoded taken_by refused_by means written grows s e (Ok (Refused f)) old new q m h k = rw k.0 (k.1, inl (read_none taken_by grows s e old new q k.1 m, read_refused refused_by grows s e old new q k.1 h))
+none_recoded taken_by refused_by means written grows s e (Err f) old new q m h k = tt
 
-pub textless : {T : Type 0} (taken_by : Item → Bool) (means : Item → T → Type 0) (written : T → Item) (s : List ℕ) (v : T) (e : Error) (r : Result Outcome Error) (old new : Decoding) → old ≡ fresh s → Found taken_by (λ i. means i v) old new
-    → (e ≡ OutOfMemory) ⊎ (canon (written v) ≡ None) → IfOk r (λ o. IsRefused e o) → IfOk r (λ o. Recoded taken_by means written s o)
-textless taken_by means written s v e (Ok (Value c n)) old new q f w k = absurd k
-textless taken_by means written s v e (Ok (Refused g)) old new q f (inl p) k = absurd (k.1 p)
-textless taken_by means written s v e (Ok (Refused g)) old new q f (inr p) k = (rw k.0 k.1, inr (new.reading.taken, (read_value taken_by means written s v None old new q f p).0))
-textless taken_by means written s v e (Err g) old new q f w k = tt
+pub textless : {T : Type 0} (taken_by : Item → Bool) (refused_by : Refusing) (means : Item → T → Type 0) (written : T → Item) (s : List ℕ) (v : T) (e : Error) (r : Result Outcome Error) (old new : Decoding) → old ≡ fresh s → Found taken_by (λ i. means i v) old new
+    → (e ≡ OutOfMemory) ⊎ (canon (written v) ≡ None) → IfOk r (λ o. IsRefused e o) → IfOk r (λ o. Recoded taken_by refused_by means written s o)
+textless taken_by refused_by means written s v e (Ok (Value c n)) old new q f w k = absurd k
+textless taken_by refused_by means written s v e (Ok (Refused g)) old new q f (inl p) k = absurd (k.1 p)
+textless taken_by refused_by means written s v e (Ok (Refused g)) old new q f (inr p) k = (rw k.0 k.1, inr (new.reading.taken, (read_value taken_by means written s v None old new q f p).0))
+textless taken_by refused_by means written s v e (Err g) old new q f w k = tt

@@ -10,11 +10,16 @@ use Rattle.amqp_base.specs.Canon.{canon}
 use Rattle.amqp_base.specs.Maps.{is_map_of}
 use Rattle.amqp_base.specs.Fields.{takes_fields}
 use Rattle.amqp_base.specs.Options.{takes_option}
+use Rattle.amqp_base.specs.Refusing.{Refusing, scalar_refusal, option_refusal, list_refusal, all_awaited, row_refusal, map_refusal}
 use Rattle.amqp_base.specs.Typing.{is_of, is_list_of}
 use Rattle.amqp_probe.specs.declared.kind.Kind.{Kind}
 use Rattle.amqp_probe.specs.declared.kind.Kind.TheVariants.{Bool as Boolean, I32, U32, U64, String, Symbol, ListI32, ListU64, OptionU32, TupleU32Bool, MapStringU32}
 use Rattle.amqp_probe.specs.declared.codec.Outcome.{Outcome}
 use Rattle.amqp_probe.specs.declared.codec.Outcome.TheVariants.{Value, Refused}
+
+-- the parts of the tuple
+abbrev parts : List (Item → Bool)
+parts = is_of ItemKind.uint ∷ is_of ItemKind.boolean ∷ []
 
 -- the items that a type takes
 abbrev pub takes : Kind → Item → Bool
@@ -27,8 +32,22 @@ takes Symbol = is_of ItemKind.symbol
 takes ListI32 = is_list_of (is_of ItemKind.int)
 takes ListU64 = is_list_of (is_of ItemKind.ulong)
 takes OptionU32 = takes_option (is_of ItemKind.uint)
-takes TupleU32Bool = takes_fields (is_of ItemKind.uint ∷ is_of ItemKind.boolean ∷ [])
+takes TupleU32Bool = takes_fields parts
 takes MapStringU32 = is_map_of (is_of ItemKind.string) (is_of ItemKind.uint)
+
+-- the refusals that a type makes of bytes
+abbrev pub refuses : Kind → Refusing
+refuses Boolean = scalar_refusal ItemKind.boolean
+refuses I32 = scalar_refusal ItemKind.int
+refuses U32 = scalar_refusal ItemKind.uint
+refuses U64 = scalar_refusal ItemKind.ulong
+refuses String = scalar_refusal ItemKind.string
+refuses Symbol = scalar_refusal ItemKind.symbol
+refuses ListI32 = list_refusal (is_of ItemKind.int) (scalar_refusal ItemKind.int)
+refuses ListU64 = list_refusal (is_of ItemKind.ulong) (scalar_refusal ItemKind.ulong)
+refuses OptionU32 = option_refusal (scalar_refusal ItemKind.uint)
+refuses TupleU32Bool = row_refusal (all_awaited parts) parts (scalar_refusal ItemKind.uint ∷ scalar_refusal ItemKind.boolean ∷ [])
+refuses MapStringU32 = map_refusal (is_of ItemKind.string) (scalar_refusal ItemKind.string) (is_of ItemKind.uint) (scalar_refusal ItemKind.uint)
 
 -- two keys are the same string
 abbrev pub same_key : Item → Item → Bool
@@ -58,10 +77,19 @@ pub record HasText (kind : Kind) (bytes canonical : List ℕ) (rest : ℕ) : Typ
   pub text : canon (kept kind item) ≡ Some canonical
   pub left : rest ≡ length bytes - consumed
 
--- a refusal says that there is no such item
+-- Such an item is spelled there, and the item of its value has no canonical text.
+pub record IsTextless (kind : Kind) (bytes : List ℕ) : Type 0 where
+  pub item : Item
+  pub consumed : ℕ
+  pub front : Front lenient bare bytes item consumed
+  pub taken : takes kind item ≡ true
+  pub text : canon (kept kind item) ≡ None
+
+-- A refusal says that there is no such text, and it is the one that the type makes of the bytes, if its value isn't textless.
 abbrev pub Decoded : Kind → List ℕ → Outcome → Type 0
 Decoded kind bytes (Value canonical rest) = HasText kind bytes canonical.items rest
 Decoded kind bytes (Refused e) = (e ≢ OutOfMemory) × ((canonical : List ℕ) (rest : ℕ) → HasText kind bytes canonical rest → ⊥)
+    × (refuses kind bare bytes e ⊎ IsTextless kind bytes)
 
 -- an item that is taken stands at the front, means the value, and the value is written so
 pub record Recodes {T : Type 0} (taken_by : Item → Bool) (means : Item → T → Type 0) (written : T → Item) (bytes : List ℕ) (canonical : Option (List ℕ)) (consumed : ℕ) : Type 0 where
@@ -72,11 +100,15 @@ pub record Recodes {T : Type 0} (taken_by : Item → Bool) (means : Item → T �
   pub meant : means item value
   pub text : canon (written value) ≡ canonical
 
+-- no item that is taken stands at the front
+abbrev pub TakesNone : (Item → Bool) → List ℕ → Type 0
+TakesNone taken_by bytes = (i : Item) (n : ℕ) → Front lenient bare bytes i n → IsTrue (taken_by i) → ⊥
+
 -- the same for every type
-abbrev pub Recoded : {T : Type 0} → (Item → Bool) → (Item → T → Type 0) → (T → Item) → List ℕ → Outcome → Type 0
-Recoded taken_by means written bytes (Value canonical rest) = (n : ℕ) × Recodes taken_by means written bytes (Some canonical.items) n × (rest ≡ length bytes - n)
-Recoded taken_by means written bytes (Refused e) = (e ≢ OutOfMemory)
-    × (((i : Item) (n : ℕ) → Front lenient bare bytes i n → IsTrue (taken_by i) → ⊥) ⊎ ((n : ℕ) × Recodes taken_by means written bytes None n))
+abbrev pub Recoded : {T : Type 0} → (Item → Bool) → Refusing → (Item → T → Type 0) → (T → Item) → List ℕ → Outcome → Type 0
+Recoded taken_by refused_by means written bytes (Value canonical rest) = (n : ℕ) × Recodes taken_by means written bytes (Some canonical.items) n × (rest ≡ length bytes - n)
+Recoded taken_by refused_by means written bytes (Refused e) = (e ≢ OutOfMemory)
+    × ((TakesNone taken_by bytes × refused_by bare bytes e) ⊎ ((n : ℕ) × Recodes taken_by means written bytes None n))
 
 -- this refusal, which isn't want of memory
 abbrev pub IsRefused : Error → Outcome → Type 0

@@ -45,8 +45,8 @@ fn recoded<'s, T: Serialize + Deserialize<SliceReader<'s>>>(
     alloc: Global,
     bytes: &'s [u8],
 ) -> Result<Outcome, Error>
-    ensures ok { IfOk result (λ outcome. Recoded T.meaning.takes T.meaning.means (λ v.
-        T.meaning.item v Setting.Plain) bytes.now outcome) }
+    ensures ok { IfOk result (λ outcome. Recoded T.meaning.takes T.meaning.refuses T.meaning.means
+        (λ v. T.meaning.item v Setting.Plain) bytes.now outcome) }
     ensures err { IfErr result (λ e. e ≡ OutOfMemory) }
 {
     let mut de = Deserializer::new(SliceReader::new(bytes));
