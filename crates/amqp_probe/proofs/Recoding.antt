@@ -1,5 +1,5 @@
 -- What is read and written again.
-use Rattle.std.proofs.Common.{◌≡◌, ◌≢◌, ℕ, ◌≤◌, String, Bool, true, false, ◌||◌, IsTrue, ℤ, List, [], ◌∷◌, ◌++◌, length, take, drop, map, fold, string_bytes, Option, Some, None, Result, Ok, Err, refl, sym, ap, ◌∙◌, arith, inl, inr, ◌⊎◌}
+use Rattle.std.proofs.Common.{◌≡◌, ◌≢◌, ℕ, ◌≤◌, String, Bool, true, false, ◌||◌, List, [], ◌∷◌, ◌++◌, length, take, drop, map, fold, string_bytes, Option, Some, None, Result, Ok, Err, refl, sym, ap, ◌∙◌, arith, inl, inr, ◌⊎◌}
 use Rattle.std.proofs.lemmas.List.{length-append, take_at, take-append-drop}
 use Rattle.std.proofs.lemmas.Option.{same_Some}
 use Rattle.std.specs.Prelude.{IfOk}
@@ -24,7 +24,7 @@ use Rattle.amqp_base.proofs.OneFront.{same_wire}
 use Rattle.amqp_read.specs.Reading.{Reading}
 use Rattle.amqp_de.specs.Decoding.{Decoding}
 use Rattle.amqp_de.specs.Law.{Found, Missed, Named, Excused, no_memory, faulted, uncounted}
-use Rattle.amqp_probe.specs.Codec.{Decoded, Recodes, Recoded, TakesNone, IsRefused, takes, refuses, kept, same_key, put_pair, put_pairs}
+use Rattle.amqp_probe.specs.Codec.{Decoded, Recodes, Recoded, TakesNone, IsRefused, takes, refuses, kept, put_pair, put_pairs}
 use Rattle.amqp_probe.specs.declared.kind.Kind.{Kind}
 use Rattle.amqp_probe.specs.declared.kind.Kind.TheVariants.{MapStringU32}
 use Rattle.amqp_probe.specs.declared.codec.Outcome.{Outcome}

@@ -35,7 +35,7 @@ takes OptionU32 = takes_option (is_of ItemKind.uint)
 takes TupleU32Bool = takes_fields parts
 takes MapStringU32 = is_map_of (is_of ItemKind.string) (is_of ItemKind.uint)
 
--- the refusals that a type makes of bytes
+-- which refusal a type makes of bytes, as its own meaning says (`Meaning.antt`, `Refusing.antt`)
 abbrev pub refuses : Kind → Refusing
 refuses Boolean = scalar_refusal ItemKind.boolean
 refuses I32 = scalar_refusal ItemKind.int
@@ -85,7 +85,8 @@ pub record IsTextless (kind : Kind) (bytes : List ℕ) : Type 0 where
   pub taken : takes kind item ≡ true
   pub text : canon (kept kind item) ≡ None
 
--- A refusal says that there is no such text, and it is the one that the type makes of the bytes, if its value isn't textless.
+-- A refusal says that there is no such text; and it is one that the type makes of the bytes, or they stand for a value
+-- that has none.
 abbrev pub Decoded : Kind → List ℕ → Outcome → Type 0
 Decoded kind bytes (Value canonical rest) = HasText kind bytes canonical.items rest
 Decoded kind bytes (Refused e) = (e ≢ OutOfMemory) × ((canonical : List ℕ) (rest : ℕ) → HasText kind bytes canonical rest → ⊥)
@@ -104,7 +105,8 @@ pub record Recodes {T : Type 0} (taken_by : Item → Bool) (means : Item → T �
 abbrev pub TakesNone : (Item → Bool) → List ℕ → Type 0
 TakesNone taken_by bytes = (i : Item) (n : ℕ) → Front lenient bare bytes i n → IsTrue (taken_by i) → ⊥
 
--- the same for every type
+-- the same for every type: a refusal is one that it makes of the bytes, where no item that is taken stands there, or the
+-- value that was read has no text
 abbrev pub Recoded : {T : Type 0} → (Item → Bool) → Refusing → (Item → T → Type 0) → (T → Item) → List ℕ → Outcome → Type 0
 Recoded taken_by refused_by means written bytes (Value canonical rest) = (n : ℕ) × Recodes taken_by means written bytes (Some canonical.items) n × (rest ≡ length bytes - n)
 Recoded taken_by refused_by means written bytes (Refused e) = (e ≢ OutOfMemory)
