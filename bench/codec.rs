@@ -13,6 +13,7 @@ pub enum Error {
     Left,
     Utf8,
     Value,
+    Name,
     TooLong,
 }
 
@@ -23,6 +24,16 @@ const NARROW: usize = 254;
 
 #[derive(Debug, PartialEq)]
 pub struct Binary(pub Vec<u8>);
+
+/// A struct, which is written as a list of its fields.
+#[derive(Debug, PartialEq)]
+pub struct Record {
+    pub id: u64,
+    pub name: String,
+    pub active: bool,
+    pub level: i32,
+    pub number: Option<u32>,
+}
 
 /// A map that keeps the order in which its keys came.
 #[derive(Debug, Default, PartialEq)]
@@ -118,6 +129,19 @@ impl Encode for i32 {
     }
 }
 
+impl<T: Encode> Encode for Option<T> {
+    #[inline]
+    fn encode(&self, out: &mut Vec<u8>) -> Result<(), Error> {
+        match self {
+            Some(value) => value.encode(out),
+            None => {
+                out.push(0x40);
+                Ok(())
+            }
+        }
+    }
+}
+
 #[inline]
 fn payload(narrow: u8, wide: u8, bytes: &[u8], out: &mut Vec<u8>) -> Result<(), Error> {
     let len = bytes.len();
@@ -193,6 +217,29 @@ impl<A: Encode, B: Encode, C: Encode> Encode for (A, B, C) {
             self.0.encode(out)?;
             self.1.encode(out)?;
             self.2.encode(out)
+        })
+    }
+}
+
+impl<A: Encode, B: Encode, C: Encode, D: Encode> Encode for (A, B, C, D) {
+    fn encode(&self, out: &mut Vec<u8>) -> Result<(), Error> {
+        compound(0xc0, 0xd0, 4, out, |out| {
+            self.0.encode(out)?;
+            self.1.encode(out)?;
+            self.2.encode(out)?;
+            self.3.encode(out)
+        })
+    }
+}
+
+impl Encode for Record {
+    fn encode(&self, out: &mut Vec<u8>) -> Result<(), Error> {
+        compound(0xc0, 0xd0, 5, out, |out| {
+            self.id.encode(out)?;
+            self.name.encode(out)?;
+            self.active.encode(out)?;
+            self.level.encode(out)?;
+            self.number.encode(out)
         })
     }
 }
@@ -281,6 +328,17 @@ impl Decode for i32 {
     }
 }
 
+impl<T: Decode> Decode for Option<T> {
+    #[inline]
+    fn decode(input: &mut &[u8]) -> Result<Option<T>, Error> {
+        if let Some((0x40, rest)) = input.split_first() {
+            *input = rest;
+            return Ok(None);
+        }
+        Ok(Some(T::decode(input)?))
+    }
+}
+
 #[inline]
 fn payload_of<'a>(narrow: u8, wide: u8, input: &mut &'a [u8]) -> Result<&'a [u8], Error> {
     let code = byte(input)?;
@@ -364,6 +422,63 @@ impl<A: Decode, B: Decode, C: Decode> Decode for (A, B, C) {
         }
         let parts = (A::decode(&mut body)?, B::decode(&mut body)?, C::decode(&mut body)?);
         ended(body, parts)
+    }
+}
+
+impl<A: Decode, B: Decode, C: Decode, D: Decode> Decode for (A, B, C, D) {
+    fn decode(input: &mut &[u8]) -> Result<(A, B, C, D), Error> {
+        let (count, mut body) = body(0xc0, 0xd0, input)?;
+        if count != 4 {
+            return Err(Error::Count);
+        }
+        let parts = (A::decode(&mut body)?, B::decode(&mut body)?, C::decode(&mut body)?, D::decode(&mut body)?);
+        ended(body, parts)
+    }
+}
+
+impl Decode for Record {
+    fn decode(input: &mut &[u8]) -> Result<Record, Error> {
+        if let Some(0xc1 | 0xd1) = input.first() {
+            return named(input);
+        }
+        let (count, mut body) = body(0xc0, 0xd0, input)?;
+        if count != 5 {
+            return Err(Error::Count);
+        }
+        let record = Record {
+            id: u64::decode(&mut body)?,
+            name: String::decode(&mut body)?,
+            active: bool::decode(&mut body)?,
+            level: i32::decode(&mut body)?,
+            number: Option::decode(&mut body)?,
+        };
+        ended(body, record)
+    }
+}
+
+/// The record out of a map from its fields' names, each once, in any order.
+#[cold]
+fn named(input: &mut &[u8]) -> Result<Record, Error> {
+    let (count, mut body) = body(0xc1, 0xd1, input)?;
+    if count % 2 == 1 {
+        return Err(Error::Count);
+    }
+    let (mut id, mut name, mut active, mut level, mut number) = (None, None, None, None, None);
+    for _ in 0..count / 2 {
+        match payload_of(0xa1, 0xb1, &mut body)? {
+            b"id" if id.is_none() => id = Some(u64::decode(&mut body)?),
+            b"name" if name.is_none() => name = Some(String::decode(&mut body)?),
+            b"active" if active.is_none() => active = Some(bool::decode(&mut body)?),
+            b"level" if level.is_none() => level = Some(i32::decode(&mut body)?),
+            b"number" if number.is_none() => number = Some(Option::decode(&mut body)?),
+            _ => return Err(Error::Name),
+        }
+    }
+    match (id, name, active, level, number) {
+        (Some(id), Some(name), Some(active), Some(level), Some(number)) => {
+            ended(body, Record { id, name, active, level, number })
+        }
+        _ => Err(Error::Name),
     }
 }
 

@@ -17,8 +17,10 @@ fn request(what: usize, name: *const u8) {
     }
 }
 
-fn counted(name: &str, run: impl FnOnce() -> usize) {
+/// It runs once before, so that the heap isn't as another case left it.
+fn counted(name: &str, run: impl Fn() -> usize) {
     let name = format!("{name}\0");
+    black_box(run());
     request(ZERO, std::ptr::null());
     black_box(run());
     request(DUMP, name.as_ptr());

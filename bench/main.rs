@@ -9,7 +9,7 @@ mod plain;
 #[cfg(not(counting))]
 mod timing;
 
-use codec::{Binary, OrderedMap};
+use codec::{Binary, OrderedMap, Record};
 use std::fmt::Write;
 
 type OursEncode = unsafe extern "C" fn(*const u8, usize, u32, *mut u8, usize) -> usize;
@@ -32,6 +32,20 @@ unsafe extern "C" {
     fn amqp_bench_decode_tuple(text: *const u8, len: usize, times: u32) -> usize;
     fn amqp_bench_encode_map(text: *const u8, len: usize, times: u32, out: *mut u8, room: usize) -> usize;
     fn amqp_bench_decode_map(text: *const u8, len: usize, times: u32) -> usize;
+    fn amqp_bench_encode_record(text: *const u8, len: usize, times: u32, out: *mut u8, room: usize) -> usize;
+    fn amqp_bench_decode_record(text: *const u8, len: usize, times: u32) -> usize;
+    fn amqp_bench_encode_records(text: *const u8, len: usize, times: u32, out: *mut u8, room: usize) -> usize;
+    fn amqp_bench_decode_records(text: *const u8, len: usize, times: u32) -> usize;
+    fn amqp_bench_encode_tuples(text: *const u8, len: usize, times: u32, out: *mut u8, room: usize) -> usize;
+    fn amqp_bench_decode_tuples(text: *const u8, len: usize, times: u32) -> usize;
+    fn amqp_bench_encode_depth_2(text: *const u8, len: usize, times: u32, out: *mut u8, room: usize) -> usize;
+    fn amqp_bench_decode_depth_2(text: *const u8, len: usize, times: u32) -> usize;
+    fn amqp_bench_encode_depth_4(text: *const u8, len: usize, times: u32, out: *mut u8, room: usize) -> usize;
+    fn amqp_bench_decode_depth_4(text: *const u8, len: usize, times: u32) -> usize;
+    fn amqp_bench_encode_depth_5(text: *const u8, len: usize, times: u32, out: *mut u8, room: usize) -> usize;
+    fn amqp_bench_decode_depth_5(text: *const u8, len: usize, times: u32) -> usize;
+    fn amqp_bench_encode_depth_6(text: *const u8, len: usize, times: u32, out: *mut u8, room: usize) -> usize;
+    fn amqp_bench_decode_depth_6(text: *const u8, len: usize, times: u32) -> usize;
 }
 
 /// A value by its text, and the calls for its type.
@@ -138,6 +152,16 @@ impl Numbers {
         text.truncate(len);
         text
     }
+
+    fn record(&mut self) -> Record {
+        Record {
+            id: self.long(),
+            name: self.text(12),
+            active: self.next() % 2 == 0,
+            level: self.next() as i32 >> (self.next() % 32),
+            number: (self.next() % 2 == 0).then(|| self.long() as u32),
+        }
+    }
 }
 
 fn cases() -> Vec<Case> {
@@ -155,6 +179,20 @@ fn cases() -> Vec<Case> {
         let key = n.text(20);
         map.insert(key, n.long() as u32);
     }
+    let few = n.ints(10);
+    let record = n.record();
+    let records: Vec<Record> = (0..1_000).map(|_| n.record()).collect();
+    let tuples: Vec<(u64, String, bool, i32)> = (0..1_000)
+        .map(|_| n.record())
+        .map(|it| (it.id, it.name, it.active, it.level))
+        .collect();
+    // The same numbers in a list alone, and in lists around it that have one element each.
+    let depth_1: Vec<u64> = (0..4_096).map(|_| n.long()).collect();
+    let depth_2 = vec![depth_1.clone()];
+    let depth_3 = vec![depth_2.clone()];
+    let depth_4 = vec![depth_3.clone()];
+    let depth_5 = vec![depth_4.clone()];
+    let depth_6 = vec![depth_5.clone()];
     vec![
         Case::new("vec of 10000 i32", ints, amqp_bench_encode_ints, amqp_bench_decode_ints),
         Case::new("vec of 1000 strings of 20", strings, amqp_bench_encode_strings, amqp_bench_decode_strings),
@@ -164,6 +202,16 @@ fn cases() -> Vec<Case> {
         Case::new("string of 12", string, amqp_bench_encode_string, amqp_bench_decode_string),
         Case::new("tuple bool, u64, string", tuple, amqp_bench_encode_tuple, amqp_bench_decode_tuple),
         Case::new("map of 1000 strings", map, amqp_bench_encode_map, amqp_bench_decode_map),
+        Case::new("vec of 10 i32", few, amqp_bench_encode_ints, amqp_bench_decode_ints),
+        Case::new("struct of 5", record, amqp_bench_encode_record, amqp_bench_decode_record),
+        Case::new("vec of 1000 structs of 5", records, amqp_bench_encode_records, amqp_bench_decode_records),
+        Case::new("vec of 1000 tuples of 4", tuples, amqp_bench_encode_tuples, amqp_bench_decode_tuples),
+        Case::new("4096 u64 at depth 1", depth_1, amqp_bench_encode_longs, amqp_bench_decode_longs),
+        Case::new("4096 u64 at depth 2", depth_2, amqp_bench_encode_depth_2, amqp_bench_decode_depth_2),
+        Case::new("4096 u64 at depth 3", depth_3, amqp_bench_encode_nested, amqp_bench_decode_nested),
+        Case::new("4096 u64 at depth 4", depth_4, amqp_bench_encode_depth_4, amqp_bench_decode_depth_4),
+        Case::new("4096 u64 at depth 5", depth_5, amqp_bench_encode_depth_5, amqp_bench_decode_depth_5),
+        Case::new("4096 u64 at depth 6", depth_6, amqp_bench_encode_depth_6, amqp_bench_decode_depth_6),
     ]
 }
 
