@@ -1,6 +1,7 @@
 //! The trait of the types that are read.
 
-ghost use Rattle.std.specs.Prelude.{IfOk, IfErr};
+ghost use Rattle.std.specs.Prelude.{◌≡◌, ◌≤◌, true, false, length, IfOk, IfErr};
+ghost use Rattle.amqp_read.specs.Steps.{HasBytes};
 ghost use Rattle.amqp_de.specs.Calls.{IsRead, IsRefused, IsNamed};
 
 use crate::Deserializer;
@@ -157,11 +158,27 @@ impl<R: Read> Deserialize<R> for Symbol {
     }
 }
 
+impl<R: Read> Deserializer<R> {
+    /// For how many elements to ask memory at once. Each takes a byte at least, save in an array, so
+    /// a count that no bytes stand behind asks for no more than the bytes at hand.
+    #[inline(always)]
+    fn room(&self, announced: u32) -> usize
+        ensures announced { result ≤ announced }
+        ensures there { R.buffers ≡ false → HasBytes result self.now.reading.to_come }
+        ensures received { R.buffers ≡ true → result ≤ length self.now.reading.received }
+    {
+        let announced = announced as usize;
+        announced.min(self.reader.at_hand())
+    }
+}
+
 impl<R: Read, T: Deserialize<R>> Deserialize<R> for Vec<T> {
     #[inline(always)]
     fn deserialize(alloc: Global, de: &mut Deserializer<R>) -> Result<Vec<T>, Error> {
         let mut access = de.deserialize_list()?;
-        let mut items = Vec::new(alloc);
+        let announced = access.inner.left;
+        let room = access.de.room(announced);
+        let mut items = Vec::with_capacity(alloc, room)?;
         'items: while let Some(item) = match access.next_element(alloc) {
             Ok(found) => found,
             Err(e) => return Err(e),

@@ -1,5 +1,5 @@
 -- What the calls of a reader answer.
-use Rattle.std.specs.Prelude.{◌≡◌, ◌⊎◌, ℕ, ◌+◌, ◌^◌, ◌<◌, ◌≤◌, max, Bool, IsTrue, List, length, take, Option, None, Some, ⊤}
+use Rattle.std.specs.Prelude.{◌≡◌, ◌⊎◌, ℕ, ◌+◌, ◌^◌, ◌<◌, ◌≤◌, max, Bool, true, false, IsTrue, List, length, take, Option, None, Some, ⊤}
 use Rattle.std.specs.Io.KnownBytes.{IsAtEnd}
 use Rattle.std.specs.declared.io.ErrorKind.TheVariants.{UnexpectedEof, Other}
 use Rattle.amqp_base.specs.declared.error.Error.{Error}
@@ -64,3 +64,13 @@ NotTaken grows buffers n old new e = ((e ≡ Io UnexpectedEof) × IsShort n old)
 pub record Looked (n : ℕ) (old new : Reading) : Type 0 where
   pub stays : Stays old new
   pub received : length new.received ≤ max (length old.received) n
+
+-- n known bytes are to come, and no more
+abbrev pub HasJust : ℕ → Option (List ℕ) → Type 0
+HasJust n None = ⊤
+HasJust n (Some s) = n ≡ length s
+
+-- n bytes are at hand: those that were received, where the reader buffers; else all that are to come
+abbrev pub AtHand : Bool → ℕ → Reading → Type 0
+AtHand true n r = n ≡ length r.received
+AtHand false n r = HasJust n r.to_come

@@ -4,7 +4,7 @@ ghost use Rattle.std.specs.Prelude.{◌≡◌, ◌≢◌, ◌⊎◌, ◌+◌, �
 ghost use Rattle.std.specs.Prelude.{◌∷◌, length, OnOk, OnErr, IfOk, IfErr, MatchOption};
 ghost use Rattle.amqp_read.specs.Reading.{Reading, Stays, Takes};
 ghost use Rattle.amqp_read.specs.Steps.{Shows, MayCome, Ended, IsShort, Fails, NotTaken};
-ghost use Rattle.amqp_read.specs.Steps.{PassesCount, Holds, Looked};
+ghost use Rattle.amqp_read.specs.Steps.{PassesCount, Holds, Looked, AtHand};
 ghost use Rattle.amqp_base.specs.declared.error.Error.TheVariants.{OutOfMemory};
 
 use amqp_base::Error;
@@ -41,6 +41,11 @@ pub trait Read: sealed::Sealed + Drop {
     /// How many bytes were consumed; peeked bytes don't count.
     fn bytes_consumed(&self) -> usize
         ensures { result ≡ (reading self.now).taken };
+
+    /// How many of the bytes to come are at hand, so that no source is asked for them: those that
+    /// were received, and over a slice all.
+    fn at_hand(&self) -> usize
+        ensures { AtHand buffers result (reading self.now) };
 
     /// Consumes the next byte; `None` at the end.
     fn next(&mut self) -> Result<Option<u8>, Error>

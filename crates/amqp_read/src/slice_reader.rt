@@ -112,6 +112,11 @@ impl<'s> Read for SliceReader<'s> {
     }
 
     #[inline(always)]
+    fn at_hand(&self) -> usize {
+        self.rest.len()
+    }
+
+    #[inline(always)]
     fn next(&mut self) -> Result<Option<u8>, Error> {
         match self.rest {
             [] => Ok(None),

@@ -26,7 +26,7 @@ items-init g c =
     let opened = c.in_ok-access.ensures.opened in
     record {
       same = refl;
-      sofar = sofar_start g.T.Typed.meaning.takes g.T.Typed.meaning.means (listing c.in_ok-access.access) c.args.de.now c.new-items.result.items opened c.new-items.ensures.items;
+      sofar = sofar_start g.T.Typed.meaning.takes g.T.Typed.meaning.means (listing c.in_ok-access.access) c.args.de.now c.in_ok-items.items.items opened c.in_ok-items.ensures.items;
       reaches = reaches_start _ _ c.in_ok-access.ensures.plain;
     }
 
