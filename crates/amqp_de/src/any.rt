@@ -14,6 +14,7 @@ use std::convert::TryFrom;
 use std::io::ErrorKind;
 
 /// The code of the next byte, which stays.
+#[inline(always)]
 fn code_ahead<R: Read>(reader: &mut R) -> Result<EncodingCodes, Error>
     ensures ok { IfOk result (λ e. Peeks e (R.reading reader.old) (R.reading reader.new)) }
     ensures err { IfErr result (λ e.
@@ -32,6 +33,7 @@ impl<R: Read> Deserializer<R> {
     ///
     /// `Io(UnexpectedEof)` where there is no byte, `InvalidFormatCode` where it is no code, and
     /// what the reader refuses. A refusal ends the deserializer.
+    #[inline(always)]
     pub fn deserialize_any(&mut self) -> Result<EncodingCodes, Error>
         ensures ok { IfOk result (λ e. Looks self.old self.new e) }
         ensures err { IfErr result (λ e. LooksNot R.buffers self.old self.new e) }

@@ -176,6 +176,7 @@ impl<'n, T: Drop, Rest: Drop> Field<'n, T, Rest> {
     }
 }
 
+// Each body calls that of the fields behind once: twice, and inlined code would double a field.
 impl<'n, R: Read, T: Deserialize<R>, Rest: Fields<R>> Fields<R> for Field<'n, T, Rest> {
     type Values = (T, Rest::Values);
 
@@ -190,10 +191,11 @@ impl<'n, R: Read, T: Deserialize<R>, Rest: Fields<R>> Fields<R> for Field<'n, T,
 
     #[inline(always)]
     fn are(&self, count: u32) -> bool {
-        match &self.value {
-            Some(_) => self.rest.are(count),
-            None => count > 0 && self.rest.are(count - 1),
-        }
+        let own = match &self.value {
+            Some(_) => 0,
+            None => 1,
+        };
+        count >= own && self.rest.are(count - own)
     }
 
     #[inline(always)]
@@ -221,21 +223,16 @@ impl<'n, R: Read, T: Deserialize<R>, Rest: Fields<R>> Fields<R> for Field<'n, T,
     #[inline(always)]
     fn read_elements(&mut self, alloc: Global, list: &mut ListAccess<'_, R>) -> Result<(), Error> {
         match &self.value {
-            Some(_) => match self.rest.read_elements(alloc, list) {
-                Ok(()) => Ok(()),
-                Err(e) => Err(e),
-            },
+            Some(_) => {}
             None => match list.next_element::<T>(alloc) {
-                Ok(Some(value)) => {
-                    self.put(value);
-                    match self.rest.read_elements(alloc, list) {
-                        Ok(()) => Ok(()),
-                        Err(e) => Err(e),
-                    }
-                }
-                Ok(None) => Err(Error::SequenceLengthMismatch),
-                Err(e) => Err(e),
+                Ok(Some(value)) => self.put(value),
+                Ok(None) => return Err(Error::SequenceLengthMismatch),
+                Err(e) => return Err(e),
             },
+        }
+        match self.rest.read_elements(alloc, list) {
+            Ok(()) => Ok(()),
+            Err(e) => Err(e),
         }
     }
 

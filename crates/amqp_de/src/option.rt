@@ -16,6 +16,7 @@ impl<R: Read> Deserializer<R> {
     ///
     /// `Io(UnexpectedEof)` where there is no byte, `InvalidFormatCode` where it is no code, else
     /// the refusals of `T`. Each of them, also one that `T` makes itself, ends the deserializer.
+    #[inline(always)]
     pub fn deserialize_option<T: Deserialize<R>>(
         &mut self,
         alloc: Global,

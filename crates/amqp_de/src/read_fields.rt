@@ -22,6 +22,7 @@ impl<R: Read> Deserializer<R> {
     /// `Message` where it is no name of a field or that of one that was read, and the refusals of
     /// the field; behind the last pair `Message` where a field is missing. A refusal ends the
     /// deserializer.
+    #[inline(always)]
     pub fn deserialize_fields<S: Fields<R>>(
         &mut self,
         alloc: Global,
