@@ -1,5 +1,5 @@
 -- Reading an item part by part, each part by a type of its own.
-use Rattle.std.proofs.Common.{◌≡◌, Bool, true, false, ◌||◌, List, [], ◌∷◌, Result, Ok, Err, IfOk, IfErr, IsErrAnd, OnErr, refl, sym, ap, ◌∙◌, arith, IsTrue}
+use Rattle.std.proofs.Common.{◌≡◌, Bool, true, false, ◌||◌, List, [], ◌∷◌, Result, Ok, Err, IfErr, IsErrAnd, OnErr, refl, sym, ap, ◌∙◌, arith, IsTrue}
 use Rattle.amqp_base.specs.declared.error.Error.{Error}
 use Rattle.amqp_base.specs.declared.error.Error.TheVariants.{SequenceLengthMismatch}
 use Rattle.amqp_base.specs.Item.{Item, scalar, list, map, array, described, Items, none, more, count}
@@ -10,7 +10,7 @@ use Rattle.amqp_base.specs.Parse.{item_at, list_data}
 use Rattle.amqp_de.specs.Access.{Listing, HasParts, Opens, OpensNot, Part, NoPart, AllRead, NoEnd, Ends, ended}
 use Rattle.amqp_de.specs.declared.list.Access.{Access}
 use Rattle.amqp_de.specs.declared.list.Open.{Open}
-use Rattle.amqp_de.specs.ReadParts.{open_list, Progress, MoreRead, RefusesParts, and_last, joined}
+use Rattle.amqp_de.specs.ReadParts.{open_list, Progress, MoreRead, RefusesElements, and_last, joined}
 use Rattle.amqp_de.proofs.Readings.{excused_more, rejects_more}
 use Rattle.amqp_de.proofs.Weaker.{found_as}
 use Rattle.amqp_de.proofs.PartsRead as read
@@ -61,7 +61,7 @@ opens_not_more buffers old last e o = record {
   few = o.few;
 }
 
-pub parts_refused : {A : Type 0} (buffers : Bool) (old last : Decoding) (r : Result A Error) → IfErr r (λ e. OpensNot HasParts list_data buffers buffers old last e) → IfErr r (λ e. RefusesParts buffers old last e)
+pub parts_refused : {A : Type 0} (buffers : Bool) (old last : Decoding) (r : Result A Error) → IfErr r (λ e. OpensNot HasParts list_data buffers buffers old last e) → IfErr r (λ e. RefusesElements buffers old last e)
 parts_refused buffers old last (Ok v) o = o
 parts_refused buffers old last (Err e) o = let m = opens_not_more buffers old last e o in record { not_opened = m; missed = λ fields. fields_unopened fields true buffers old last e m }
 
@@ -158,10 +158,6 @@ module _ {X F : Type 0} {old : Decoding} {all : List (Item → Bool)} {parts : I
 
   pub end_refused : {grows buffers : Bool} {last : Decoding} {e : Error} → Progress old all [] parts (open_list a) → NoEnd (open_list a) last e → Missed (takes_fields all) grows buffers old last e
   end_refused {grows = grows} {buffers = buffers} {last = last} {e = e} s n = too_many old all [] parts (open_list a) s grows buffers last e refl n
-
-pub progress_begun : {A : Type 0} (old : Decoding) (r : Result A Error) (l : A → Listing) → IfOk r (λ o. Opens HasParts old (l o)) → IfOk r (λ o. (all : List (Item → Bool)) → Progress old all all none (l o))
-progress_begun old (Ok o) l p = progress_start old (l o) p
-progress_begun old (Err e) l p = p
 
 -- where the deserializer stands in the end
 pub missed_here : {takes : Item → Bool} {more grows buffers : Bool} {old : Decoding} {e : Error} (last x : Decoding) → (IsTrue more → IsTrue grows) → last ≡ x → Missed takes more buffers old x e → Missed takes grows buffers old last e

@@ -7,7 +7,7 @@ use Rattle.amqp_base.specs.Typing.{all_taken, all_mean, is_list_of, means_list}
 use Rattle.amqp_de.specs.Decoding.{Decoding}
 use Rattle.amqp_de.specs.Law.{Found, Missed}
 use Rattle.amqp_base.specs.Parse.{list_data}
-use Rattle.amqp_de.specs.Access.{Listing, HasParts, Opens, OpensNot, Part, NoPart, Ends, ended}
+use Rattle.amqp_de.specs.Access.{Listing, HasElements, Opens, OpensNot, Part, NoPart, Ends, ended}
 use Rattle.amqp_de.specs.ReadParts.{PartsRead, and_last, joined}
 use Rattle.amqp_de.proofs.PartsRead as read
 use Rattle.amqp_de.proofs.PartsRead.{both, left_of, right_of}
@@ -35,7 +35,7 @@ module _ {T : Type 0} (takes : Item → Bool) (means : Item → T → Type 0) (f
     pub taken : IsTrue (all_taken takes parts)
     pub meant : all_mean means parts vs
 
-  pub sofar_start : (old : Decoding) (vs : List T) → Opens HasParts old from → vs ≡ [] → Sofar from vs
+  pub sofar_start : (old : Decoding) (vs : List T) → Opens HasElements old from → vs ≡ [] → Sofar from vs
   sofar_start old vs o e = rw e record { parts = none; reads = read.parts_begun old from o; taken = refl; meant = tt }
 
   pub sofar_step : (now next : Listing) (vs : List T) (v : T) → Sofar now vs → Part takes (λ i. means i v) now next → Sofar next (vs ++ v ∷ [])
@@ -48,14 +48,14 @@ module _ {T : Type 0} (takes : Item → Bool) (means : Item → T → Type 0) (f
 
 -- ---- the whole
 
-parts_of : (takes : Item → Bool) (i : Item) → IsTrue (is_list_of takes i) → (is : Items) × HasParts i is × IsTrue (all_taken takes is)
+parts_of : (takes : Item → Bool) (i : Item) → IsTrue (is_list_of takes i) → (is : Items) × HasElements i is × IsTrue (all_taken takes is)
 parts_of takes (list is) t = (is, refl, t)
 parts_of takes (array is) t = absurd cc
 parts_of takes (scalar v) t = absurd cc
 parts_of takes (map ps) t = absurd cc
 parts_of takes (described d v) t = absurd cc
 
-meant_of : {T : Type 0} (takes : Item → Bool) (means : Item → T → Type 0) (is : Items) (vs : List T) → IsTrue (all_taken takes is) → all_mean means is vs → (i : Item) → HasParts i is → IsTrue (is_list_of takes i) × means_list means i vs
+meant_of : {T : Type 0} (takes : Item → Bool) (means : Item → T → Type 0) (is : Items) (vs : List T) → IsTrue (all_taken takes is) → all_mean means is vs → (i : Item) → HasElements i is → IsTrue (is_list_of takes i) × means_list means i vs
 meant_of takes means js vs t m (list is) p = (rw p t, rw p m)
 meant_of takes means js vs t m (array is) p = absurd p
 meant_of takes means js vs t m (scalar v) p = absurd p
@@ -63,10 +63,10 @@ meant_of takes means js vs t m (map ps) p = absurd p
 meant_of takes means js vs t m (described d v) p = absurd p
 
 -- no list was opened
-pub none_opened : {grows : Bool} (takes : Item → Bool) (buffers : Bool) (old last : Decoding) (e : Error) → OpensNot HasParts list_data grows buffers old last e → Missed (is_list_of takes) true buffers old last e
+pub none_opened : {grows : Bool} (takes : Item → Bool) (buffers : Bool) (old last : Decoding) (e : Error) → OpensNot HasElements list_data grows buffers old last e → Missed (is_list_of takes) true buffers old last e
 none_opened takes buffers old last e o = read.missed_more (λ _. refl) (read.unopened (is_list_of takes) (λ is. IsTrue (all_taken takes is)) (parts_of takes) o)
 
-module _ {T : Type 0} (takes : Item → Bool) (means : Item → T → Type 0) (buffers : Bool) (old : Decoding) (from now : Listing) (vs : List T) (o : Opens HasParts old from) (s : Sofar takes means from now vs) where
+module _ {T : Type 0} (takes : Item → Bool) (means : Item → T → Type 0) (buffers : Bool) (old : Decoding) (from now : Listing) (vs : List T) (o : Opens HasElements old from) (s : Sofar takes means from now vs) where
   -- a part was refused
   pub part_missed : (grows : Bool) (next : Listing) (last : Decoding) (e : Error) → NoPart takes grows buffers now next e → last ≡ next.state → Missed (is_list_of takes) true buffers old last e
   part_missed grows next last e n l = read.missed_more (λ _. refl) (read.part_missed old from s.parts now o s.reads (is_list_of takes) (λ is. IsTrue (all_taken takes is)) (parts_of takes) takes (taken_behind takes s.parts) grows buffers next last e n l)

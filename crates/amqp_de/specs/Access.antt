@@ -13,7 +13,7 @@ use Rattle.amqp_base.specs.declared.error.Error.TheVariants.{InvalidValue, OutOf
 use Rattle.amqp_read.specs.Reading.{Reading, Takes}
 use Rattle.amqp_de.specs.Decoding.{Decoding, stands_under, ready}
 use Rattle.amqp_de.specs.Law.{Front, Excused, Advances, Spent, free, refused_free}
-use Rattle.amqp_base.specs.Parse.{Parsed, item_at, least_size}
+use Rattle.amqp_base.specs.Parse.{Parsed, item_at, list_data, least_size}
 use Rattle.amqp_de.specs.Look.{looked_at}
 use Rattle.amqp_de.specs.Steps.{Rejects}
 
@@ -34,13 +34,21 @@ abbrev pub Within : Option ℕ → ℕ → Type 0
 Within None t = Unit {0}
 Within (Some m) t = t ≤ m
 
--- the item is a list of these parts
+-- the item is a list of these parts, as a tuple is
 abbrev pub HasParts : Item → Items → Type 0
 HasParts (list is) js = is ≡ js
 HasParts (array is) js = ⊥
 HasParts (scalar v) js = ⊥
 HasParts (map ps) js = ⊥
 HasParts (described d v) js = ⊥
+
+-- these are the item's elements: it is a list of them; arrays, which have elements too, aren't read yet
+abbrev pub HasElements : Item → Items → Type 0
+HasElements = HasParts
+
+-- how many elements there are, by the data of the item's code
+abbrev pub elements_data : EncodingCodes → List ℕ → Parsed ℕ
+elements_data = list_data
 
 -- the item is a map of these keys and values, in turn
 abbrev pub HasPairs : Item → Items → Type 0

@@ -8,10 +8,10 @@ use Rattle.amqp_base.specs.Fields.{all_fields, takes_fields}
 use Rattle.amqp_read.specs.Reading.{Takes}
 use Rattle.amqp_de.specs.Decoding.{Decoding, stands_under}
 use Rattle.amqp_de.specs.Law.{Missed}
-use Rattle.amqp_base.specs.Parse.{item_at, list_data, tuple_data}
+use Rattle.amqp_base.specs.Parse.{item_at, tuple_data}
 use Rattle.amqp_de.specs.Steps.{Rejects}
 use Rattle.amqp_de.specs.Seq.{listing, seq_listing}
-use Rattle.amqp_de.specs.Access.{Listing, Within, HasParts, Opens, OpensNot, items_of_all, cost}
+use Rattle.amqp_de.specs.Access.{Listing, Within, HasParts, HasElements, elements_data, Opens, OpensNot, items_of_all, cost}
 use Rattle.amqp_de.specs.declared.list.Access.{Access}
 use Rattle.amqp_de.specs.declared.list.Open.{Open}
 use Rattle.amqp_de.specs.declared.seq.SeqAccess.{SeqAccess}
@@ -66,9 +66,9 @@ pub record MoreRead (old : Decoding) (all rest : List (Item → Bool)) (parts : 
   pub meant : means item
   pub more : Progress old all rest (and_last parts item) now
 
--- no item with parts was opened: so a list of any fields is missed
-pub record RefusesParts (buffers : Bool) (old last : Decoding) (e : Error) : Type 0 where
-  pub not_opened : OpensNot HasParts list_data true buffers old last e
+-- no item with elements was opened: so a list of any fields is missed
+pub record RefusesElements (buffers : Bool) (old last : Decoding) (e : Error) : Type 0 where
+  pub not_opened : OpensNot HasElements elements_data true buffers old last e
   pub missed : (fields : List (Item → Bool)) → Missed (takes_fields fields) true buffers old last e
 
 -- no list of just so many parts was opened: so one of as many fields is missed, and want of memory is no excuse

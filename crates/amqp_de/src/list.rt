@@ -10,7 +10,7 @@ ghost use Rattle.amqp_de.specs.Access.{Plain};
 ghost use Rattle.amqp_de.specs.Decoding.{silenced};
 ghost use Rattle.amqp_base.specs.Parse.{list_data, tuple_data};
 ghost use Rattle.amqp_de.specs.Places.{limit_of};
-ghost use Rattle.amqp_de.specs.ReadParts.{Progress, RefusesParts, RefusesTuple, open_list};
+ghost use Rattle.amqp_de.specs.ReadParts.{Progress, RefusesTuple, open_list};
 ghost use Rattle.amqp_de.specs.ReadPairs.{broken_off};
 ghost use Rattle.amqp_de.specs.Seq.{listing, at_open};
 ghost use Rattle.amqp_de.specs.contracts.deserializer.Deserializer.{the_row};
@@ -104,20 +104,6 @@ impl<R: Read> Deserializer<R> {
     /// Begins a list: its header is consumed.
     #[inline(always)]
     pub(crate) fn open_list(&mut self) -> Result<Open, Error>
-        ensures ok { IfOk result (λ o. Opens HasParts self.old (at_open self.new o)) }
-        ensures exact { IfOk result (λ o. OpensExactly list_data self.old (at_open self.new o)) }
-        ensures plain { IfOk result (λ o. Plain (at_open self.new o)) }
-        ensures err { IfErr result (λ e.
-            OpensNot HasParts list_data R.buffers R.buffers self.old self.new e) }
-        ensures missed { IfErr result (λ e. RefusesParts R.buffers self.old self.new e) }
-        ensures progress { IfOk result (λ o.
-            (all : List (Item → Bool)) → Progress self.old all all none (at_open self.new o)) }
-    {
-        self.begin_list()
-    }
-
-    #[inline(always)]
-    fn begin_list(&mut self) -> Result<Open, Error>
         ensures ok { IfOk result (λ o. Opens HasParts self.old (at_open self.new o)) }
         ensures exact { IfOk result (λ o. OpensExactly list_data self.old (at_open self.new o)) }
         ensures plain { IfOk result (λ o. Plain (at_open self.new o)) }

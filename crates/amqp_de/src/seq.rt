@@ -2,15 +2,15 @@
 
 ghost use Rattle.std.specs.Prelude.{◌≡◌, Ok, Err, IfOk, IfErr};
 ghost use Rattle.std.specs.Borrow.{sem, RestsIfErr};
-ghost use Rattle.amqp_de.specs.Access.{HasParts, Ends, Opens, OpensExactly};
+ghost use Rattle.amqp_de.specs.Access.{HasElements, elements_data, Ends, Opens, OpensExactly};
+ghost use Rattle.amqp_de.specs.Access.{Plain};
 ghost use Rattle.amqp_de.specs.Decoding.{silenced};
-ghost use Rattle.amqp_base.specs.Parse.{list_data};
-ghost use Rattle.amqp_de.specs.ReadParts.{RefusesParts, open_list, open_seq};
-ghost use Rattle.amqp_de.specs.Seq.{lender_of, seq_listing};
+ghost use Rattle.amqp_de.specs.ReadParts.{RefusesElements, open_list, open_seq};
+ghost use Rattle.amqp_de.specs.Seq.{lender_of, seq_listing, at_open};
 ghost use Rattle.amqp_de.specs.contracts.deserializer.Deserializer.{the_row};
 ghost use Rattle.amqp_de.specs.Calls.{NextElement};
 
-use crate::list::{Access, Elements, Ended, ListAccess};
+use crate::list::{Access, Elements, Ended, ListAccess, Open};
 use crate::{Deserialize, Deserializer};
 use amqp_base::Error;
 use amqp_read::Read;
@@ -25,6 +25,38 @@ pub enum SeqAccess<'a, R: Read> {
 }
 
 impl<R: Read> Deserializer<R> {
+    /// Begins an item with elements: its header is consumed.
+    #[inline(always)]
+    fn open_elements(&mut self) -> Result<Open, Error>
+        ensures ok { IfOk result (λ o. Opens HasElements self.old (at_open self.new o)) }
+        ensures exact { IfOk result (λ o.
+            OpensExactly elements_data self.old (at_open self.new o)) }
+        ensures plain { IfOk result (λ o. Plain (at_open self.new o)) }
+        ensures err { IfErr result (λ e. RefusesElements R.buffers self.old self.new e) }
+    {
+        self.open_list()
+    }
+
+    /// The elements of a sequence, whichever form it has.
+    #[inline(always)]
+    #[tactic(auto, unfolding(crate::specs::ReadParts::open_list))]
+    pub(crate) fn deserialize_elements(&mut self) -> Result<ListAccess<'_, R>, Error>
+        ensures* refused { sem 𝓛 (RestsIfErr (the_row R.row R.Read) self.entry (λ a.
+            a.de.ghost_name) result (λ last.
+            IfErr result (λ e. RefusesElements R.buffers self.old last e))) }
+        ensures same_reference { IfOk result (λ a. a.de.ghost_name ≡ self.entry.ghost_name) }
+        ensures opened { IfOk result (λ a. Opens HasElements self.old (open_list a)) }
+        ensures exact { IfOk result (λ a. OpensExactly elements_data self.old (open_list a)) }
+        ensures plain { IfOk result (λ a. Plain (open_list a)) }
+    {
+        let opened = self.open_elements()?;
+        Ok(Access {
+            de: self,
+            inner: opened,
+            form: Elements,
+        })
+    }
+
     /// Opens a list (part 1, sections 1.6.22 to 1.6.24): its code, size and count are consumed. The
     /// size is not compared with the bytes that are there.
     ///
@@ -36,14 +68,14 @@ impl<R: Read> Deserializer<R> {
     pub fn deserialize_seq(&mut self, alloc: Global) -> Result<SeqAccess<'_, R>, Error>
         ensures* refused { sem 𝓛 (RestsIfErr (the_row R.row R.Read) self.entry (λ a.
             (lender_of a).ghost_name) result (λ last.
-            IfErr result (λ e. RefusesParts R.buffers self.old last e))) }
+            IfErr result (λ e. RefusesElements R.buffers self.old last e))) }
         ensures same_reference { IfOk result (λ a.
             (lender_of a).ghost_name ≡ self.entry.ghost_name) }
-        ensures opened { IfOk result (λ a. Opens HasParts self.old (open_seq a)) }
-        ensures exact { IfOk result (λ a. OpensExactly list_data self.old (seq_listing a)) }
+        ensures opened { IfOk result (λ a. Opens HasElements self.old (open_seq a)) }
+        ensures exact { IfOk result (λ a. OpensExactly elements_data self.old (seq_listing a)) }
     {
         let _ = alloc;
-        let inner = self.open_list()?;
+        let inner = self.open_elements()?;
         Ok(SeqAccess::List(Access {
             de: self,
             inner,

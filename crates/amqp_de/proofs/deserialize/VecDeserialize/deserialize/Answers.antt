@@ -12,8 +12,8 @@ use Rattle.amqp_de.proofs.deserialize.VecDeserialize.deserialize.Goals as goal
 pub returns-in_err-access-clause-err : goal.returns-in_err-access-clause-err
 returns-in_err-access-clause-err g c =
     let p = err_from_is_err_and c.from_residual.result c.from_residual.ensures.1 in
-    let d = rw c.in_err-access.was at c.deserialize_list.follows.holds-at-none in
-    rw (p.1, p.2) (none_opened g.T.Typed.meaning.takes g.R.Read.buffers c.args.de.now _ _ d)
+    let d = rw c.in_err-access.was at c.deserialize_elements.follows.holds-at-none in
+    rw (p.1, p.2) (none_opened g.T.Typed.meaning.takes g.R.Read.buffers c.args.de.now _ _ d.not_opened)
 
 pub returns-in-Err-clause-err : goal.returns-in-Err-clause-err
 unfolding open_list
@@ -60,8 +60,8 @@ returns-in_err-push-clause-err g c =
 
 pub returns-in_err-access-clause-named : goal.returns-in_err-access-clause-named
 returns-in_err-access-clause-named g c =
-    let d = rw c.in_err-access.was at c.deserialize_list.follows.holds-at-none in
-    named_on _ _ _ c.from_residual.ensures.1 refl (unopened_as _ _ true g.R.Read.buffers c.args.de.now _ _ (λ _. refl) d)
+    let d = rw c.in_err-access.was at c.deserialize_elements.follows.holds-at-none in
+    named_on _ _ _ c.from_residual.ensures.1 refl (unopened_as _ _ true g.R.Read.buffers c.args.de.now _ _ (λ _. refl) d.not_opened)
 
 pub returns-in-Err-clause-named : goal.returns-in-Err-clause-named
 unfolding open_list
