@@ -21,11 +21,11 @@ use Rattle.amqp_de.proofs.Data.{understands, behind_code}
 
 -- the state once the item's data were consumed
 abbrev pub answered : Decoding → Reading → Decoding
-answered mid r = record { reading = r; answers = true; inherited = mid.inherited; described = mid.described; begun = mid.begun }
+answered mid r = record { reading = r; ended = false; inherited = mid.inherited; described = mid.described; begun = mid.begun }
 
 -- and where they were refused
 abbrev pub refused : Decoding → Reading → Decoding
-refused mid r = record { reading = r; answers = mid.answers; inherited = mid.inherited; described = mid.described; begun = mid.begun }
+refused mid r = record { reading = r; ended = mid.ended; inherited = mid.inherited; described = mid.described; begun = mid.begun }
 
 pub free_refused : (c : Constructor) (n m : ℕ) → n ≤ m + free c → n ≤ m + refused_free c
 free_refused bare n m h = omega (arith, h)
@@ -90,7 +90,7 @@ found takes v old mid r x h b d = record {
     taken = h;
     value = refl;
     step = takes_then old.reading mid.reading r b.text d.text b.step d.step;
-    answers = refl;
+    not_ended = refl;
     inherited = b.inherited;
     described = b.described;
     begun = b.begun ∙ ap (λ (n : ℕ). old.begun + n) (sym (b.counts d.code (scalar v) d.code_is));

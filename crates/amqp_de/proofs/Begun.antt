@@ -1,5 +1,5 @@
 -- An item is begun by the byte of its code.
-use Rattle.std.proofs.Common.{◌≡◌, ℕ, ◌+◌, ◌<◌, Bool, false, List, [], ◌∷◌, ◌++◌, length, Some, Result, Ok, Err, refl, sym, ap, ◌∙◌, arith, inl, inr, ◌⊎◌}
+use Rattle.std.proofs.Common.{◌≡◌, ℕ, ◌+◌, ◌<◌, Bool, false, List, [], ◌∷◌, ◌++◌, length, Some, Result, Ok, Err, refl, sym, ap, ◌∙◌, arith, inl, inr, ◌⊎◌, true}
 use Rattle.std.specs.Prelude.{IfOk, IfErr}
 use Rattle.std.specs.declared.io.ErrorKind.TheVariants.{UnexpectedEof}
 use Rattle.amqp_base.specs.declared.error.Error.{Error}
@@ -61,7 +61,7 @@ not_pair t d e i n (of_pair h) = n tt
 
 -- the state once an item was begun
 abbrev pub begun_from : Decoding → Reading → Decoding
-begun_from old r = record { reading = r; answers = false; inherited = old.inherited; described = false; begun = old.begun + 1 }
+begun_from old r = record { reading = r; ended = true; inherited = old.inherited; described = false; begun = old.begun + 1 }
 
 at_front : (s : List ℕ) (x : ℕ) (r : List ℕ) → s ≡ x ∷ r → byte_at s ≡ Ok (x, r)
 at_front s x r h = rw h refl
@@ -80,7 +80,7 @@ begins_front old r x c t = record {
   inherited = refl;
   described = refl;
   begun = refl;
-  closed = refl;
+  ended = refl;
   counts = λ e i p. rw c refl;
   room = rw c (omega arith);
 }
@@ -95,7 +95,7 @@ begins_under old e c = record {
   inherited = refl;
   described = refl;
   begun = refl;
-  closed = refl;
+  ended = refl;
   counts = λ f i p. rw c refl;
   room = rw c (omega arith);
 }
@@ -114,7 +114,7 @@ begins_pair old d e c = record {
   inherited = refl;
   described = refl;
   begun = refl;
-  closed = refl;
+  ended = refl;
   counts = λ f i p. absurd (no_code p);
   room = rw c (omega arith);
 }
@@ -132,6 +132,6 @@ pub front_err : (buffers : Bool) (old : Decoding) (r : Reading) (b : Result ℕ 
 front_err buffers old r (Ok x) c t = tt
 front_err buffers old r (Err e) c u = record {
   rejects = rw c (unread_rejects byte_at 1 old.reading r e no_byte u);
-  closed = refl;
+  ended = refl;
   few = refl;
 }

@@ -1,5 +1,5 @@
 -- Refusals of decimals by the names that the bytes call for.
-use Rattle.std.proofs.Common.{◌≡◌, ℕ, Bool, true, false, ◌&&◌, not, List, Result, Ok, Err, refl, sym, ap, ◌∙◌, inl, inr, ◌⊎◌, IsTrue}
+use Rattle.std.proofs.Common.{◌≡◌, ℕ, Bool, true, false, ◌&&◌, not, List, Result, Ok, Err, refl, sym, ap, ◌∙◌, inl, inr, ◌⊎◌}
 use Rattle.amqp_base.specs.declared.error.Error.{Error}
 use Rattle.amqp_base.specs.declared.error.Error.TheVariants.{Message, OutOfMemory, Io}
 use Rattle.amqp_base.specs.declared.format_code.EncodingCodes.{EncodingCodes}
@@ -95,12 +95,12 @@ own_code : (k : Kind) (p : Parsed EncodingCodes) (x : EncodingCodes) (rest : Lis
 own_code k p x rest h q = rw h (and_not (is_decimal_kind (row x).kind) (same_kind (row x).kind k) q)
 
 pub named_width : (k : Kind) (buffers : Bool) (old mid new : Decoding) (x : EncodingCodes) (e : Error) → is_decimal_kind k ≡ true → (is_decimal_kind (row x).kind ≡ true → (row x).kind ≡ k) → Looks old mid x
-    → (IsTrue mid.answers → Exact decimal buffers buffers (item_at decimal_at (stands_under mid)) mid.reading (Err e) new.reading) → Named (decimal_refusal k) true buffers old new e
+    → (mid.ended ≡ false → Exact decimal buffers buffers (item_at decimal_at (stands_under mid)) mid.reading (Err e) new.reading) → Named (decimal_refusal k) true buffers old new e
 unfolding decimal_refusal scalar_refusal
 named_width k buffers old mid new x e d o l n = record {
   why = λ a s at h.
       let y = l.exact s at in
-      tell s y.0 y.1 ((n l.answers).answer s (keeps_known old.reading.to_come mid.reading.to_come s l.looked.stays.to_come at) (l.looked.stays.steady.honest ∙ h));
+      tell s y.0 y.1 ((n l.not_ended).answer s (keeps_known old.reading.to_come mid.reading.to_come s l.looked.stays.to_come at) (l.looked.stays.steady.honest ∙ h));
 }
   where
     same : is_decimal_kind (row x).kind ≡ same_kind (row x).kind k

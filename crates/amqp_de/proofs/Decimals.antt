@@ -145,7 +145,7 @@ own_width wanted x b q (inr n) d = absurd (none (decimal_byte x (one_of_three (r
 -- what was read behind a look is of the kind that was looked at
 pub width_read : (k : Kind) (v : Scalar) (old mid new : Decoding) (x : EncodingCodes) → (is_decimal_kind (row x).kind ≡ true → (row x).kind ≡ k) → Looks old mid x → Found is_decimal (λ i. i ≡ scalar v) mid new → kind_of v ≡ k
 width_read k v old mid new x h l f =
-    let o = f.front l.answers in
+    let o = f.front l.not_ended in
     let w : Wire lenient (stands_under old) o.text o.item = rw (same_place old mid x l) at (o.spelled) in
     let q : (row x).kind ≡ kind_of v = l.kind o.item o.text w (may_taken mid.reading new.reading o.text o.step) ∙ ap item_kind o.value in
     let d : IsTrue (is_decimal (scalar v)) = rw o.value at o.taken in

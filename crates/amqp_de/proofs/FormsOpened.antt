@@ -1,5 +1,5 @@
 -- Opening a struct by its form, behind a look at its code.
-use Rattle.std.proofs.Common.{◌≡◌, ℕ, Bool, true, false, List, ◌++◌, Some, Result, Ok, Err, refl, sym, ap, ◌∙◌, arith, inl, inr, ◌⊎◌, IsTrue}
+use Rattle.std.proofs.Common.{◌≡◌, ℕ, Bool, true, false, List, ◌++◌, Some, Result, Ok, Err, refl, sym, ap, ◌∙◌, arith, inl, inr, ◌⊎◌}
 use Rattle.amqp_base.specs.declared.error.Error.{Error}
 use Rattle.amqp_base.specs.declared.error.Error.TheVariants.{InvalidValue}
 use Rattle.amqp_base.specs.declared.format_code.EncodingCodes.{EncodingCodes}
@@ -69,15 +69,15 @@ struct_row_data len Map32 s n = absurd (n refl)
 struct_row_data len _ s n = refl
 
 -- a look that was answered
-pub answered : {A : Type 0} {x : A} (old mid : Decoding) → Stops old (Ok x) mid → IsTrue old.answers
-answered {A} {x} old mid s = tell old.answers refl
+pub answered : {A : Type 0} {x : A} (old mid : Decoding) → Stops old (Ok x) mid → old.ended ≡ false
+answered {A} {x} old mid s = tell old.ended refl
   where
     apart : Ok x ≡ Err InvalidValue → ⊥
     apart h = cc
 
-    tell : (b : Bool) → old.answers ≡ b → IsTrue old.answers
-    tell true h = h
-    tell false h = absurd (apart (s.unanswered h).0)
+    tell : (b : Bool) → old.ended ≡ b → old.ended ≡ false
+    tell false h = h
+    tell true h = absurd (apart (s.if_ended h).0)
 
 -- ---- behind a look
 
@@ -105,7 +105,7 @@ module _ (old mid : Decoding) (x : EncodingCodes) (l : Looks old mid x) where
   exactly_behind : (F G : EncodingCodes → List ℕ → Parsed ℕ) → ((s : List ℕ) → F x s ≡ G x s) → (a : Listing) → OpensExactly G mid a → OpensExactly F old a
   exactly_behind F G same a o = record { exact = λ s at. let k = o.exact s (known s at) in (k.0, k.1, parses_behind F G same s at ∙ k.2) }
 
-  opens_behind : {Has : Item → Items → Type 0} (a : Listing) → IsTrue old.answers → Opens Has mid a → Opens Has old a
+  opens_behind : {Has : Item → Items → Type 0} (a : Listing) → old.ended ≡ false → Opens Has mid a → Opens Has old a
   opens_behind a answered o =
       let same = same_place old mid x l in
       record {
@@ -114,16 +114,15 @@ module _ (old mid : Decoding) (x : EncodingCodes) (l : Looks old mid x) where
         whole = λ b is p n w. let q = o.whole b is p n w in (q.0, rw same at (q.1), q.2, rw (← same, ← l.begun) q.3);
         only = λ t rest i is h w at. o.only t rest i is h (rw same w) (known (t ++ rest) at);
         own = rw same at o.own;
-        answered = answered;
+        before = answered;
         outer = o.outer ∙ l.inherited;
         described = o.described;
-        closed = o.closed;
-        answers = o.answers;
+        not_ended = o.not_ended;
         starts = o.starts;
         spent = let s = o.spent in let u = rw same at s in omega (arith, u, l.begun, l.looked.stays.taken);
       }
 
-  module _ (answered : IsTrue old.answers) where
+  module _ (answered : old.ended ≡ false) where
     pub row_form : (len : ℕ) (a : Listing) → ((row x).kind ≡ Kind.map → ⊥) → Opens HasParts mid a → OpensExactly (tuple_data len) mid a → a.left ≡ len → RowOpened len old a
     row_form len a n o e left =
         let b = opens_behind a answered o in
@@ -145,17 +144,17 @@ module _ (old mid : Decoding) (x : EncodingCodes) (l : Looks old mid x) where
 
     pub no_row : (len : ℕ) (buffers : Bool) (last : Decoding) (e : Error) → ((row x).kind ≡ Kind.map → ⊥) → NoTuple len buffers mid last e → NoStruct len buffers old last e
     no_row len buffers last e n t = record {
-      unanswered = λ u. absurd cc (u, answered);
-      rejects = λ _. rejects_behind (struct_data len) (tuple_data len) (λ s. struct_row_data len x s n) last.reading e (t.rejects l.answers);
-      closed = t.closed;
+      if_ended = λ u. absurd cc (u, answered);
+      rejects = λ _. rejects_behind (struct_data len) (tuple_data len) (λ s. struct_row_data len x s n) last.reading e (t.rejects l.not_ended);
+      ended = t.ended;
       missed = λ names fields h. missed_of_kind _ (takes_struct names fields) buffers buffers buffers old mid last x e (λ b. b) (λ i q k. struct_is_row names fields (row x).kind i n q k) l (t.missed fields h);
     }
 
     pub no_map : (len : ℕ) (buffers : Bool) (last : Decoding) (e : Error) → (row x).kind ≡ Kind.map → NoMap buffers mid last e → NoStruct len buffers old last e
     no_map len buffers last e k t = record {
-      unanswered = λ u. absurd cc (u, answered);
-      rejects = λ _. rejects_behind (struct_data len) map_data (λ s. struct_map_data len x s k) last.reading e (t.not_opened.rejects l.answers);
-      closed = t.not_opened.closed;
+      if_ended = λ u. absurd cc (u, answered);
+      rejects = λ _. rejects_behind (struct_data len) map_data (λ s. struct_map_data len x s k) last.reading e (t.not_opened.rejects l.not_ended);
+      ended = t.not_opened.ended;
       missed = λ names fields h. missed_of_kind (takes_map names fields) (takes_struct names fields) buffers buffers buffers old mid last x e (λ b. b) (λ i q s. struct_is_map names fields (row x).kind i k q s) l (map_unopened names fields t.not_opened);
     }
 
@@ -165,9 +164,9 @@ refused_code e = Err e
 -- no code stands there
 pub no_form : (len : ℕ) (buffers : Bool) (old last : Decoding) (e : Error) → LooksNot buffers old last e → Stops old (refused_code e) last → NoStruct len buffers old last e
 no_form len buffers old last e n s = record {
-  unanswered = λ u. let p = s.unanswered u in (err_is p.0, p.1);
+  if_ended = λ u. let p = s.if_ended u in (err_is p.0, p.1);
   rejects = λ a. let r = n.rejects a in record { why = λ t at h. tell t (r.why t at h); steady = r.steady; device = r.device; memory = r.memory };
-  closed = s.err;
+  ended = s.err;
   missed = λ names fields h. missed_unseen (takes_struct names fields) buffers buffers old last e (λ b. b) n;
 }
   where

@@ -7,7 +7,7 @@ use Rattle.amqp_base.specs.declared.format_code.EncodingCodes.{EncodingCodes}
 use Rattle.amqp_base.specs.Item.{Item, Items, none, more, count}
 use Rattle.amqp_base.specs.Wire.{Constructor}
 use Rattle.amqp_base.specs.Fields.{all_fields}
-use Rattle.amqp_de.specs.Decoding.{Decoding, stands_under}
+use Rattle.amqp_de.specs.Decoding.{Decoding, stands_under, as_ended}
 use Rattle.amqp_de.specs.Law.{Excused}
 use Rattle.amqp_base.specs.Parse.{Parsed, ◌>>=◌, byte_under, any_code, with_rest, behind_byte, item_at, list_data, of_length, tuple_data}
 use Rattle.amqp_de.specs.Access.{Listing, HasParts, Opens, OpensExactly, OpensNot}
@@ -51,9 +51,9 @@ tuple_exactly len old l o h = record {
 -- no list was opened
 pub tuple_unopened : (len : ℕ) (buffers : Bool) (old last : Decoding) (e : Error) → OpensNot HasParts list_data buffers buffers old last e → NoTuple len buffers old last e
 tuple_unopened len buffers old last e o = record {
-  unanswered = o.unanswered;
+  if_ended = o.if_ended;
   rejects = λ a. let r = o.rejects a in record { why = λ s at h. tell s (r.why s at h); steady = r.steady; device = r.device; memory = r.memory };
-  closed = o.closed;
+  ended = o.ended;
   missed = λ fields n. fields_unopened fields buffers buffers old last e o;
 }
   where
@@ -62,9 +62,9 @@ tuple_unopened len buffers old last e o = record {
     tell s (inr y) = inr y
 
 -- it has another number of parts
-pub other_tuple : (len : ℕ) (buffers : Bool) (old : Decoding) (l : Listing) → Opens HasParts old l → OpensExactly list_data old l → (l.left ≡ len → ⊥) → NoTuple len buffers old l.state SequenceLengthMismatch
+pub other_tuple : (len : ℕ) (buffers : Bool) (old : Decoding) (l : Listing) → Opens HasParts old l → OpensExactly list_data old l → (l.left ≡ len → ⊥) → NoTuple len buffers old (as_ended l.state) SequenceLengthMismatch
 other_tuple len buffers old l o x h = record {
-  unanswered = λ c. absurd cc (c, o.answered);
+  if_ended = λ c. absurd cc (c, o.before);
   rejects = λ _. record {
     why = λ s at f.
         let p = x.exact s at in
@@ -73,8 +73,8 @@ other_tuple len buffers old l o x h = record {
     device = λ d. absurd d;
     memory = λ m. absurd cc;
   };
-  closed = o.closed;
-  missed = λ fields n. not_taken old fields fields none l (progress_start old l o fields) buffers buffers l.state refl refl (λ js c t. h (sym c ∙ (count_fields fields js t ∙ n)));
+  ended = refl;
+  missed = λ fields n. not_taken old fields fields none l (progress_start old l o fields) buffers buffers (as_ended l.state) refl refl (λ js c t. h (sym c ∙ (count_fields fields js t ∙ n)));
 }
 
 pub tuple_refused : {A : Type 0} (len : ℕ) (buffers : Bool) (old last : Decoding) (r : Result A Error) → IfErr r (λ e. NoTuple len buffers old last e) → RefusesTuple len buffers old r last

@@ -54,7 +54,7 @@ spent_behind old mid new x n l s = record { most = omega (arith, s.most, l.begun
 pub found_behind : (takes : Item → Bool) (means : Item → Type 0) (old mid new : Decoding) (x : EncodingCodes) → Looks old mid x → Found takes means mid new → Found takes means old new
 found_behind takes means old mid new x l f = record {
   front = λ a.
-      let o = f.front l.answers in
+      let o = f.front l.not_ended in
       let same = same_place old mid x l in
       let w : Wire lenient (stands_under old) o.text o.item = rw same at (o.spelled) in
       record {
@@ -64,12 +64,12 @@ found_behind takes means old mid new x l f = record {
         taken = o.taken;
         value = o.value;
         step = takes_behind (looked_at (stands_under old)) old.reading mid.reading new.reading o.text l.looked (own_byte (stands_under old) o.text o.item w) o.step;
-        answers = o.answers;
+        not_ended = o.not_ended;
         inherited = o.inherited ∙ l.inherited;
         described = o.described;
         begun = rw (← same, ← l.begun) o.begun;
       };
-  spent = λ a. let same = same_place old mid x l in let s = f.spent l.answers in spent_behind old mid new x _ l (rw same at s);
+  spent = λ a. let same = same_place old mid x l in let s = f.spent l.not_ended in spent_behind old mid new x _ l (rw same at s);
   steady = advances_then old.reading mid.reading new.reading (stayed l.looked.stays) f.steady;
 }
 
@@ -80,8 +80,8 @@ missed_of_kind takes some more grows buffers old mid new x e g h l m = record {
       let same = same_place old mid x l in
       let v : Wire lenient (stands_under mid) t i = rw same w in
       let known = keeps_known old.reading.to_come mid.reading.to_come (t ++ rest) l.looked.stays.to_come at in
-      excused_kept old.reading mid.reading new.reading e l.looked.stays (excused_more mid.reading new.reading e g (m.why l.answers i t rest v (h i (l.kind i t w (may_known mid.reading t rest known)) q) known (l.looked.stays.steady.honest ∙ f)));
-  spent = λ a. let same = same_place old mid x l in let s = m.spent l.answers in spent_behind old mid new x _ l (rw same at s);
+      excused_kept old.reading mid.reading new.reading e l.looked.stays (excused_more mid.reading new.reading e g (m.why l.not_ended i t rest v (h i (l.kind i t w (may_known mid.reading t rest known)) q) known (l.looked.stays.steady.honest ∙ f)));
+  spent = λ a. let same = same_place old mid x l in let s = m.spent l.not_ended in spent_behind old mid new x _ l (rw same at s);
   steady = advances_then old.reading mid.reading new.reading (stayed l.looked.stays) m.steady;
   device = λ d. let f = l.looked.stays.steady.faults in let n = m.device d in omega (arith, f, n);
   memory = λ n. g (m.memory n);

@@ -1,5 +1,5 @@
 -- A look at the next item.
-use Rattle.std.proofs.Common.{◌≡◌, ℕ, zero, suc, ◌≤◌, Bool, List, [], ◌∷◌, ◌++◌, length, Option, Some, None, Result, Ok, Err, refl, sym, ap, ◌∙◌, arith, inl, inr, ◌⊎◌, IsTrue}
+use Rattle.std.proofs.Common.{◌≡◌, ℕ, zero, suc, ◌≤◌, Bool, List, [], ◌∷◌, ◌++◌, length, Option, Some, None, Result, Ok, Err, refl, sym, ap, ◌∙◌, arith, inl, inr, ◌⊎◌, false}
 use Rattle.std.specs.Prelude.{IfOk, IfErr}
 use Rattle.std.proofs.lemmas.List.{take_all}
 use Rattle.amqp_base.specs.declared.error.Error.{Error}
@@ -119,7 +119,7 @@ stays_same r = record { stays = record { to_come = keeps r.to_come; taken = refl
 
 -- the state behind a look
 abbrev pub looked_with : Decoding → Reading → Decoding
-looked_with old r = record { reading = r; answers = old.answers; inherited = old.inherited; described = old.described; begun = old.begun }
+looked_with old r = record { reading = r; ended = old.ended; inherited = old.inherited; described = old.described; begun = old.begun }
 
 -- a byte that was looked at is the item's own
 pub own_byte : (c : Constructor) (t : List ℕ) (i : Item) → Wire lenient c t i → looked_at c ≤ length t
@@ -138,10 +138,10 @@ shown_exact e old new p s at =
     let f = shown_known new s (row e).byte p.shown (keeps_known old.to_come new.to_come s p.looked.stays.to_come at) in
     (f.0, code_here (row e).byte e s f.0 f.1 (any_again e))
 
-pub looks_ahead : (old : Decoding) (r : Reading) (e : EncodingCodes) → IsTrue old.answers → stands_under old ≡ bare → Peeks e old.reading r → Looks old (looked_with old r) e
+pub looks_ahead : (old : Decoding) (r : Reading) (e : EncodingCodes) → old.ended ≡ false → stands_under old ≡ bare → Peeks e old.reading r → Looks old (looked_with old r) e
 looks_ahead old r e a c p = record {
   looked = rw c p.looked;
-  answers = a;
+  not_ended = a;
   inherited = refl;
   described = refl;
   begun = refl;
@@ -154,10 +154,10 @@ looks_ahead old r e a c p = record {
 inherited_code : (f : EncodingCodes) (s : List ℕ) → code_at (under f) s ≡ Ok (f, s)
 inherited_code f s = rw (any_again f) refl
 
-pub looks_under : (old : Decoding) (f : EncodingCodes) → IsTrue old.answers → stands_under old ≡ under f → Looks old old f
+pub looks_under : (old : Decoding) (f : EncodingCodes) → old.ended ≡ false → stands_under old ≡ under f → Looks old old f
 looks_under old f a c = record {
   looked = rw c (stays_same old.reading);
-  answers = a;
+  not_ended = a;
   inherited = refl;
   described = refl;
   begun = refl;
@@ -169,10 +169,10 @@ looks_under old f a c = record {
 pair_code : (d : Descriptor) (f : EncodingCodes) (s : List ℕ) → code_at (under_pair d f) s ≡ Ok (DescribedType, s)
 pair_code d f s = rw zero_any refl
 
-pub looks_pair : (old : Decoding) (d : Descriptor) (f : EncodingCodes) → IsTrue old.answers → stands_under old ≡ under_pair d f → Looks old old DescribedType
+pub looks_pair : (old : Decoding) (d : Descriptor) (f : EncodingCodes) → old.ended ≡ false → stands_under old ≡ under_pair d f → Looks old old DescribedType
 looks_pair old d f a c = record {
   looked = rw c (stays_same old.reading);
-  answers = a;
+  not_ended = a;
   inherited = refl;
   described = refl;
   begun = refl;

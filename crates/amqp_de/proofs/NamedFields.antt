@@ -33,7 +33,7 @@ part_as h p = record {
     taken = h p.front.item p.front.taken;
     value = tt;
     step = p.front.step;
-    answers = p.front.answers;
+    not_ended = p.front.not_ended;
     inherited = p.front.inherited;
     described = p.front.described;
     begun = p.front.begun;
@@ -41,8 +41,6 @@ part_as h p = record {
   within = p.within;
   spent = p.spent;
   left = p.left;
-  answers = p.answers;
-  closed = p.closed;
   outer = p.outer;
   limit = p.limit;
 }
@@ -129,14 +127,14 @@ module _ (names : List (List ℕ)) (takes : List (Item → Bool)) (refuses : Lis
   name_here awaited (suc (suc n)) s e l m p = inl p
 
   module _ (buffers : Bool) (old last : Decoding) (e : Error) {from : Listing} (x : OpensExactly map_data old from) where
-    pub key_named : {text : List ℕ} {grows : Bool} (awaited first : List Bool) (now next : Listing) → Takes old.reading now.state.reading text → Reaches (fields_refusal names takes refuses first) (fields_refusal names takes refuses awaited) from now → IsTrue now.answers → KeyNext now → 0 < now.left
+    pub key_named : {text : List ℕ} {grows : Bool} (awaited first : List Bool) (now next : Listing) → Takes old.reading now.state.reading text → Reaches (fields_refusal names takes refuses first) (fields_refusal names takes refuses awaited) from now → now.state.ended ≡ false → KeyNext now → 0 < now.left
         → last.reading ≡ next.state.reading → TurnNamed KeyNext (scalar_refusal Kind.string) grows buffers now next e → Named (opened_refusal map_data (fields_refusal names takes refuses first)) true buffers old last e
     key_named awaited first now next step r a turn some same n =
         refused_behind map_data (fields_refusal names takes refuses first) true buffers old last e from now (λ _. refl) x step r
         (part_told now next last e (λ rest. fields_refusal names takes refuses awaited now.left rest e) r.plain a same (λ rest p. name_here awaited now.left rest e some turn p) (n.part turn))
 
     -- a value was refused, or its name
-    pub value_named : {V : Type 0} {text : List ℕ} (name : List ℕ) (first : List Bool) (fields : Slots V) (now next : Listing) → fields.all_names ≡ names → Takes old.reading now.state.reading text → Reaches (fields_refusal names takes refuses first) (behind_name name fields.awaited) from now → IsTrue now.answers → ValueNext now
+    pub value_named : {V : Type 0} {text : List ℕ} (name : List ℕ) (first : List Bool) (fields : Slots V) (now next : Listing) → fields.all_names ≡ names → Takes old.reading now.state.reading text → Reaches (fields_refusal names takes refuses first) (behind_name name fields.awaited) from now → now.state.ended ≡ false → ValueNext now
         → last.reading ≡ next.state.reading → FieldNamed name fields refuses buffers now next e → Named (opened_refusal map_data (fields_refusal names takes refuses first)) true buffers old last e
     value_named name first fields now next k step r a turn same n =
         refused_behind map_data (fields_refusal names takes refuses first) true buffers old last e from now (λ m. m) x step r (λ rest at h. tell rest (n.why turn r.plain a rest at h))

@@ -50,7 +50,7 @@ module _ (key : Item → Bool) (keys : Refusing) (value : Item → Bool) (values
         → 0 < now.left → last.reading ≡ next.state.reading → PartNamed firsts grows buffers now next e → Named (map_refusal key keys value values) true buffers old last e
     part_of_map first firsts second seconds now next p reads r some same n =
         refused_behind map_data (turn_refusal key keys value values) true buffers old last e from now (λ _. refl) x (taken_since p reads) r
-        (part_told now next last e (λ rest. turn_refusal first firsts second seconds now.left rest e) r.plain reads.answers same (λ rest q. turned first firsts second seconds now.left rest e some q) n)
+        (part_told now next last e (λ rest. turn_refusal first firsts second seconds now.left rest e) r.plain reads.not_ended same (λ rest q. turned first firsts second seconds now.left rest e some q) n)
 
     -- a pair was refused
     pub pair_named : {K : Type 0} {km : Item → K → Type 0} {kg vg : Bool} {pairs : Pairs} (now next : Listing) → PairsRead old key value pairs now → Reaches (turn_refusal key keys value values) (turn_refusal key keys value values) from now
@@ -63,5 +63,5 @@ module _ (key : Item → Bool) (keys : Refusing) (value : Item → Bool) (values
 
 -- what is refused isn't the end
 pub some_left : {K : Type 0} {key value : Item → Bool} {km : Item → K → Type 0} {kg vg buffers : Bool} {old : Decoding} {pairs : Pairs} {now next : Listing} {e : Error} → PairsRead old key value pairs now → NoEntry key value km kg vg buffers now next e → 0 < now.left
-some_left s (no_key n) = (n.refused s.turn).some_left s.reads.answers
+some_left s (no_key n) = (n.refused s.turn).some_left s.reads.not_ended
 some_left s (no_value k mid p n) = let l = p.0.left in omega (arith, l)

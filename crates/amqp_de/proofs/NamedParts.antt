@@ -1,5 +1,5 @@
 -- Refusals by name, of what is read part by part.
-use Rattle.std.proofs.Common.{◌≡◌, ℕ, zero, suc, ◌<◌, Bool, true, IsTrue, List, ◌++◌, Option, Some, None, Ok, Err, refl, subst, ◌∙◌, arith, inl, inr, ◌⊎◌}
+use Rattle.std.proofs.Common.{◌≡◌, ℕ, zero, suc, ◌<◌, Bool, true, IsTrue, List, ◌++◌, Option, Some, None, Ok, Err, refl, subst, ◌∙◌, arith, inl, inr, ◌⊎◌, false}
 use Rattle.amqp_base.specs.declared.error.Error.{Error}
 use Rattle.amqp_base.specs.declared.error.Error.TheVariants.{OutOfMemory}
 use Rattle.amqp_base.specs.declared.format_code.EncodingCodes.{EncodingCodes}
@@ -42,7 +42,7 @@ reaches_on whole left after from now next r p more = record {
 }
 
 -- what a part is refused as
-pub part_told : {refuses : Refusing} {grows buffers : Bool} (now next : Listing) (last : Decoding) (e : Error) (P : List ℕ → Type 0) → Plain now → IsTrue now.answers → last.reading ≡ next.state.reading → ((rest : List ℕ) → refuses bare rest e → P rest)
+pub part_told : {refuses : Refusing} {grows buffers : Bool} (now next : Listing) (last : Decoding) (e : Error) (P : List ℕ → Type 0) → Plain now → now.state.ended ≡ false → last.reading ≡ next.state.reading → ((rest : List ℕ) → refuses bare rest e → P rest)
     → PartNamed refuses grows buffers now next e → (rest : List ℕ) → now.state.reading.to_come ≡ Some rest → IsTrue now.state.reading.honest → P rest ⊎ Excused grows buffers now.state.reading last.reading e
 part_told {refuses} {grows} {buffers} now next last e P l a same here n rest at h = tell (n.why a rest at h)
   where
@@ -114,4 +114,4 @@ module _ (takes : Item → Bool) (refuses : Refusing) where
       → Reaches (part_refusal takes refuses) (part_refusal takes refuses) from now → 0 < now.left → PartNamed refuses grows buffers now next e → last.reading ≡ next.state.reading → Named (list_refusal takes refuses) true buffers old last e
   list_part buffers old last e from now next o x so_far r some n same =
       refused_behind list_data (part_refusal takes refuses) true buffers old last e from now (λ _. refl) x (taken_since o so_far) r
-      (part_told now next last e (λ rest. part_refusal takes refuses now.left rest e) r.plain so_far.answers same (λ rest p. here now.left rest e some p) n)
+      (part_told now next last e (λ rest. part_refusal takes refuses now.left rest e) r.plain so_far.not_ended same (λ rest p. here now.left rest e some p) n)

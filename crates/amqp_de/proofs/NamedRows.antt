@@ -40,7 +40,7 @@ module _ {t : Item → Bool} {r : Refusing} {bs : List Bool} {ts : List (Item �
         let y = behind old.state.reading mid.state.reading s p.front.text p.front.step at in
         let w : Wire lenient bare p.front.text p.front.item = subst (λ (c : Constructor). Wire lenient c p.front.text p.front.item) (stands_bare old.state l.inherited) p.front.spelled in
         let few : awaited_count bs ≤ mid.left = omega (arith, k, p.left) in
-        tell s y.0 y.2 w (n.why (plain_on old mid l p) p.answers few y.0 y.1 (p.front.step.steady.honest ∙ h));
+        tell s y.0 y.2 w (n.why (plain_on old mid l p) p.front.not_ended few y.0 y.1 (p.front.step.steady.honest ∙ h));
   }
     where
       tell : (s rest : List ℕ) → s ≡ p.front.text ++ rest → Wire lenient bare p.front.text p.front.item → row_part_refusal bs ts rs rest e ⊎ Excused a buffers mid.state.reading last.reading e
@@ -83,4 +83,4 @@ module _ (awaited : List Bool) (takes : List (Item → Bool)) (refuses : List {1
   row_named e l o x plain k n =
       let few : awaited_count awaited ≤ l.left = omega (arith, k) in
       refused_behind (tuple_data (awaited_count awaited)) (λ _. row_part_refusal awaited takes refuses) grows buffers old last e l l (λ m. m) (tuple_exactly (awaited_count awaited) old l x k) o.step (reaches_start (λ _. row_part_refusal awaited takes refuses) l plain)
-      (λ rest at h. n.why plain o.answers few rest at h)
+      (λ rest at h. n.why plain o.not_ended few rest at h)

@@ -12,7 +12,7 @@ use Rattle.amqp_base.specs.Item.{null}
 use Rattle.amqp_base.specs.Wire.{Constructor}
 use Rattle.amqp_base.specs.Parse.{Parsed, ◌>>=◌, byte_under, any_code, with_rest, behind_byte, item_at, code_at, data_at}
 use Rattle.amqp_base.specs.Refusing.{Refusing, any_refusal, scalar_refusal, option_refusal}
-use Rattle.amqp_de.specs.Decoding.{Decoding, stands_under, ready}
+use Rattle.amqp_de.specs.Decoding.{Decoding, stands_under, as_ended}
 use Rattle.amqp_de.specs.Law.{Excused, Named}
 use Rattle.amqp_de.specs.Look.{Looks, LooksNot}
 use Rattle.amqp_de.specs.Access.{Listing, PartNamed, Passes, Within}
@@ -37,7 +37,7 @@ named_more {refuses = refuses} {a = a} {b = b} {buffers = buffers} {old = old} {
 
 pub named_behind : (refuses : Refusing) (grows buffers : Bool) (old mid new : Decoding) (x : EncodingCodes) (e : Error) → Looks old mid x → Named refuses grows buffers mid new e → Named refuses grows buffers old new e
 named_behind refuses grows buffers old mid new x e l n = record {
-  why = λ a s at h. tell s (n.why l.answers s (keeps_known old.reading.to_come mid.reading.to_come s l.looked.stays.to_come at) (l.looked.stays.steady.honest ∙ h));
+  why = λ a s at h. tell s (n.why l.not_ended s (keeps_known old.reading.to_come mid.reading.to_come s l.looked.stays.to_come at) (l.looked.stays.steady.honest ∙ h));
 }
   where
     tell : (s : List ℕ) → refuses (stands_under mid) s e ⊎ Excused grows buffers mid.reading new.reading e → refuses (stands_under old) s e ⊎ Excused grows buffers old.reading new.reading e
@@ -78,7 +78,7 @@ unfolding option_refusal scalar_refusal
 option_null refuses grows buffers old mid new x e z l n = record {
   why = λ a s at h.
       let k = l.exact s at in
-      tell s k.0 k.1 (n.why l.answers s (keeps_known old.reading.to_come mid.reading.to_come s l.looked.stays.to_come at) (l.looked.stays.steady.honest ∙ h));
+      tell s k.0 k.1 (n.why l.not_ended s (keeps_known old.reading.to_come mid.reading.to_come s l.looked.stays.to_come at) (l.looked.stays.steady.honest ∙ h));
 }
   where
     tell : (s rest : List ℕ) → code_at (stands_under old) s ≡ Ok (x, rest) → (item_at (data_at Kind.null) (stands_under mid) s ≡ Err e) ⊎ Excused buffers buffers mid.reading new.reading e
@@ -104,6 +104,10 @@ pub named_on : {A : Type 0} {refuses : Refusing} {grows buffers : Bool} {old : D
 named_on (Ok v) last x h l n = absurd h
 named_on (Err y) last x h l n = rw (h, l) n
 
+-- where an access is dropped, its deserializer is ended
+pub named_dropped : {refuses : Refusing} {grows buffers : Bool} {old x : Decoding} {e : Error} → Named refuses grows buffers old x e → Named refuses grows buffers old (as_ended x) e
+named_dropped n = record { why = n.why }
+
 -- ---- a part of an access
 
 -- a part goes past the end of its array
@@ -114,8 +118,8 @@ passes (Some m) t h = refl
 pub part_passes : (refuses : Refusing) (grows buffers : Bool) (old new : Listing) (t : ℕ) → (Within old.limit t → ⊥) → PartNamed refuses grows buffers old new InvalidValue
 part_passes refuses grows buffers old new t h = record { why = λ a s at f. inl (inr (passes old.limit t h)) }
 
-pub part_named : (refuses : Refusing) (grows buffers : Bool) (old new : Listing) (last : Decoding) (e : Error) → Named refuses grows buffers (ready old.state) last e → new.state.reading ≡ last.reading → PartNamed refuses grows buffers old new e
-part_named refuses grows buffers old new last e n same = record { why = λ a s at h. tell s (n.why refl s at h) }
+pub part_named : (refuses : Refusing) (grows buffers : Bool) (old new : Listing) (last : Decoding) (e : Error) → Named refuses grows buffers old.state last e → new.state.reading ≡ last.reading → PartNamed refuses grows buffers old new e
+part_named refuses grows buffers old new last e n same = record { why = λ a s at h. tell s (n.why a s at h) }
   where
     tell : (s : List ℕ) → refuses (stands_under old.state) s e ⊎ Excused grows buffers old.state.reading last.reading e → (refuses (stands_under old.state) s e ⊎ Passes old.limit e) ⊎ Excused grows buffers old.state.reading new.state.reading e
     tell s (inl p) = inl (inl p)

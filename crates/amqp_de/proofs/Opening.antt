@@ -1,5 +1,5 @@
 -- Opening an item with parts.
-use Rattle.std.proofs.Common.{◌≡◌, ℕ, ◌+◌, ◌*◌, ◌<◌, ◌≤◌, min, Bool, true, List, ◌++◌, length, Option, Some, Ok, Err, refl, sym, subst, ◌∙◌, arith, inl, inr, ◌⊎◌, append_assoc, IsTrue}
+use Rattle.std.proofs.Common.{◌≡◌, ℕ, ◌+◌, ◌*◌, ◌<◌, ◌≤◌, min, Bool, List, ◌++◌, length, Option, Some, Ok, Err, refl, sym, subst, ◌∙◌, arith, inl, inr, ◌⊎◌, append_assoc, false}
 use Rattle.std.proofs.lemmas.List.{length-append}
 use Rattle.amqp_base.specs.declared.error.Error.{Error}
 use Rattle.amqp_base.specs.declared.format_code.EncodingCodes.{EncodingCodes}
@@ -44,14 +44,13 @@ nothing_left (under_pair x f) n h = omega (arith, h)
 -- the state of an access whose data follow
 abbrev pub listing_of : Decoding → Reading → Constructor → ℕ → ℕ → Option ℕ → Listing
 listing_of mid r c begun left limit = record {
-  state = record { reading = r; answers = mid.answers; inherited = c; described = mid.described; begun = begun };
+  state = record { reading = r; ended = false; inherited = c; described = mid.described; begun = begun };
   left = left;
-  answers = true;
   outer = mid.inherited;
   limit = limit;
 }
 
-pub opens : (Has : Item → Items → Type 0) → ((i : Item) (is : Items) → Has i is → IsDescribed i → ⊥) → (old mid : Decoding) (r : Reading) (x : ℕ) (c : Constructor) (begun left : ℕ) (limit : Option ℕ) → begun ≡ mid.begun + shared_by c → IsTrue old.answers → Begins old mid x → OpensData Has x mid.reading r c left limit → Opens Has old (listing_of mid r c begun left limit)
+pub opens : (Has : Item → Items → Type 0) → ((i : Item) (is : Items) → Has i is → IsDescribed i → ⊥) → (old mid : Decoding) (r : Reading) (x : ℕ) (c : Constructor) (begun left : ℕ) (limit : Option ℕ) → begun ≡ mid.begun + shared_by c → old.ended ≡ false → Begins old mid x → OpensData Has x mid.reading r c left limit → Opens Has old (listing_of mid r c begun left limit)
 opens Has plain old mid r x c begun left limit n-is a b d = record {
   text = b.text ++ d.text;
   step = takes_then old.reading mid.reading r b.text d.text b.step d.step;
@@ -63,11 +62,10 @@ opens Has plain old mid r x c begun left limit n-is a b d = record {
       let same : o.0 ≡ d.code = some_is (sym o.2 ∙ d.code_is) in
       d.only o.1 rest i is p (subst (λ (z : EncodingCodes). Wire lenient (under z) o.1 i) same o.3) o.4;
   own = rw (length-append b.text d.text) (own_room (stands_under old) (length b.text) (length d.text) b.room);
-  answered = a;
+  before = a;
   outer = b.inherited;
   described = b.described;
-  closed = b.closed;
-  answers = refl;
+  not_ended = refl;
   starts = d.starts;
   spent = spent d.paid;
 }
@@ -101,9 +99,9 @@ refused_byte {buffers = buffers} parse old new e n = record { why = λ s at h. t
     tell s (inl p) = inl (no_byte parse (stands_under old) s e p)
     tell s (inr y) = inr y
 
-pub opens_no_item : (Has : Item → Items → Type 0) → ((i : Item) (is : Items) → Has i is → IsDescribed i → ⊥) → (parse : EncodingCodes → List ℕ → Parsed ℕ) (buffers : Bool) (old new : Decoding) (e : Error) → IsTrue old.answers → BeginsNot buffers old new e → OpensNot Has parse buffers buffers old new e
+pub opens_no_item : (Has : Item → Items → Type 0) → ((i : Item) (is : Items) → Has i is → IsDescribed i → ⊥) → (parse : EncodingCodes → List ℕ → Parsed ℕ) (buffers : Bool) (old new : Decoding) (e : Error) → old.ended ≡ false → BeginsNot buffers old new e → OpensNot Has parse buffers buffers old new e
 opens_no_item Has plain parse buffers old new e a n = record {
-  unanswered = λ c. absurd cc (a, c);
+  if_ended = λ c. absurd cc (a, c);
   rejects = λ _. refused_byte parse old new e n;
   why = λ t rest i is p w at h _.
       let s = byte_stands (stands_under old) t rest i (plain i is p) w in
@@ -111,19 +109,19 @@ opens_no_item Has plain parse buffers old new e a n = record {
   steady = n.rejects.steady;
   device = n.rejects.device;
   memory = n.rejects.memory;
-  closed = n.closed;
+  ended = n.ended;
   few = λ _. n.few;
 }
 
 -- the state where the data were refused
 abbrev pub refused_data : Decoding → Reading → Decoding
-refused_data mid r = record { reading = r; answers = mid.answers; inherited = mid.inherited; described = mid.described; begun = mid.begun }
+refused_data mid r = record { reading = r; ended = mid.ended; inherited = mid.inherited; described = mid.described; begun = mid.begun }
 
 pub opens_no_data : (Has : Item → Items → Type 0) → ((i : Item) (is : Items) → Has i is → IsDescribed i → ⊥) → (parse : EncodingCodes → List ℕ → Parsed ℕ)
     → ((e : EncodingCodes) (t rest : List ℕ) (i : Item) (is : Items) → Has i is → Wire lenient (under e) t i → (x : ℕ × List ℕ) × (parse e (t ++ rest) ≡ Ok x))
-    → (buffers : Bool) (old mid : Decoding) (r : Reading) (x : ℕ) (e : Error) → IsTrue old.answers → Begins old mid x → Rejects buffers buffers (behind_byte parse x) mid.reading r e → OpensNot Has parse buffers buffers old (refused_data mid r) e
+    → (buffers : Bool) (old mid : Decoding) (r : Reading) (x : ℕ) (e : Error) → old.ended ≡ false → Begins old mid x → Rejects buffers buffers (behind_byte parse x) mid.reading r e → OpensNot Has parse buffers buffers old (refused_data mid r) e
 opens_no_data Has plain parse parses buffers old mid r x e a b n = record {
-  unanswered = λ c. absurd cc (a, c);
+  if_ended = λ c. absurd cc (a, c);
   rejects = λ _. record {
     why = λ s at h. let o = b.exact s at in tell s o.0 o.2 (n.why o.0 o.1 (b.step.steady.honest ∙ h));
     steady = advances_then old.reading mid.reading r (onward b.step) n.steady;
@@ -137,7 +135,7 @@ opens_no_data Has plain parse parses buffers old mid r x e a b n = record {
   steady = advances_then old.reading mid.reading r (onward b.step) n.steady;
   device = device;
   memory = n.memory;
-  closed = b.closed;
+  ended = b.ended;
   few = λ _. b.begun;
 }
   where

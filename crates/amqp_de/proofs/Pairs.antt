@@ -5,12 +5,12 @@ use Rattle.amqp_base.specs.declared.error.Error.{Error}
 use Rattle.amqp_base.specs.declared.error.Error.TheVariants.{InvalidValue, OutOfMemory}
 use Rattle.amqp_base.specs.Item.{Item, scalar, list, map, array, described, Items, more, Pairs, no_pairs, pair, in_turn}
 use Rattle.amqp_base.specs.Maps.{all_pairs_taken, is_map_of, all_pairs_mean, MeansPairs, means_map}
-use Rattle.amqp_de.specs.Decoding.{Decoding}
+use Rattle.amqp_de.specs.Decoding.{Decoding, as_ended}
 use Rattle.amqp_de.specs.Law.{Found, Missed}
 use Rattle.amqp_base.specs.Parse.{map_data}
-use Rattle.amqp_de.specs.Access.{Listing, HasPairs, Opens, OpensNot, Part, NoPart, AllRead, Ends, ended}
+use Rattle.amqp_de.specs.Access.{Listing, HasPairs, Opens, OpensNot, Part, NoPart, AllRead, Ends, behind_end}
 use Rattle.amqp_de.specs.ReadParts.{and_last, joined}
-use Rattle.amqp_de.specs.ReadPairs.{KeyNext, ValueNext, broken_off, OutOfTurn, NextPair, NoEntry, no_key, no_value, and_pair, PairsRead, KeyRead, MorePair, NoMap}
+use Rattle.amqp_de.specs.ReadPairs.{KeyNext, ValueNext, ended_access, OutOfTurn, NextPair, NoEntry, no_key, no_value, and_pair, PairsRead, KeyRead, MorePair, NoMap}
 use Rattle.amqp_de.proofs.Weaker.{found_as}
 use Rattle.amqp_de.proofs.Turns.{and_pairs, pair_turn, one_turn, key_and_value, own_value}
 use Rattle.amqp_de.proofs.PartsRead as read
@@ -86,11 +86,11 @@ module _ (key value : Item → Bool) where
   value_missed old pairs last now next s grows buffers e n = read.part_missed old s.from (and_last (in_turn pairs) last) now s.opened s.reads (is_map_of key value) Taken sorts value (λ j js t. value_behind pairs t.0 last j js t.1 t.2) grows buffers next next.state e (n.refused s.turn) refl
 
   -- no memory was there for a pair
-  pub insert_missed : (old : Decoding) (pairs : Pairs) (now : Listing) → PairsRead old key value pairs now → (buffers : Bool) (last : Decoding) → last ≡ now.state → Missed (is_map_of key value) true buffers old last OutOfMemory
+  pub insert_missed : (old : Decoding) (pairs : Pairs) (now : Listing) → PairsRead old key value pairs now → (buffers : Bool) (last : Decoding) → last ≡ as_ended now.state → Missed (is_map_of key value) true buffers old last OutOfMemory
   insert_missed old pairs now s buffers last l = read.no_room old s.from (in_turn pairs) now s.opened s.reads (is_map_of key value) buffers last l
 
   -- everything was read
-  pub pairs_found : (old : Decoding) (pairs : Pairs) (now : Listing) → PairsRead old key value pairs now → (last : Decoding) → now.left ≡ 0 → last ≡ ended now → Found (is_map_of key value) (λ i. i ≡ map pairs) old last
+  pub pairs_found : (old : Decoding) (pairs : Pairs) (now : Listing) → PairsRead old key value pairs now → (last : Decoding) → now.left ≡ 0 → last ≡ behind_end now → Found (is_map_of key value) (λ i. i ≡ map pairs) old last
   pairs_found old pairs now s last z l = read.parts_found old s.from (in_turn pairs) now s.opened s.reads (is_map_of key value) (λ i. i ≡ map pairs) (pairs_item pairs s.taken) last z l
 
 -- ---- the calls
@@ -107,18 +107,17 @@ no_map buffers old last (Ok v) o = o
 no_map buffers old last (Err e) o = record { not_opened = o; missed = λ key value. map_unopened key value o }
 
 -- out of turn
-pub turned_away : (Turn : Listing → Type 0) (takes : Item → Bool) (grows buffers : Bool) (old new : Listing) → (Turn old → ⊥) → new ≡ broken_off old → OutOfTurn Turn takes grows buffers old new InvalidValue
+pub turned_away : (Turn : Listing → Type 0) (takes : Item → Bool) (grows buffers : Bool) (old new : Listing) → (Turn old → ⊥) → new ≡ ended_access old → OutOfTurn Turn takes grows buffers old new InvalidValue
 turned_away Turn takes grows buffers old new not_now n = record {
-  unanswered = λ u. (refl, n ∙ ap (λ (b : Bool). record { state = old.state; left = old.left; answers = b; outer = old.outer; limit = old.limit }) (sym u));
+  if_ended = λ u. (refl, n ∙ ap (λ (b : Bool). record { state = record { reading = old.state.reading; ended = b; inherited = old.state.inherited; described = old.state.described; begun = old.state.begun }; left = old.left; outer = old.outer; limit = old.limit }) (sym u));
   other = λ _. (refl, n);
   refused = λ t. absurd (not_now t);
-  closed = ap (λ (l : Listing). l.answers) n;
-  silent = λ u. ap (λ (l : Listing). l.state.answers) n ∙ u;
+  ended = ap (λ (l : Listing). l.state.ended) n;
 }
 
 -- in turn, but refused
 pub part_refused : (Turn : Listing → Type 0) (takes : Item → Bool) (grows buffers : Bool) (old new : Listing) (e : Error) → Turn old → NoPart takes grows buffers old new e → OutOfTurn Turn takes grows buffers old new e
-part_refused Turn takes grows buffers old new e t n = record { unanswered = n.unanswered; other = λ no. absurd (no t); refused = λ _. n; closed = n.closed; silent = n.silent }
+part_refused Turn takes grows buffers old new e t n = record { if_ended = n.if_ended; other = λ no. absurd (no t); refused = λ _. n; ended = n.ended }
 
 -- ---- what callers say of an access
 

@@ -9,9 +9,9 @@ use Rattle.amqp_base.specs.Laws.{items_under}
 use Rattle.amqp_base.specs.Refusals.{IsDevice}
 use Rattle.amqp_base.proofs.Lists.{rest}
 use Rattle.amqp_base.proofs.OneFront.{same_wire}
-use Rattle.amqp_de.specs.Decoding.{Decoding, stands_under, behind_descriptor, ready}
+use Rattle.amqp_de.specs.Decoding.{Decoding, stands_under, behind_descriptor, as_ended}
 use Rattle.amqp_de.specs.Law.{Front, Found, Missed, Excused, Advances, no_memory, Spent, free, refused_free}
-use Rattle.amqp_de.specs.Access.{Listing, Within, items_of_all, cost, Opens, OpensNot, Part, NoPart, Ends, ended}
+use Rattle.amqp_de.specs.Access.{Listing, Within, items_of_all, cost, Opens, OpensNot, Part, NoPart, Ends, behind_end}
 use Rattle.amqp_de.specs.ReadParts.{PartsRead, and_last, joined}
 use Rattle.amqp_base.specs.Parse.{Parsed}
 use Rattle.amqp_base.specs.declared.format_code.EncodingCodes.{EncodingCodes}
@@ -66,19 +66,18 @@ refused_two (under e) = omega arith
 refused_two (under_pair d e) = omega arith
 
 -- an element behind the end of its array
-pub over_long : (takes : Item → Bool) (means : Item → Type 0) (grows buffers : Bool) (old new : Listing) (next : Decoding) → IsTrue old.answers → 0 < old.left → Found takes means (ready old.state) next → (Within old.limit next.reading.taken → ⊥)
-    → new.answers ≡ false → new.state.answers ≡ false → new.state.reading ≡ next.reading → new.state.begun ≡ next.begun → NoPart takes grows buffers old new InvalidValue
-over_long takes means grows buffers old new next a some f n c q r b = record {
-  unanswered = λ u. absurd cc (a, u);
-  closed = c;
-  silent = λ _. q;
+pub over_long : (takes : Item → Bool) (means : Item → Type 0) (grows buffers : Bool) (old new : Listing) (next : Decoding) → old.state.ended ≡ false → 0 < old.left → Found takes means old.state next → (Within old.limit next.reading.taken → ⊥)
+    → IsTrue new.state.ended → new.state.reading ≡ next.reading → new.state.begun ≡ next.begun → NoPart takes grows buffers old new InvalidValue
+over_long takes means grows buffers old new next a some f n c r b = record {
+  if_ended = λ u. absurd cc (a, u);
+  ended = c;
   steady = rw r f.steady;
   device = λ d. absurd d;
   memory = λ m. absurd cc;
-  spent = λ _. record { most = free_refused (stands_under old.state) _ _ (rw (r, b) (f.spent refl).most) };
+  spent = λ _. record { most = free_refused (stands_under old.state) _ _ (rw (r, b) (f.spent a).most) };
   some_left = λ _. some;
   why = λ i text rest' w t at fits h _.
-      let o = found_only takes means (ready old.state) next (f.front refl) i text rest' w at in
+      let o = found_only takes means old.state next (f.front a) i text rest' w at in
       absurd (n (rw o.2 fits));
 }
 
@@ -117,8 +116,7 @@ parts_begun old l o = record {
   described = o.described;
   outer = refl;
   limit = refl;
-  answers = o.answers;
-  closed = o.closed;
+  not_ended = o.not_ended;
   within = o.starts;
   spent = omega arith;
   tracks = λ is x rest' w n at. (is, x, w, refl, n, at, refl);
@@ -138,8 +136,7 @@ parts_more from parts now next s p = record {
   described = p.front.described;
   outer = p.outer ∙ s.outer;
   limit = p.limit ∙ s.limit;
-  answers = p.answers;
-  closed = p.closed;
+  not_ended = p.front.not_ended;
   within = subst (λ (l : Option ℕ). Within l next.state.reading.taken) s.limit p.within;
   spent =
       let c = cost_step from.state.inherited next.left in
@@ -201,7 +198,7 @@ module _ {Has : Item → Items → Type 0} (old : Decoding) (from : Listing) (pa
   all_spent last b r = record { most = rw (b, r) (omega (arith, s.spent, o.spent)) }
 
   -- everything was read
-  pub parts_found : (takes : Item → Bool) (means : Item → Type 0) → ((i : Item) → Has i parts → IsTrue (takes i) × means i) → (last : Decoding) → now.left ≡ 0 → last ≡ ended now → Found takes means old last
+  pub parts_found : (takes : Item → Bool) (means : Item → Type 0) → ((i : Item) → Has i parts → IsTrue (takes i) × means i) → (last : Decoding) → now.left ≡ 0 → last ≡ behind_end now → Found takes means old last
   parts_found takes means meant last z l = rw l record {
     front = λ a.
         let len : now.state.reading.taken ≡ from.state.reading.taken + length s.text = s.step.taken in
@@ -213,17 +210,17 @@ module _ {Has : Item → Items → Type 0} (old : Decoding) (from : Listing) (pa
           taken = (meant w.0 w.2).0;
           value = (meant w.0 w.2).1;
           step = takes_then old.reading from.state.reading now.state.reading o.text s.text o.step s.step;
-          answers = refl;
+          not_ended = refl;
           inherited = s.outer ∙ o.outer;
           described = s.described;
           begun = omega (arith, w.3, s.begun);
         };
-    spent = λ a. all_spent (ended now) refl refl;
+    spent = λ a. all_spent (behind_end now) refl refl;
     steady = all_steady;
   }
 
   -- no memory was there for a part
-  pub no_room : (takes : Item → Bool) (buffers : Bool) (last : Decoding) → last ≡ now.state → Missed takes true buffers old last OutOfMemory
+  pub no_room : (takes : Item → Bool) (buffers : Bool) (last : Decoding) → last ≡ as_ended now.state → Missed takes true buffers old last OutOfMemory
   no_room takes buffers last l = record {
     why = λ a i text rest' w t at h. no_memory refl refl;
     spent = λ _. record { most = free_refused (stands_under old) _ _ (all_spent last (ap (λ (d : Decoding). d.begun) l) (ap (λ (d : Decoding). d.reading) l)).most };
@@ -236,8 +233,8 @@ module _ {Has : Item → Items → Type 0} (old : Decoding) (from : Listing) (pa
   pub end_refused : (last : Decoding) (e : Error) → Ends now (Err e) last → (now.left ≡ 0 → ⊥) × (e ≡ SequenceLengthMismatch)
   end_refused last e n = tell n.why
     where
-      tell : ((now.answers ≡ false) × (e ≡ InvalidValue)) ⊎ (IsTrue now.answers × (now.left ≡ 0 → ⊥) × (e ≡ SequenceLengthMismatch)) → (now.left ≡ 0 → ⊥) × (e ≡ SequenceLengthMismatch)
-      tell (inl p) = absurd cc (p.0, s.answers)
+      tell : (IsTrue now.state.ended × (e ≡ InvalidValue)) ⊎ ((now.state.ended ≡ false) × (now.left ≡ 0 → ⊥) × (e ≡ SequenceLengthMismatch)) → (now.left ≡ 0 → ⊥) × (e ≡ SequenceLengthMismatch)
+      tell (inl p) = absurd cc (p.0, s.not_ended)
       tell (inr p) = (p.1, p.2)
 
   module _ (takes : Item → Bool) (Taken : Items → Type 0) (sorts : (i : Item) → IsTrue (takes i) → (is : Items) × Has i is × Taken is) where
@@ -249,7 +246,7 @@ module _ {Has : Item → Items → Type 0} (old : Decoding) (from : Listing) (pa
           let q = o.only text rest' i p.0 p.1 w at in
           let r = s.tracks p.0 q.0 rest' q.1 q.2 q.4 in
           go r.0 r.1 rest' r.2 (subst Taken r.3 p.2) r.4 r.5 (within_all from.limit _ _ r.6 q.3) (all_steady.honest ∙ h);
-      spent = λ _. record { most = free_refused (stands_under old) _ _ (rw l (let m = (n.spent s.answers).most in let k = n.some_left s.answers in omega (arith, m, k, refused_two (stands_under now.state), s.spent, o.spent))) };
+      spent = λ _. record { most = free_refused (stands_under old) _ _ (rw l (let m = (n.spent s.not_ended).most in let k = n.some_left s.not_ended in omega (arith, m, k, refused_two (stands_under now.state), s.spent, o.spent))) };
       steady = rw l (advances_then old.reading now.state.reading next.state.reading all_steady n.steady);
       device = λ d. rw l (let f = all_steady.faults in let g = n.device d in omega (arith, f, g));
       memory = n.memory;
@@ -259,11 +256,11 @@ module _ {Has : Item → Items → Type 0} (old : Decoding) (from : Listing) (pa
         tell y = rw l (excused_before old.reading now.state.reading next.state.reading (o.text ++ s.text) e (takes_then old.reading from.state.reading now.state.reading o.text s.text o.step s.step) y)
 
         go : (js : Items) (y rest' : List ℕ) → Parts lenient from.state.inherited y js → Taken (joined parts js) → count js ≡ now.left → now.state.reading.to_come ≡ Some (y ++ rest') → Within from.limit (now.state.reading.taken + length y) → IsTrue now.state.reading.honest → Excused grows buffers old.reading last.reading e
-        go none y rest' w t' c at f h = absurd (omega (arith, c, n.some_left s.answers))
+        go none y rest' w t' c at f h = absurd (omega (arith, c, n.some_left s.not_ended))
         go (more j js) _ rest' (part a b' k w) t' c at f h =
             let k' : Wire lenient (stands_under now.state) a j = rw here k in
             let f' : Within now.limit (now.state.reading.taken + length a) = rw s.limit (within_less from.limit _ _ (omega (arith, length-append a b')) f) in
-            tell (n.why j a (b' ++ rest') k' (heads j js t') (at ∙ ap Some (append_assoc a b' rest')) f' h s.answers)
+            tell (n.why j a (b' ++ rest') k' (heads j js t') (at ∙ ap Some (append_assoc a b' rest')) f' h s.not_ended)
 
     -- what is refused, as it isn't taken
     pub not_taken : (grows buffers : Bool) (last : Decoding) (e : Error) → (IsDevice e → ⊥) → (e ≡ OutOfMemory → IsTrue grows) → last.reading ≡ now.state.reading → last.begun ≡ now.state.begun

@@ -1,13 +1,13 @@
 -- Reading an item part by part, each part by a type of its own.
-use Rattle.std.proofs.Common.{◌≡◌, Bool, true, false, ◌||◌, List, [], ◌∷◌, Result, Ok, Err, IfErr, IsErrAnd, OnErr, refl, sym, ap, ◌∙◌, arith, IsTrue}
+use Rattle.std.proofs.Common.{◌≡◌, Bool, true, false, ◌||◌, List, [], ◌∷◌, Result, Ok, Err, IfErr, IsErrAnd, refl, sym, ap, ◌∙◌, arith, IsTrue}
 use Rattle.amqp_base.specs.declared.error.Error.{Error}
 use Rattle.amqp_base.specs.declared.error.Error.TheVariants.{SequenceLengthMismatch}
 use Rattle.amqp_base.specs.Item.{Item, scalar, list, map, array, described, Items, none, more, count}
 use Rattle.amqp_base.specs.Fields.{all_fields, takes_fields, all_meanings, means_fields}
-use Rattle.amqp_de.specs.Decoding.{Decoding, stands_under}
+use Rattle.amqp_de.specs.Decoding.{Decoding, stands_under, as_ended}
 use Rattle.amqp_de.specs.Law.{Found, Missed}
 use Rattle.amqp_base.specs.Parse.{item_at, list_data}
-use Rattle.amqp_de.specs.Access.{Listing, HasParts, Opens, OpensNot, Part, NoPart, AllRead, NoEnd, Ends, ended}
+use Rattle.amqp_de.specs.Access.{Listing, HasParts, Opens, OpensNot, Part, NoPart, AllRead, NoEnd, Ends, behind_end}
 use Rattle.amqp_de.specs.declared.list.Access.{Access}
 use Rattle.amqp_de.specs.declared.list.Open.{Open}
 use Rattle.amqp_de.specs.ReadParts.{open_list, Progress, MoreRead, RefusesElements, and_last, joined}
@@ -51,13 +51,13 @@ fields_unopened fields grows buffers old last e o = read.unopened (takes_fields 
 -- lists take no memory, but other items may
 opens_not_more : (buffers : Bool) (old last : Decoding) (e : Error) → OpensNot HasParts list_data buffers buffers old last e → OpensNot HasParts list_data true buffers old last e
 opens_not_more buffers old last e o = record {
-  unanswered = o.unanswered;
+  if_ended = o.if_ended;
   rejects = λ a. rejects_more (item_at list_data (stands_under old)) old.reading last.reading e (λ _. refl) (o.rejects a);
   why = λ t rest' i is p w at h a. excused_more old.reading last.reading e (λ _. refl) (o.why t rest' i is p w at h a);
   steady = o.steady;
   device = o.device;
   memory = λ _. refl;
-  closed = o.closed;
+  ended = o.ended;
   few = o.few;
 }
 
@@ -98,7 +98,7 @@ module _ (old : Decoding) (all others : List (Item → Bool)) (parts : Items) (n
       absent (more j js) c t' = omega (arith, c, z)
 
   -- everything was read
-  pub fields_found : (last : Decoding) → others ≡ [] → now.left ≡ 0 → last ≡ ended now → Found (takes_fields all) (λ i. HasParts i parts) old last
+  pub fields_found : (last : Decoding) → others ≡ [] → now.left ≡ 0 → last ≡ behind_end now → Found (takes_fields all) (λ i. HasParts i parts) old last
   fields_found last e z l = read.parts_found old s.from parts now s.opened s.reads (takes_fields all) (λ i. HasParts i parts) (taken_fields all parts taken) last z l
     where
       taken : all_fields all parts ≡ true
@@ -163,13 +163,9 @@ module _ {X F : Type 0} {old : Decoding} {all : List (Item → Bool)} {parts : I
 pub missed_here : {takes : Item → Bool} {more grows buffers : Bool} {old : Decoding} {e : Error} (last x : Decoding) → (IsTrue more → IsTrue grows) → last ≡ x → Missed takes more buffers old x e → Missed takes grows buffers old last e
 missed_here last x g l m = rw l (missed_more g m)
 
-pub on_err : {A : Type 0} {Q : Type 0} (r : Result A Error) → Q → OnErr r Q
-on_err (Ok v) q = tt
-on_err (Err e) q = q
-
--- no call is answered where it stands
-pub closed_at : {a b : Bool} → a ≡ b → b ≡ false → a ≡ false
-closed_at l c = l ∙ c
+-- where an access is dropped, its deserializer is ended
+pub missed_dropped : {takes : Item → Bool} {grows buffers : Bool} {old x : Decoding} {e : Error} → Missed takes grows buffers old x e → Missed takes grows buffers old (as_ended x) e
+missed_dropped m = record { why = m.why; spent = λ a. record { most = (m.spent a).most }; steady = m.steady; device = m.device; memory = m.memory }
 
 -- the same of a type that takes memory
 pub missed_at : {takes : Item → Bool} {more buffers : Bool} {old : Decoding} {e : Error} (last x : Decoding) → last ≡ x → Missed takes more buffers old x e → Missed takes true buffers old last e

@@ -4,10 +4,10 @@ use Rattle.amqp_base.specs.declared.error.Error.{Error}
 use Rattle.amqp_base.specs.declared.error.Error.TheVariants.{OutOfMemory}
 use Rattle.amqp_base.specs.Item.{Item, scalar, list, map, array, described, Items, none, more}
 use Rattle.amqp_base.specs.Typing.{all_taken, all_mean, is_list_of, means_list}
-use Rattle.amqp_de.specs.Decoding.{Decoding}
+use Rattle.amqp_de.specs.Decoding.{Decoding, as_ended}
 use Rattle.amqp_de.specs.Law.{Found, Missed}
 use Rattle.amqp_base.specs.Parse.{list_data}
-use Rattle.amqp_de.specs.Access.{Listing, HasElements, Opens, OpensNot, Part, NoPart, Ends, ended}
+use Rattle.amqp_de.specs.Access.{Listing, HasElements, Opens, OpensNot, Part, NoPart, Ends, behind_end}
 use Rattle.amqp_de.specs.ReadParts.{PartsRead, and_last, joined}
 use Rattle.amqp_de.proofs.PartsRead as read
 use Rattle.amqp_de.proofs.PartsRead.{both, left_of, right_of}
@@ -68,15 +68,15 @@ none_opened takes buffers old last e o = read.missed_more (λ _. refl) (read.uno
 
 module _ {T : Type 0} (takes : Item → Bool) (means : Item → T → Type 0) (buffers : Bool) (old : Decoding) (from now : Listing) (vs : List T) (o : Opens HasElements old from) (s : Sofar takes means from now vs) where
   -- a part was refused
-  pub part_missed : (grows : Bool) (next : Listing) (last : Decoding) (e : Error) → NoPart takes grows buffers now next e → last ≡ next.state → Missed (is_list_of takes) true buffers old last e
-  part_missed grows next last e n l = read.missed_more (λ _. refl) (read.part_missed old from s.parts now o s.reads (is_list_of takes) (λ is. IsTrue (all_taken takes is)) (parts_of takes) takes (taken_behind takes s.parts) grows buffers next last e n l)
+  pub part_missed : (grows : Bool) (next : Listing) (e : Error) → NoPart takes grows buffers now next e → Missed (is_list_of takes) true buffers old next.state e
+  part_missed grows next e n = read.missed_more (λ _. refl) (read.part_missed old from s.parts now o s.reads (is_list_of takes) (λ is. IsTrue (all_taken takes is)) (parts_of takes) takes (taken_behind takes s.parts) grows buffers next next.state e n refl)
 
   -- no memory was there for a part
-  pub push_missed : (last : Decoding) → last ≡ now.state → Missed (is_list_of takes) true buffers old last OutOfMemory
+  pub push_missed : (last : Decoding) → last ≡ as_ended now.state → Missed (is_list_of takes) true buffers old last OutOfMemory
   push_missed last l = read.no_room old from s.parts now o s.reads (is_list_of takes) buffers last l
 
   -- everything was read
-  pub seq_found : (ws : List T) (last : Decoding) → ws ≡ vs → now.left ≡ 0 → last ≡ ended now → Found (is_list_of takes) (λ i. means_list means i ws) old last
+  pub seq_found : (ws : List T) (last : Decoding) → ws ≡ vs → now.left ≡ 0 → last ≡ behind_end now → Found (is_list_of takes) (λ i. means_list means i ws) old last
   seq_found ws last e z l = rw e (read.parts_found old from s.parts now o s.reads (is_list_of takes) (λ i. means_list means i vs) (meant_of takes means s.parts vs s.taken s.meant) last z l)
 
   -- the end was refused: it isn't, as all was read

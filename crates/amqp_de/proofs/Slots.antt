@@ -1,5 +1,5 @@
 -- The fields of a struct, and the next value that is read for one of them.
-use Rattle.std.proofs.Common.{◌≡◌, ℕ, Bool, true, false, ◌&&◌, List, ◌∷◌, Option, Some, None, Result, Ok, Err, OnOk, IfErr, refl, subst, ap, ◌∙◌, IsTrue}
+use Rattle.std.proofs.Common.{◌≡◌, ℕ, Bool, true, false, ◌&&◌, List, Option, Some, None, Result, Ok, Err, OnOk, IfErr, refl, subst}
 use Rattle.std.specs.Str.{bytes_eq}
 use Rattle.amqp_base.specs.declared.error.Error.{Error}
 use Rattle.amqp_base.specs.Item.{Item, Items, none, more, Pairs}
@@ -7,15 +7,11 @@ use Rattle.amqp_base.specs.Fields.{all_meanings}
 use Rattle.amqp_base.specs.NamedFields.{value_of, without, taken_value, takes_named}
 use Rattle.amqp_base.specs.Refusals.{IsCustom}
 use Rattle.amqp_de.specs.Decoding.{Decoding}
-use Rattle.amqp_de.specs.Access.{Listing, Part, NoPart}
-use Rattle.amqp_de.specs.declared.list.Access.{Access}
-use Rattle.amqp_de.specs.declared.list.Open.{Open}
-use Rattle.amqp_de.specs.ReadParts.{open_list, Progress, MoreRead, and_last}
+use Rattle.amqp_de.specs.Access.{Listing, Part}
+use Rattle.amqp_de.specs.ReadParts.{Progress, MoreRead, and_last}
 use Rattle.amqp_de.specs.ReadPairs.{OutOfTurn, ValueNext}
-use Rattle.amqp_de.specs.ReadFields.{Slots, no_slots, slot, awaits, HaveValues, under_name, FieldRead, NoField, unknown, refused, RowRead, NoRow}
-use Rattle.amqp_de.proofs.PartsRead.{left_of, right_of, join_last, join_none, missed_more}
-use Rattle.amqp_de.proofs.ReadParts.{part_refused, none_left}
-use Rattle.amqp_base.specs.declared.error.Error.TheVariants.{SequenceLengthMismatch}
+use Rattle.amqp_de.specs.ReadFields.{Slots, no_slots, slot, awaits, HaveValues, under_name, FieldRead, NoField, unknown, refused, RowRead}
+use Rattle.amqp_de.proofs.PartsRead.{left_of, right_of, join_last, join_none}
 use Rattle.amqp_de.proofs.LookedFirst.{custom_device}
 
 -- of a call's answer
@@ -58,7 +54,7 @@ any_part p = record {
     taken = p.front.taken;
     value = tt;
     step = p.front.step;
-    answers = p.front.answers;
+    not_ended = p.front.not_ended;
     inherited = p.front.inherited;
     described = p.front.described;
     begun = p.front.begun;
@@ -66,8 +62,6 @@ any_part p = record {
   within = p.within;
   spent = p.spent;
   left = p.left;
-  answers = p.answers;
-  closed = p.closed;
   outer = p.outer;
   limit = p.limit;
 }
@@ -80,20 +74,6 @@ no_field name text buffers l e c = unknown refl (custom_device text e c) (λ v p
 pub row_done : (old : Decoding) (all rest : List (Item → Bool)) (parts : Items) (l : Listing) → Progress old all rest parts l → RowRead old all rest parts no_slots no_slots l
 unfolding all_meanings
 row_done old all rest parts l p = record { items = none; progress = rw (join_none parts) p; full = refl; meant = λ vs h. (h, tt) }
-
--- an element was refused, or there was none
-module _ {X F : Type 0} {old : Decoding} {all rest : List (Item → Bool)} {parts : Items} {t : Item → Bool} {buffers : Bool} (a b : Access X F Open) where
-  pub row_refused : {grows : Bool} {e : Error} → Progress old all (t ∷ rest) parts (open_list a) → NoPart t grows buffers (open_list a) (open_list b) e → NoRow all grows buffers old b.de.now e
-  unfolding open_list
-  row_refused s n = record { missed = part_refused a b s n; closed = n.silent s.reads.closed }
-
-  pub row_ended : {grows : Bool} → Progress old all (t ∷ rest) parts (open_list a) → (open_list a).left ≡ 0 → open_list b ≡ open_list a → NoRow all grows buffers old b.de.now SequenceLengthMismatch
-  unfolding open_list
-  row_ended s z n = record { missed = (none_left a b s z n); closed = ap (λ (l : Listing). l.state.answers) n ∙ s.reads.closed }
-
--- more may be refused for want of memory
-pub row_refused_more : {all : List (Item → Bool)} {a b buffers : Bool} {old last : Decoding} {e : Error} → (IsTrue a → IsTrue b) → NoRow all a buffers old last e → NoRow all b buffers old last e
-row_refused_more h n = record { missed = missed_more h n.missed; closed = n.closed }
 
 pub no_values : (vs : Unit {0}) → HaveValues no_slots vs
 no_values vs = record { holds = tt; full = refl; meant = tt }

@@ -9,7 +9,7 @@ use Rattle.amqp_base.specs.Codes.{Kind, row}
 use Rattle.amqp_base.specs.Item.{Item, scalar, list, map, array, described, none}
 use Rattle.amqp_base.specs.Fields.{takes_fields, means_fields}
 use Rattle.amqp_base.specs.NamedFields.{takes_map, takes_struct, means_map, means_struct}
-use Rattle.amqp_de.specs.Decoding.{Decoding}
+use Rattle.amqp_de.specs.Decoding.{Decoding, as_ended}
 use Rattle.amqp_de.specs.Law.{Found, Missed}
 use Rattle.amqp_de.specs.Look.{item_kind, Looks, LooksNot}
 use Rattle.amqp_de.specs.Access.{Listing, HasParts, Opens}
@@ -83,8 +83,8 @@ pub row_opened : (old : Decoding) (l : Listing) → Opens HasParts old l → (fi
 row_opened old l o fields = rw append-nil (progress_start old l o fields)
 
 -- it has another number of elements
-pub other_row : (grows buffers : Bool) (old last : Decoding) (l : Listing) → Opens HasParts old l → (fields : List (Item → Bool)) → (length fields ≡ l.left → ⊥) → last ≡ l.state → Missed (takes_fields fields) grows buffers old last SequenceLengthMismatch
-other_row grows buffers old last l o fields n same = rw same (not_taken old fields fields none l (progress_start old l o fields) grows buffers l.state refl refl (λ js c t. n (sym (count_fields fields js t) ∙ c)))
+pub other_row : (grows buffers : Bool) (old last : Decoding) (l : Listing) → Opens HasParts old l → (fields : List (Item → Bool)) → (length fields ≡ l.left → ⊥) → last ≡ as_ended l.state → Missed (takes_fields fields) grows buffers old last SequenceLengthMismatch
+other_row grows buffers old last l o fields n same = rw same (not_taken old fields fields none l (progress_start old l o fields) grows buffers (as_ended l.state) refl refl (λ js c t. n (sym (count_fields fields js t) ∙ c)))
 
 -- a field without a value isn't one of fields that all have one
 pub unread : (b : Bool) → b ≡ false → IsTrue b → ⊥

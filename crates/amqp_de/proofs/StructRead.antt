@@ -8,9 +8,9 @@ use Rattle.amqp_base.specs.NamedFields.{is_named, value_of, without, taken_value
 use Rattle.amqp_base.specs.ReadBack.{of_own_kind}
 use Rattle.amqp_base.specs.Refusals.{IsDevice}
 use Rattle.amqp_base.specs.Typing.{is_of}
-use Rattle.amqp_de.specs.Decoding.{Decoding}
+use Rattle.amqp_de.specs.Decoding.{Decoding, as_ended}
 use Rattle.amqp_de.specs.Law.{Found, Missed}
-use Rattle.amqp_de.specs.Access.{Listing, HasPairs, Opens, OpensNot, Part, ended}
+use Rattle.amqp_de.specs.Access.{Listing, HasPairs, Opens, OpensNot, Part, behind_end}
 use Rattle.amqp_base.specs.Parse.{map_data}
 use Rattle.amqp_de.specs.ReadParts.{PartsRead, and_last, joined}
 use Rattle.amqp_de.specs.ReadPairs.{KeyNext, ValueNext, OutOfTurn, and_pair, PairsRead}
@@ -69,10 +69,6 @@ struct_start old all key value now s = record {
   picked = λ ps. refl;
   meant = λ vs h. (h, λ ps m. m);
 }
-
-pub no_field_closed : {V : Type 0} {name : List ℕ} {s : Slots V} {buffers : Bool} {old new : Listing} {e : Error} → NoField name s buffers old new e → old.state.answers ≡ false → new.state.answers ≡ false
-no_field_closed (unknown same calm absent) c = rw same c
-no_field_closed (refused kind grows n u) c = n.silent c
 
 module _ {V : Type 0} (old : Decoding) (all s : Slots V) (now : Listing) where
   pub name_read : (r : StructRead old all s now) (key : String Global) (next : Listing) → (p : Part (is_of Kind.string) (λ i. i ≡ scalar (string (string_bytes key))) now next) → NameRead old all s (string_bytes key) next
@@ -168,7 +164,7 @@ module _ {V : Type 0} (old : Decoding) (all s : Slots V) (now : Listing) where
           cc
 
   -- a field is missing
-  pub missing : StructRead old all s now → now.left ≡ 0 → all_read s ≡ false → (buffers : Bool) (last : Decoding) (e : Error) → (IsDevice e → ⊥) → last ≡ now.state → Missed (takes_map all.names all.kinds) true buffers old last e
+  pub missing : StructRead old all s now → now.left ≡ 0 → all_read s ≡ false → (buffers : Bool) (last : Decoding) (e : Error) → (IsDevice e → ⊥) → last ≡ as_ended now.state → Missed (takes_map all.names all.kinds) true buffers old last e
   missing r z few buffers last e calm l = read.not_taken old r.from (in_turn r.pairs) now r.opened r.reads (takes_map all.names all.kinds) (Taken all.names all.kinds) (sorts all.names all.kinds) true buffers last e calm (λ _. refl) (ap (λ (d : Decoding). d.reading) l) (ap (λ (d : Decoding). d.begun) l) nobody
     where
       nobody : (js : Items) → count js ≡ now.left → Taken all.names all.kinds (joined (in_turn r.pairs) js) → ⊥
@@ -180,7 +176,7 @@ module _ {V : Type 0} (old : Decoding) (all s : Slots V) (now : Listing) where
       nobody (more j js) c t = absurd (omega (arith, c, z))
 
   -- everything was read
-  pub struct_found : StructRead old all s now → (vs : V) → HaveValues s vs → (last : Decoding) → now.left ≡ 0 → last ≡ ended now → Found (takes_map all.names all.kinds) (λ i. means_map all.names (all.meanings vs) i) old last
+  pub struct_found : StructRead old all s now → (vs : V) → HaveValues s vs → (last : Decoding) → now.left ≡ 0 → last ≡ behind_end now → Found (takes_map all.names all.kinds) (λ i. means_map all.names (all.meanings vs) i) old last
   struct_found r vs h last z l = read.parts_found old r.from (in_turn r.pairs) now r.opened r.reads (takes_map all.names all.kinds) (λ i. means_map all.names (all.meanings vs) i) meant last z l
     where
       full : IsTrue (takes_named all.names all.kinds r.pairs)

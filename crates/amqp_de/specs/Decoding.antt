@@ -5,8 +5,8 @@ use Rattle.amqp_read.specs.Reading.{Reading}
 
 pub record Decoding : Type 0 where
   pub reading : Reading
-  -- calls are answered; else each of them is refused as `InvalidValue`
-  pub answers : Bool
+  -- it is ended: each call is refused as `InvalidValue`, and changes nothing
+  pub ended : Bool
   -- the constructor that the next item stands under: that of the elements inside an array, else none
   pub inherited : Constructor
   -- the descriptor of such a constructor was answered by a call of its own
@@ -25,10 +25,6 @@ behind_descriptor (under_pair d e) false = under_pair d e
 abbrev pub stands_under : Decoding → Constructor
 stands_under d = behind_descriptor d.inherited d.described
 
--- the same, where calls are answered
-abbrev pub ready : Decoding → Decoding
-ready d = record { reading = d.reading; answers = true; inherited = d.inherited; described = d.described; begun = d.begun }
-
--- the same, where no call is answered any more
-abbrev pub silenced : Decoding → Decoding
-silenced d = record { reading = d.reading; answers = false; inherited = d.inherited; described = d.described; begun = d.begun }
+-- the same, but ended
+abbrev pub as_ended : Decoding → Decoding
+as_ended d = record { reading = d.reading; ended = true; inherited = d.inherited; described = d.described; begun = d.begun }

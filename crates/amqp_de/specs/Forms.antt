@@ -6,7 +6,7 @@ use Rattle.amqp_base.specs.declared.error.Error.TheVariants.{InvalidValue}
 use Rattle.amqp_base.specs.Item.{Item, none, no_pairs}
 use Rattle.amqp_base.specs.NamedFields.{takes_struct}
 use Rattle.amqp_base.specs.Structs.{is_described_name}
-use Rattle.amqp_de.specs.Decoding.{Decoding, stands_under, silenced}
+use Rattle.amqp_de.specs.Decoding.{Decoding, stands_under, as_ended}
 use Rattle.amqp_de.specs.Law.{Missed}
 use Rattle.amqp_de.specs.Access.{Listing, HasParts, HasPairs, Opens, OpensExactly}
 use Rattle.amqp_base.specs.Parse.{item_at, tuple_data, struct_data}
@@ -15,7 +15,7 @@ use Rattle.amqp_de.specs.Steps.{Rejects}
 use Rattle.amqp_de.specs.ReadParts.{Progress, NoTuple, open_list}
 use Rattle.amqp_base.specs.Meaning.{Meaning}
 use Rattle.amqp_de.specs.Calls.{NextElement, KeyAnswer, ValueAnswer, EntryAnswer}
-use Rattle.amqp_de.specs.ReadPairs.{PairsRead, broken_off}
+use Rattle.amqp_de.specs.ReadPairs.{PairsRead, ended_access}
 use Rattle.amqp_de.specs.declared.deserializer.Deserializer.{Deserializer}
 use Rattle.amqp_de.specs.declared.structs.OpenedStruct.{OpenedStruct}
 use Rattle.amqp_de.specs.declared.structs.OpenedStruct.TheVariants as opened
@@ -64,26 +64,26 @@ StructOpened len old (form.Map a) = MapOpened len old (open_list a)
 
 -- no struct was opened: so one of as many fields is missed, and want of memory is no excuse
 pub record NoStruct (len : ℕ) (buffers : Bool) (old last : Decoding) (e : Error) : Type 0 where
-  -- a call that isn't answered changes nothing
-  pub unanswered : old.answers ≡ false → (e ≡ InvalidValue) × (last ≡ old)
-  pub rejects : IsTrue old.answers → Rejects buffers buffers (item_at (struct_data len) (stands_under old)) old.reading last.reading e
-  pub closed : last.answers ≡ false
+  -- where it is ended the call changes nothing
+  pub if_ended : IsTrue old.ended → (e ≡ InvalidValue) × (last ≡ old)
+  pub rejects : old.ended ≡ false → Rejects buffers buffers (item_at (struct_data len) (stands_under old)) old.reading last.reading e
+  pub ended : IsTrue last.ended
   pub missed : (names : List (List ℕ)) (fields : List (Item → Bool)) → length fields ≡ len → Missed (takes_struct names fields) buffers buffers old last e
 
 -- what a refused call leaves, by the struct's name
 pub record RefusesStruct {A : Type 0} (name : List ℕ) (len : ℕ) (buffers : Bool) (old : Decoding) (r : Result A Error) (last : Decoding) : Type 0 where
   pub unopened : is_described_name name ≡ false → IfErr r (λ e. NoStruct len buffers old last e)
   -- under the name of a described struct nothing was read
-  pub unread : is_described_name name ≡ true → last ≡ silenced old
+  pub unread : is_described_name name ≡ true → last ≡ as_ended old
 
 -- the same of a tuple struct
 pub record RefusesRow {A : Type 0} (name : List ℕ) (len : ℕ) (buffers : Bool) (old : Decoding) (r : Result A Error) (last : Decoding) : Type 0 where
   pub unopened : is_described_name name ≡ false → IfErr r (λ e. NoTuple len buffers old last e)
-  pub unread : is_described_name name ≡ true → last ≡ silenced old
+  pub unread : is_described_name name ≡ true → last ≡ as_ended old
 
 -- a call of another form
 abbrev pub WrongForm : {A : Type 0} → Listing → Result A Error → Listing → Type 0
-WrongForm old r new = (r ≡ Err InvalidValue) × (new ≡ broken_off old)
+WrongForm old r new = (r ≡ Err InvalidValue) × (new ≡ ended_access old)
 
 abbrev pub FormElement : {X T : Type 0} → Meaning T → Bool → StructAccess X → Result (Option T) Error → StructAccess X → Type 0
 FormElement m buffers (form.List a) r (form.List b) = NextElement m buffers (open_list a) r (open_list b)

@@ -31,7 +31,7 @@ pub record Front (takes : Item → Bool) (means : Item → Type 0) (old new : De
   pub taken : IsTrue (takes item)
   pub value : means item
   pub step : Takes old.reading new.reading text
-  pub answers : IsTrue new.answers
+  pub not_ended : new.ended ≡ false
   pub inherited : new.inherited ≡ old.inherited
   pub described : new.described ≡ false
   pub begun : new.begun ≡ old.begun + items_under (stands_under old) item
@@ -68,18 +68,18 @@ refused_free (under_pair d e) = 2
 pub record Spent (more : ℕ) (old new : Decoding) : Type 0 where
   pub most : new.begun + 16384 * old.reading.taken ≤ old.begun + 16384 * new.reading.taken + more
 
--- What a type answers with a value: where calls are answered, that value's front was consumed.
+-- What a type answers with a value: where the deserializer isn't ended, that value's front was consumed.
 pub record Found (takes : Item → Bool) (means : Item → Type 0) (old new : Decoding) : Type 0 where
-  pub front : IsTrue old.answers → Front takes means old new
-  pub spent : IsTrue old.answers → Spent (free (stands_under old)) old new
+  pub front : old.ended ≡ false → Front takes means old new
+  pub spent : old.ended ≡ false → Spent (free (stands_under old)) old new
   pub steady : Advances old.reading new.reading
 
--- What a type answers with a refusal: where calls are answered and an item that it takes stands at the front, there is
--- an excuse. A device's fault was counted.
+-- What a type answers with a refusal: where the deserializer isn't ended and an item that the type takes stands at the
+-- front, there is an excuse. A device's fault was counted.
 pub record Missed (takes : Item → Bool) (grows buffers : Bool) (old new : Decoding) (e : Error) : Type 0 where
-  pub why : IsTrue old.answers → (i : Item) (text rest : List ℕ) → Wire lenient (stands_under old) text i → IsTrue (takes i) → old.reading.to_come ≡ Some (text ++ rest) → IsTrue old.reading.honest
+  pub why : old.ended ≡ false → (i : Item) (text rest : List ℕ) → Wire lenient (stands_under old) text i → IsTrue (takes i) → old.reading.to_come ≡ Some (text ++ rest) → IsTrue old.reading.honest
       → Excused grows buffers old.reading new.reading e
-  pub spent : IsTrue old.answers → Spent (refused_free (stands_under old)) old new
+  pub spent : old.ended ≡ false → Spent (refused_free (stands_under old)) old new
   pub steady : Advances old.reading new.reading
   pub device : IsDevice e → old.reading.faults < new.reading.faults
   -- and only where memory is taken there may be none
@@ -87,4 +87,4 @@ pub record Missed (takes : Item → Bool) (grows buffers : Bool) (old new : Deco
 
 -- Of known bytes a refusal is one that the type makes of them, but for the excuses.
 pub record Named (refuses : Refusing) (grows buffers : Bool) (old new : Decoding) (e : Error) : Type 0 where
-  pub why : IsTrue old.answers → (s : List ℕ) → old.reading.to_come ≡ Some s → IsTrue old.reading.honest → refuses (stands_under old) s e ⊎ Excused grows buffers old.reading new.reading e
+  pub why : old.ended ≡ false → (s : List ℕ) → old.reading.to_come ≡ Some s → IsTrue old.reading.honest → refuses (stands_under old) s e ⊎ Excused grows buffers old.reading new.reading e

@@ -1,5 +1,5 @@
 -- What a look at the next item shows.
-use Rattle.std.specs.Prelude.{◌≡◌, ℕ, ◌<◌, Bool, IsTrue, List, [], ◌∷◌, Some, Ok, ⊤}
+use Rattle.std.specs.Prelude.{◌≡◌, ℕ, ◌<◌, Bool, IsTrue, List, [], ◌∷◌, Some, Ok, ⊤, false}
 use Rattle.amqp_base.specs.declared.error.Error.{Error}
 use Rattle.amqp_base.specs.declared.error.Error.TheVariants.{OutOfMemory}
 use Rattle.amqp_base.specs.declared.format_code.EncodingCodes.{EncodingCodes}
@@ -47,7 +47,7 @@ pub record PeeksNot (buffers : Bool) (old new : Reading) (err : Error) : Type 0 
 -- The code of the next item is this one, and nothing was consumed or begun.
 pub record Looks (old new : Decoding) (e : EncodingCodes) : Type 0 where
   pub looked : Looked (looked_at (stands_under old)) old.reading new.reading
-  pub answers : IsTrue new.answers
+  pub not_ended : new.ended ≡ false
   pub inherited : new.inherited ≡ old.inherited
   pub described : new.described ≡ old.described
   pub begun : new.begun ≡ old.begun
@@ -62,4 +62,4 @@ pub record LooksNot (buffers : Bool) (old new : Decoding) (err : Error) : Type 0
   pub begun : new.begun ≡ old.begun
   pub device : IsDevice err → old.reading.faults < new.reading.faults
   pub memory : err ≡ OutOfMemory → IsTrue buffers
-  pub rejects : IsTrue old.answers → Rejects buffers buffers (code_at (stands_under old)) old.reading new.reading err
+  pub rejects : old.ended ≡ false → Rejects buffers buffers (code_at (stands_under old)) old.reading new.reading err

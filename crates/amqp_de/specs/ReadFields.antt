@@ -4,12 +4,12 @@ use Rattle.std.proofs.Common.{refl, ap}
 use Rattle.std.specs.Str.{bytes_eq}
 use Rattle.amqp_base.specs.declared.error.Error.{Error}
 use Rattle.amqp_base.specs.Item.{Item, Items, scalar, string, Pairs, no_pairs, pair}
-use Rattle.amqp_base.specs.Fields.{all_meanings, field, takes_fields}
+use Rattle.amqp_base.specs.Fields.{all_meanings, field}
 use Rattle.amqp_base.specs.NamedFields.{takes_named, means_named}
 use Rattle.amqp_base.specs.Refusals.{IsDevice}
 use Rattle.amqp_base.specs.Refusing.{Refusing, awaited_count, row_part_refusal, awaited_behind, taken_under, refused_under, value_refusal}
 use Rattle.amqp_de.specs.Decoding.{Decoding}
-use Rattle.amqp_de.specs.Law.{Missed, Excused}
+use Rattle.amqp_de.specs.Law.{Excused}
 use Rattle.amqp_de.specs.Access.{Listing, Part, Plain}
 use Rattle.amqp_de.specs.ReadParts.{Progress, joined}
 use Rattle.amqp_de.specs.ReadPairs.{OutOfTurn, ValueNext}
@@ -85,11 +85,6 @@ pub data NoField {V : Type 0} (name : List ℕ) (s : Slots V) (buffers : Bool) (
   unknown : new ≡ old → (IsDevice e → ⊥) → ((v : Item) (ps : Pairs) → takes_named s.names s.kinds (under_name name v ps) ≡ false) → NoField name s buffers old new e
   refused : (kind : Item → Bool) (grows : Bool) → OutOfTurn ValueNext kind grows buffers old new e → ((v : Item) (ps : Pairs) → IsTrue (takes_named s.names s.kinds (under_name name v ps)) → IsTrue (kind v)) → NoField name s buffers old new e
 
--- fields of a list weren't all read: a list of the fields `all` is missed, and no call is answered any more
-pub record NoRow (all : List (Item → Bool)) (grows buffers : Bool) (old last : Decoding) (e : Error) : Type 0 where
-  pub missed : Missed (takes_fields all) grows buffers old last e
-  pub closed : last.answers ≡ false
-
 -- Since `old` a list was opened, and all fields that were awaited were read of it, in order.
 pub record RowRead {V : Type 0} (old : Decoding) (all rest : List (Item → Bool)) (parts : Items) (s t : Slots V) (new : Listing) : Type 0 where
   pub items : Items
@@ -105,10 +100,10 @@ pub record FieldPicked {V : Type 0} (name : List ℕ) (s t : Slots V) (takes : L
 
 -- Of known bytes it is refused as `Message`, where no such field is awaited, or as that field refuses it.
 pub record FieldNamed {V : Type 0} (name : List ℕ) (s : Slots V) (refuses : List {1} Refusing) (buffers : Bool) (old new : Listing) (e : Error) : Type 0 where
-  pub why : ValueNext old → Plain old → IsTrue old.answers → (z : List ℕ) → old.state.reading.to_come ≡ Some z → IsTrue old.state.reading.honest
+  pub why : ValueNext old → Plain old → old.state.ended ≡ false → (z : List ℕ) → old.state.reading.to_come ≡ Some z → IsTrue old.state.reading.honest
       → value_refusal (awaited_behind name s.all_names s.awaited) (refused_under name s.all_names s.awaited refuses z e) (λ bs. ⊥) e ⊎ Excused true buffers old.state.reading new.state.reading e
 
 -- Of known bytes an element is refused as its field refuses it, where no fewer are left than fields are awaited.
 pub record ElementsNamed (awaited : List Bool) (takes : List (Item → Bool)) (refuses : List {1} Refusing) (grows buffers : Bool) (old : Listing) (last : Decoding) (e : Error) : Type 0 where
-  pub why : Plain old → IsTrue old.answers → awaited_count awaited ≤ old.left → (s : List ℕ) → old.state.reading.to_come ≡ Some s → IsTrue old.state.reading.honest
+  pub why : Plain old → old.state.ended ≡ false → awaited_count awaited ≤ old.left → (s : List ℕ) → old.state.reading.to_come ≡ Some s → IsTrue old.state.reading.honest
       → row_part_refusal awaited takes refuses s e ⊎ Excused grows buffers old.state.reading last.reading e

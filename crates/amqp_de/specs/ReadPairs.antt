@@ -4,7 +4,7 @@ use Rattle.amqp_base.specs.declared.error.Error.{Error}
 use Rattle.amqp_base.specs.declared.error.Error.TheVariants.{InvalidValue}
 use Rattle.amqp_base.specs.Item.{Item, Pairs, no_pairs, pair, in_turn}
 use Rattle.amqp_base.specs.Maps.{all_pairs_taken, is_map_of}
-use Rattle.amqp_de.specs.Decoding.{Decoding}
+use Rattle.amqp_de.specs.Decoding.{Decoding, as_ended}
 use Rattle.amqp_de.specs.Law.{Missed}
 use Rattle.amqp_base.specs.Parse.{map_data}
 use Rattle.amqp_base.specs.Refusing.{Refusing}
@@ -18,27 +18,26 @@ KeyNext l = l.left % 2 ≡ 0
 abbrev pub ValueNext : Listing → Type 0
 ValueNext l = l.left % 2 ≡ 1
 
--- an access that broke off: no call of it is answered
-abbrev pub broken_off : Listing → Listing
-broken_off l = record { state = l.state; left = l.left; answers = false; outer = l.outer; limit = l.limit }
+-- the same access, where its deserializer is ended
+abbrev pub ended_access : Listing → Listing
+ended_access l = record { state = as_ended l.state; left = l.left; outer = l.outer; limit = l.limit }
 
 -- a key or a value that is refused: now isn't its turn, or it is refused as a part
 pub record OutOfTurn (Turn : Listing → Type 0) (takes : Item → Bool) (grows buffers : Bool) (old new : Listing) (err : Error) : Type 0 where
-  pub unanswered : old.answers ≡ false → (err ≡ InvalidValue) × (new ≡ old)
-  pub other : (Turn old → ⊥) → (err ≡ InvalidValue) × (new ≡ broken_off old)
+  pub if_ended : IsTrue old.state.ended → (err ≡ InvalidValue) × (new ≡ old)
+  pub other : (Turn old → ⊥) → (err ≡ InvalidValue) × (new ≡ ended_access old)
   pub refused : Turn old → NoPart takes grows buffers old new err
-  pub closed : new.answers ≡ false
-  pub silent : old.state.answers ≡ false → new.state.answers ≡ false
+  pub ended : IsTrue new.state.ended
 
 -- the next key, or none where none is left
 abbrev pub NextKey : {K : Type 0} → (Item → Bool) → (Item → K → Type 0) → Bool → Bool → Listing → Result (Option K) Error → Listing → Type 0
-NextKey takes means grows buffers old (Ok None) new = (old.left ≡ 0) × (new ≡ old) × IsTrue old.answers
-NextKey takes means grows buffers old (Ok (Some k)) new = Part takes (λ i. means i k) old new × IsTrue old.answers × KeyNext old
+NextKey takes means grows buffers old (Ok None) new = (old.left ≡ 0) × (new ≡ old) × (old.state.ended ≡ false)
+NextKey takes means grows buffers old (Ok (Some k)) new = Part takes (λ i. means i k) old new × (old.state.ended ≡ false) × KeyNext old
 NextKey takes means grows buffers old (Err e) new = OutOfTurn KeyNext takes grows buffers old new e
 
 -- the value of the last key
 abbrev pub NextValue : {V : Type 0} → (Item → Bool) → (Item → V → Type 0) → Bool → Bool → Listing → Result V Error → Listing → Type 0
-NextValue takes means grows buffers old (Ok v) new = Part takes (λ i. means i v) old new × IsTrue old.answers × ValueNext old
+NextValue takes means grows buffers old (Ok v) new = Part takes (λ i. means i v) old new × (old.state.ended ≡ false) × ValueNext old
 NextValue takes means grows buffers old (Err e) new = OutOfTurn ValueNext takes grows buffers old new e
 
 -- the next key and its value, one after the other
@@ -53,7 +52,7 @@ pub data NoEntry {K : Type 0} (key value : Item → Bool) (means_key : Item → 
   no_value : (k : K) (mid : Listing) → NextKey key means_key grows_key buffers old (Ok (Some k)) mid → OutOfTurn ValueNext value grows_value buffers mid new e → NoEntry key value means_key grows_key grows_value buffers old new e
 
 abbrev pub NextEntry : {K V : Type 0} → (Item → Bool) → (Item → Bool) → (Item → K → Type 0) → (Item → V → Type 0) → Bool → Bool → Bool → Listing → Result (Option (K × V)) Error → Listing → Type 0
-NextEntry key value means_key means_value grows_key grows_value buffers old (Ok None) new = (old.left ≡ 0) × (new ≡ old) × IsTrue old.answers
+NextEntry key value means_key means_value grows_key grows_value buffers old (Ok None) new = (old.left ≡ 0) × (new ≡ old) × (old.state.ended ≡ false)
 NextEntry key value means_key means_value grows_key grows_value buffers old (Ok (Some p)) new = NextPair key value means_key means_value grows_key grows_value buffers old p.0 p.1 new
 NextEntry key value means_key means_value grows_key grows_value buffers old (Err e) new = NoEntry key value means_key grows_key grows_value buffers old new e
 

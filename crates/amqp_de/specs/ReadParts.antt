@@ -45,8 +45,7 @@ pub record PartsRead (from : Listing) (parts : Items) (now : Listing) : Type 0 w
   pub described : now.state.described ≡ false
   pub outer : now.outer ≡ from.outer
   pub limit : now.limit ≡ from.limit
-  pub answers : IsTrue now.answers
-  pub closed : now.state.answers ≡ false
+  pub not_ended : now.state.ended ≡ false
   pub within : Within from.limit now.state.reading.taken
   pub spent : now.state.begun + 16384 * from.state.reading.taken + cost from.state.inherited now.left + min 2 (2 * now.left) ≤ from.state.begun + 16384 * now.state.reading.taken + cost from.state.inherited from.left + min 2 (2 * from.left)
   pub tracks : (is : Items) (x behind : List ℕ) → Parts lenient from.state.inherited x is → count is ≡ from.left → from.state.reading.to_come ≡ Some (x ++ behind)
@@ -73,10 +72,10 @@ pub record RefusesElements (buffers : Bool) (old last : Decoding) (e : Error) : 
 
 -- no list of just so many parts was opened: so one of as many fields is missed, and want of memory is no excuse
 pub record NoTuple (len : ℕ) (buffers : Bool) (old last : Decoding) (e : Error) : Type 0 where
-  -- a call that isn't answered changes nothing
-  pub unanswered : old.answers ≡ false → (e ≡ InvalidValue) × (last ≡ old)
-  pub rejects : IsTrue old.answers → Rejects buffers buffers (item_at (tuple_data len) (stands_under old)) old.reading last.reading e
-  pub closed : last.answers ≡ false
+  -- where it is ended the call changes nothing
+  pub if_ended : IsTrue old.ended → (e ≡ InvalidValue) × (last ≡ old)
+  pub rejects : old.ended ≡ false → Rejects buffers buffers (item_at (tuple_data len) (stands_under old)) old.reading last.reading e
+  pub ended : IsTrue last.ended
   pub missed : (fields : List (Item → Bool)) → length fields ≡ len → Missed (takes_fields fields) buffers buffers old last e
 
 -- the same of a call's answer

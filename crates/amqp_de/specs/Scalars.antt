@@ -1,5 +1,5 @@
 -- Reading a value without parts.
-use Rattle.std.specs.Prelude.{◌≡◌, Bool, IsTrue, Result, IfOk, IfErr}
+use Rattle.std.specs.Prelude.{◌≡◌, Bool, Result, IfOk, IfErr, false}
 use Rattle.amqp_base.specs.declared.error.Error.{Error}
 use Rattle.amqp_base.specs.Codes.{Kind}
 use Rattle.amqp_base.specs.Item.{Scalar, scalar}
@@ -16,9 +16,9 @@ pub record ReadsScalar {V : Type 0} (kind : Kind) (shows : V → Scalar) (grows 
   pub ok : IfOk result (λ v. Found (is_of kind) (λ i. i ≡ scalar (shows v)) old new)
   pub err : IfErr result (λ e. Missed (is_of kind) grows buffers old new e)
   pub named : IfErr result (λ e. Named (scalar_refusal kind) grows buffers old new e)
-  pub exact : IsTrue old.answers → Exact shows grows buffers (item_at (data_at kind) (stands_under old)) old.reading result new.reading
+  pub exact : old.ended ≡ false → Exact shows grows buffers (item_at (data_at kind) (stands_under old)) old.reading result new.reading
   pub stops : Stops old result new
 
 -- memory for its bytes is asked for only once they are there
 abbrev pub MemoryLast : {V : Type 0} → Kind → Bool → Decoding → Result V Error → Type 0
-MemoryLast kind buffers old result = IsTrue old.answers → IfErr result (λ e. BytesFirst buffers (item_at (data_at kind) (stands_under old)) old.reading e)
+MemoryLast kind buffers old result = old.ended ≡ false → IfErr result (λ e. BytesFirst buffers (item_at (data_at kind) (stands_under old)) old.reading e)

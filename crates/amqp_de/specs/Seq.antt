@@ -11,7 +11,7 @@ use Rattle.amqp_de.specs.declared.seq.SeqAccess.TheVariants as seq
 
 -- what is open, behind this deserializer
 abbrev pub at_open : Decoding → Open → Listing
-at_open d o = record { state = d; left = o.left; answers = o.answers; outer = constructor_of o.outer; limit = limit_of o.limit }
+at_open d o = record { state = d; left = o.left; outer = constructor_of o.outer; limit = limit_of o.limit }
 
 abbrev pub listing : {X F : Type 0} → Access X F Open → Listing
 listing a = at_open a.de.now a.inner

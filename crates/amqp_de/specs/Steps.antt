@@ -43,8 +43,8 @@ pub record BytesFirst {A : Type 0} (buffers : Bool) (parse : List ℕ → Parsed
 
 -- a call of the deserializer's own: a refusal ends it, and then each call is refused
 pub record Stops {A : Type 0} (old : Decoding) (result : Result A Error) (new : Decoding) : Type 0 where
-  pub err : OnErr result (new.answers ≡ false)
-  pub unanswered : old.answers ≡ false → (result ≡ Err InvalidValue) × (new ≡ old)
+  pub err : OnErr result (IsTrue new.ended)
+  pub if_ended : IsTrue old.ended → (result ≡ Err InvalidValue) × (new ≡ old)
 
 -- w bytes were consumed, which spell n
 pub record Number (w n : ℕ) (old new : Reading) : Type 0 where
@@ -89,14 +89,14 @@ pub record Begins (old new : Decoding) (byte : ℕ) : Type 0 where
   pub inherited : new.inherited ≡ old.inherited
   pub described : new.described ≡ false
   pub begun : new.begun ≡ old.begun + 1
-  pub closed : new.answers ≡ false
+  pub ended : IsTrue new.ended
   pub counts : (e : EncodingCodes) (i : Item) → code_of byte ≡ Some e → items_under (stands_under old) i ≡ items i
   pub room : 1 ≤ free (stands_under old) + length text
 
 -- no item was begun, as there is no byte
 pub record BeginsNot (buffers : Bool) (old new : Decoding) (e : Error) : Type 0 where
   pub rejects : Rejects buffers buffers (byte_under (stands_under old)) old.reading new.reading e
-  pub closed : new.answers ≡ false
+  pub ended : IsTrue new.ended
   pub few : new.begun ≡ old.begun + 1
 
 -- data of the byte's code were consumed, which spell the item

@@ -39,14 +39,14 @@ impl<R: Read> Deserializer<R> {
         ensures err { IfErr result (λ e. LooksNot R.buffers self.old self.new e) }
         ensures stops { Stops self.old result self.new }
     {
-        if !self.answers {
+        if self.ended {
             return Err(Error::InvalidValue);
         }
         match &self.inherited {
             Constructor::Bare => match code_ahead(&mut self.reader) {
                 Ok(code) => Ok(code),
                 Err(e) => {
-                    self.answers = false;
+                    self.ended = true;
                     Err(e)
                 }
             },
@@ -77,13 +77,13 @@ impl<R: Read> Deserializer<R> {
         ensures stops { Stops self.old result self.new }
     {
         let _ = name;
-        if !self.answers {
+        if self.ended {
             return Err(Error::InvalidValue);
         }
         match T::deserialize(alloc, self) {
             Ok(value) => Ok(value),
             Err(e) => {
-                self.answers = false;
+                self.ended = true;
                 Err(e)
             }
         }

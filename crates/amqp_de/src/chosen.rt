@@ -36,7 +36,7 @@ impl<R: Read> Deserializer<R> {
     /// Reads a value of a type that has some of the values of another.
     ///
     /// The refusals are those of that type, and `InvalidValue` where the value is none of these;
-    /// then the deserializer answers on behind it.
+    /// then the deserializer isn't ended, and stands behind it.
     pub fn deserialize_chosen<T: Chosen>(&mut self, alloc: Global) -> Result<T, Error>
     where
         T::Of: Deserialize<R>,

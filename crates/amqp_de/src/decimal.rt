@@ -1,6 +1,6 @@
 //! Decimals.
 
-ghost use Rattle.std.specs.Prelude.{◌≡◌, true, ◌||◌, IsTrue, IfOk, IfErr};
+ghost use Rattle.std.specs.Prelude.{◌≡◌, true, false, ◌||◌, IsTrue, IfOk, IfErr};
 ghost use Rattle.amqp_base.specs.Codes.{row, codes};
 ghost use Rattle.amqp_base.specs.Canon.{kind_of};
 ghost use Rattle.amqp_base.specs.Item.{scalar};
@@ -57,17 +57,17 @@ impl<R: Read> Deserializer<R> {
             Found is_decimal (λ i. i ≡ scalar (decimal d)) self.old self.new) }
         ensures err { IfErr result (λ e.
             Missed is_decimal R.buffers R.buffers self.old self.new e) }
-        ensures exact { IsTrue self.old.answers → Exact decimal R.buffers R.buffers
+        ensures exact { self.old.ended ≡ false → Exact decimal R.buffers R.buffers
             (item_at decimal_at (stands_under self.old)) self.old.reading result self.new.reading }
         ensures stops { Stops self.old result self.new }
     {
-        if !self.answers {
+        if self.ended {
             return Err(Error::InvalidValue);
         }
         match self.begin() {
             Ok(code) => match data(&mut self.reader, code) {
                 Ok(value) => {
-                    self.answers = true;
+                    self.ended = false;
                     Ok(value)
                 }
                 Err(e) => Err(e),

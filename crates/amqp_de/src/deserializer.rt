@@ -25,7 +25,7 @@ use std::marker::Model;
 #[derive(Drop)]
 pub struct Deserializer<R: Read> {
     pub(crate) reader: R,
-    pub(crate) answers: bool,
+    pub(crate) ended: bool,
     pub(crate) inherited: Constructor,
     pub(crate) described: bool,
     pub(crate) begun: Count,
@@ -39,7 +39,7 @@ impl<R: Read> Model for Deserializer<R> {
 
     ghost view = { λ d. record {
       reading = R.reading d.reader;
-      answers = d.answers;
+      ended = d.ended;
       inherited =
           constructor_of d.inherited;
       described = d.described;
@@ -52,7 +52,7 @@ impl<R: Read> Deserializer<R> {
     pub fn new(reader: R) -> Deserializer<R>
         ensures { result ≡ record {
           reading = R.reading reader;
-          answers = true;
+          ended = false;
           inherited = bare;
           described = false;
           begun = 0;
@@ -60,7 +60,7 @@ impl<R: Read> Deserializer<R> {
     {
         Deserializer {
             reader,
-            answers: true,
+            ended: false,
             inherited: Constructor::Bare,
             described: false,
             begun: Count::new(),
@@ -74,7 +74,7 @@ impl<R: Read> Deserializer<R> {
     {
         let Deserializer {
             reader,
-            answers: _,
+            ended: _,
             inherited: _,
             described: _,
             begun: _,
@@ -95,7 +95,7 @@ impl<R: Read> Deserializer<R> {
         ensures ok { IfOk result (λ b. Begins self.old self.new b) }
         ensures err { IfErr result (λ e. BeginsNot R.buffers self.old self.new e) }
     {
-        self.answers = false;
+        self.ended = true;
         self.begun.tick();
         let described = self.described;
         self.described = false;

@@ -4,10 +4,12 @@ ghost use Rattle.std.specs.Prelude.{◌≡◌, ◌+◌, Bool, false, ◌||◌, I
 ghost use Rattle.std.specs.Prelude.{List, [], ◌∷◌, ◌++◌};
 ghost use Rattle.std.specs.Prelude.{length, IfErr, OnOk};
 ghost use Rattle.amqp_base.specs.Item.{Item, Items};
+ghost use Rattle.amqp_base.specs.Fields.{takes_fields};
 ghost use Rattle.amqp_de.specs.Decoding.{Decoding};
+ghost use Rattle.amqp_de.specs.Law.{Missed};
 ghost use Rattle.amqp_de.specs.ReadParts.{Progress, open_list};
 ghost use Rattle.amqp_de.specs.ReadFields.{Slots, no_slots, slot, awaits, all_read, HaveValues};
-ghost use Rattle.amqp_de.specs.ReadFields.{FieldRead, NoField, RowRead, NoRow, ElementsNamed};
+ghost use Rattle.amqp_de.specs.ReadFields.{FieldRead, NoField, RowRead, ElementsNamed};
 ghost use Rattle.amqp_de.specs.ReadFields.{FieldPicked, FieldNamed};
 
 use crate::{Deserialize, ListAccess, MapAccess};
@@ -77,7 +79,7 @@ pub trait Fields<R: Read>: Drop {
         ensures refused { IfErr result (λ e. (old : Decoding) (all rest : List (Item → Bool))
             (parts : Items) → Progress old all ((slots self.old).kinds ++ rest) parts
             (open_list list.old) →
-            NoRow all (grows || R.buffers) R.buffers old list.new.de.now e) }
+            Missed (takes_fields all) (grows || R.buffers) R.buffers old list.new.de.now e) }
         ensures named { IfErr result (λ e. ElementsNamed (slots self.old).awaited takes refuses
             (grows || R.buffers) R.buffers (open_list list.old) list.new.de.now e) }
         ensures counted { OnOk result ((open_list list.old).left ≡

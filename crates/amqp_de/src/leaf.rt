@@ -1,6 +1,6 @@
 //! Items without parts.
 
-ghost use Rattle.std.specs.Prelude.{◌≡◌, Bool, ◌||◌, IsTrue, IfOk, IfErr};
+ghost use Rattle.std.specs.Prelude.{◌≡◌, Bool, false, ◌||◌, IsTrue, IfOk, IfErr};
 ghost use Rattle.amqp_base.specs.Codes.{Kind, row};
 ghost use Rattle.amqp_base.specs.Item.{Scalar, scalar};
 ghost use Rattle.amqp_base.specs.Canon.{kind_of};
@@ -46,24 +46,24 @@ impl<R: Read> Deserializer<R> {
             i ≡ scalar (L.shows v)) self.old self.new) }
         ensures err { IfErr result (λ e.
             Missed (is_of L.kind) (L.grows || R.buffers) R.buffers self.old self.new e) }
-        ensures exact { IsTrue self.old.answers → Exact L.shows (L.grows || R.buffers) R.buffers
+        ensures exact { self.old.ended ≡ false → Exact L.shows (L.grows || R.buffers) R.buffers
             (item_at (data_at L.kind) (stands_under self.old)) self.old.reading result
             self.new.reading }
         ensures named { IfErr result (λ e. Named (scalar_refusal L.kind) (L.grows || R.buffers)
             R.buffers self.old self.new e) }
-        ensures bytes_first { IsTrue L.grows → IsTrue self.old.answers →
+        ensures bytes_first { IsTrue L.grows → self.old.ended ≡ false →
             IfErr result (λ e.
             BytesFirst R.buffers (item_at (data_at L.kind) (stands_under self.old))
             self.old.reading e) }
         ensures stops { Stops self.old result self.new }
     {
-        if !self.answers {
+        if self.ended {
             return Err(Error::InvalidValue);
         }
         match self.begin() {
             Ok(code) => match leaf.read(&mut self.reader, code) {
                 Ok(value) => {
-                    self.answers = true;
+                    self.ended = false;
                     Ok(value)
                 }
                 Err(e) => Err(e),

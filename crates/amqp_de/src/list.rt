@@ -7,11 +7,11 @@ ghost use Rattle.amqp_base.specs.Item.{Item, none};
 ghost use Rattle.amqp_base.specs.declared.error.Error.TheVariants.{SequenceLengthMismatch};
 ghost use Rattle.amqp_de.specs.Access.{Within, HasParts, Ends, Opens, OpensExactly, OpensNot};
 ghost use Rattle.amqp_de.specs.Access.{Plain};
-ghost use Rattle.amqp_de.specs.Decoding.{silenced};
+ghost use Rattle.amqp_de.specs.Decoding.{as_ended};
 ghost use Rattle.amqp_base.specs.Parse.{list_data, tuple_data};
 ghost use Rattle.amqp_de.specs.Places.{limit_of};
 ghost use Rattle.amqp_de.specs.ReadParts.{Progress, RefusesTuple, open_list};
-ghost use Rattle.amqp_de.specs.ReadPairs.{broken_off};
+ghost use Rattle.amqp_de.specs.ReadPairs.{ended_access};
 ghost use Rattle.amqp_de.specs.Seq.{listing, at_open};
 ghost use Rattle.amqp_de.specs.contracts.deserializer.Deserializer.{the_row};
 ghost use Rattle.amqp_de.specs.Calls.{NextElement, ElementNamed};
@@ -24,8 +24,8 @@ use amqp_read::Read;
 use std::alloc::Global;
 use std::mem;
 
-/// The parts of an item, one at a time. Its deserializer answers nothing until `end` succeeded;
-/// where the access is dropped before, the deserializer is ended.
+/// The parts of an item, one at a time. Where the access is dropped before its `end`, its
+/// deserializer is ended.
 pub struct Access<'a, R: Read, F, O = Open> {
     pub(crate) de: &'a mut Deserializer<R>,
     pub(crate) inner: O,
@@ -34,13 +34,14 @@ pub struct Access<'a, R: Read, F, O = Open> {
 
 impl<R: Read, F: Drop, O: Drop> Drop for Access<'_, R, F, O> {
     fn drop(self)
-        ensures { self.exit.0.now ≡ self.entry.de.now }
+        ensures { self.exit.0.now ≡ as_ended self.entry.de.now }
     {
         let Access {
-            de: _,
+            de,
             inner: _,
             form: _,
         } = self;
+        de.ended = true;
     }
 }
 
@@ -58,12 +59,10 @@ pub type ListAccess<'a, R> = Access<'a, R, Elements>;
 /// The keys and values of a map (part 1, section 1.6.23), one pair at a time.
 pub type MapAccess<'a, R> = Access<'a, R, Entries>;
 
-/// How many parts are left, whether calls are answered, what was inherited before, and where the
-/// parts must have ended.
+/// How many parts are left, what was inherited before, and where the parts must have ended.
 #[derive(Drop)]
 pub struct Open {
     pub(crate) left: u32,
-    pub(crate) answers: bool,
     pub(crate) outer: Constructor,
     pub(crate) limit: Option<Limit>,
 }
@@ -80,18 +79,12 @@ fn is_within(consumed: usize, limit: &Option<Limit>) -> bool
 }
 
 impl<R: Read> Deserializer<R> {
+    /// Every later call is refused.
     #[inline(always)]
-    fn set_answers(&mut self, answers: bool)
-        ensures { self.new ≡ record {
-          reading = self.old.reading;
-          answers = answers;
-          inherited =
-              self.old.inherited;
-          described = self.old.described;
-          begun = self.old.begun;
-        } }
+    pub(crate) fn stop(&mut self)
+        ensures { self.new ≡ as_ended self.old }
     {
-        self.answers = answers;
+        self.ended = true;
     }
 
     #[inline(always)]
@@ -110,17 +103,19 @@ impl<R: Read> Deserializer<R> {
         ensures err { IfErr result (λ e.
             OpensNot HasParts list_data R.buffers R.buffers self.old self.new e) }
     {
-        if !self.answers {
+        if self.ended {
             return Err(Error::InvalidValue);
         }
         match self.begin() {
             Ok(code) => match list_count(&mut self.reader, code) {
-                Ok(left) => Ok(Open {
-                    left,
-                    answers: true,
-                    outer: mem::replace(&mut self.inherited, Constructor::Bare),
-                    limit: None,
-                }),
+                Ok(left) => {
+                    self.ended = false;
+                    Ok(Open {
+                        left,
+                        outer: mem::replace(&mut self.inherited, Constructor::Bare),
+                        limit: None,
+                    })
+                }
                 Err(e) => Err(e),
             },
             Err(e) => Err(e),
@@ -160,6 +155,7 @@ impl<R: Read> Deserializer<R> {
         match self.open_list() {
             Ok(opened) => {
                 if opened.left as usize != len {
+                    self.stop();
                     return Err(Error::SequenceLengthMismatch);
                 }
                 Ok(opened)
@@ -215,7 +211,7 @@ impl<'a, R: Read> Access<'a, R, Elements> {
 }
 
 impl<'a, R: Read, F: Copy> Access<'a, R, F> {
-    /// Ends the access: its deserializer answers again. Nothing is consumed.
+    /// Ends the access: its deserializer reads on behind it. Nothing is consumed.
     ///
     /// `SequenceLengthMismatch` where elements were left unread, `InvalidValue` after a refusal;
     /// the deserializer is ended then.
@@ -228,8 +224,8 @@ impl<'a, R: Read, F: Copy> Access<'a, R, F> {
     }
 }
 
-/// What `SeqAccess::end` answers: the deserializer behind an access that ended. It answers again
-/// once this is dropped.
+/// What `SeqAccess::end` answers: the deserializer behind an access, which reads on once this is
+/// dropped.
 #[derive(Drop)]
 pub struct Ended<'a, R: Read> {
     de: &'a mut Deserializer<R>,
@@ -241,34 +237,34 @@ impl<'a, R: Read, F: Copy> Access<'a, R, F> {
     pub(crate) fn refuse(&mut self) -> Error
         ensures same_reference { self.new.de.ghost_name ≡ self.old.de.ghost_name }
         ensures error { result ≡ Error.InvalidValue }
-        ensures broken { listing self.new ≡ broken_off (listing self.old) }
+        ensures stopped { listing self.new ≡ ended_access (listing self.old) }
     {
-        self.inner.answers = false;
+        self.de.stop();
         Error::InvalidValue
     }
 
     #[inline(always)]
     pub(crate) fn closed(self) -> Result<Ended<'a, R>, Error>
         ensures* refused { sem 𝓛 (RestsIfErr (the_row R.row R.Read) self.entry.de (λ d.
-            d.de.ghost_name) result (λ last. last ≡ silenced (listing self.entry).state)) }
+            d.de.ghost_name) result (λ last. last ≡ as_ended (listing self.entry).state)) }
         ensures same_reference { IfOk result (λ d. d.de.ghost_name ≡ self.entry.de.ghost_name) }
         ensures ok { IfOk result (λ d. Ends (listing self.entry) (Ok tt) d.de.now) }
         ensures err { IfErr result (λ e.
-            Ends (listing self.entry) (Err e) (silenced (listing self.entry).state)) }
+            Ends (listing self.entry) (Err e) (as_ended (listing self.entry).state)) }
     {
         let Access { de, inner, form: _ } = self;
-        de.ended(inner)
+        de.end_access(inner)
     }
 }
 
 impl<R: Read> Deserializer<R> {
-    pub(crate) fn ended(&mut self, inner: Open) -> Result<Ended<'_, R>, Error>
+    fn end_access(&mut self, inner: Open) -> Result<Ended<'_, R>, Error>
         ensures* refused { sem 𝓛 (RestsIfErr (the_row R.row R.Read) self.entry (λ d.
-            d.de.ghost_name) result (λ last. last ≡ silenced self.old)) }
+            d.de.ghost_name) result (λ last. last ≡ as_ended self.old)) }
         ensures same_reference { IfOk result (λ d. d.de.ghost_name ≡ self.entry.ghost_name) }
         ensures ok { IfOk result (λ d. Ends (at_open self.old inner) (Ok tt) d.de.now) }
         ensures err { IfErr result (λ e.
-            Ends (at_open self.old inner) (Err e) (silenced self.old)) }
+            Ends (at_open self.old inner) (Err e) (as_ended self.old)) }
     {
         self.close(inner)?;
         Ok(Ended { de: self })
@@ -286,28 +282,25 @@ impl<R: Read> Deserializer<R> {
         ensures named { IfErr result (λ e. ElementNamed T.meaning R.buffers
             (at_open self.old inner.old) (at_open self.new inner.new) e) }
     {
-        if !inner.answers {
+        if self.ended {
             return Err(Error::InvalidValue);
         }
         if inner.left == 0 {
             return Ok(None);
         }
-        inner.answers = false;
-        self.set_answers(true);
         match T::deserialize(alloc, self) {
             Ok(item) => {
-                self.set_answers(false);
                 let consumed = self.bytes_consumed();
                 let within = is_within(consumed, &inner.limit);
                 if !within {
+                    self.stop();
                     return Err(Error::InvalidValue);
                 }
-                inner.answers = true;
                 inner.left -= 1;
                 Ok(Some(item))
             }
             Err(e) => {
-                self.set_answers(false);
+                self.stop();
                 Err(e)
             }
         }
@@ -317,10 +310,11 @@ impl<R: Read> Deserializer<R> {
     #[inline(always)]
     pub(crate) fn close(&mut self, inner: Open) -> Result<(), Error>
         ensures ends { Ends (at_open self.old inner) result self.new }
-        ensures silent { IfErr result (λ e. self.new ≡ silenced self.old) }
+        ensures stopped { IfErr result (λ e. self.new ≡ as_ended self.old) }
     {
-        self.answers = false;
-        if !inner.answers {
+        let ended = self.ended;
+        self.ended = true;
+        if ended {
             return Err(Error::InvalidValue);
         }
         if inner.left > 0 {
@@ -328,12 +322,11 @@ impl<R: Read> Deserializer<R> {
         }
         let Open {
             left: _,
-            answers: _,
             outer,
             limit: _,
         } = inner;
         self.inherited = outer;
-        self.answers = true;
+        self.ended = false;
         Ok(())
     }
 }

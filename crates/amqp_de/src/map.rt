@@ -32,17 +32,19 @@ impl<R: Read> Deserializer<R> {
         ensures err { IfErr result (λ e.
             OpensNot HasPairs map_data R.buffers R.buffers self.old self.new e) }
     {
-        if !self.answers {
+        if self.ended {
             return Err(Error::InvalidValue);
         }
         match self.begin() {
             Ok(code) => match map_count(&mut self.reader, code) {
-                Ok(left) => Ok(Open {
-                    left,
-                    answers: true,
-                    outer: mem::replace(&mut self.inherited, Constructor::Bare),
-                    limit: None,
-                }),
+                Ok(left) => {
+                    self.ended = false;
+                    Ok(Open {
+                        left,
+                        outer: mem::replace(&mut self.inherited, Constructor::Bare),
+                        limit: None,
+                    })
+                }
                 Err(e) => Err(e),
             },
             Err(e) => Err(e),
@@ -104,7 +106,7 @@ impl<'a, R: Read> Access<'a, R, Entries> {
             (open_list self.new) e) }
     {
         if self.inner.left % 2 == 1 {
-            self.inner.answers = false;
+            self.de.stop();
             return Err(Error::InvalidValue);
         }
         match self.de.next_part(alloc, &mut self.inner) {
@@ -127,7 +129,7 @@ impl<'a, R: Read> Access<'a, R, Entries> {
             (open_list self.new) e) }
     {
         if self.inner.left % 2 == 0 {
-            self.inner.answers = false;
+            self.de.stop();
             return Err(Error::InvalidValue);
         }
         match self.de.next_part(alloc, &mut self.inner) {

@@ -1,6 +1,6 @@
 //! Structs that are read by their fields.
 
-ghost use Rattle.std.specs.Prelude.{◌≡◌, false, IfOk, IfErr, OnErr};
+ghost use Rattle.std.specs.Prelude.{◌≡◌, IsTrue, IfOk, IfErr, OnErr};
 ghost use Rattle.amqp_de.specs.Calls.{FieldsRead, NamedRead, RowRead, FieldsRefused, NamedRefused};
 ghost use Rattle.amqp_de.specs.Calls.{RowRefused, RowNamed, MapNamed, FieldsNamed};
 ghost use Rattle.amqp_de.specs.Steps.{Stops};
@@ -60,7 +60,7 @@ impl<R: Read> Deserializer<R> {
             NamedRefused (S.slots fields) R.buffers self.old self.new e) }
         ensures named { IfErr result (λ e. MapNamed (S.slots fields) S.takes S.refuses R.buffers
             self.old self.new e) }
-        ensures closed { OnErr result (self.new.answers ≡ false) }
+        ensures ended { OnErr result (IsTrue self.new.ended) }
     {
         let mut slots = fields;
         let mut map = self.deserialize_map()?;
@@ -96,7 +96,7 @@ impl<R: Read> Deserializer<R> {
             RowRefused (S.slots fields) S.grows R.buffers self.old self.new e) }
         ensures named { IfErr result (λ e. RowNamed (S.slots fields) S.takes S.refuses S.grows
             R.buffers self.old self.new e) }
-        ensures closed { OnErr result (self.new.answers ≡ false) }
+        ensures ended { OnErr result (IsTrue self.new.ended) }
     {
         let mut slots = fields;
         let mut list = self.deserialize_list()?;

@@ -4,7 +4,7 @@ ghost use Rattle.std.specs.Prelude.{◌≡◌, Ok, Err, IfOk, IfErr};
 ghost use Rattle.std.specs.Borrow.{sem, RestsIfErr};
 ghost use Rattle.amqp_de.specs.Access.{HasElements, elements_data, Ends, Opens, OpensExactly};
 ghost use Rattle.amqp_de.specs.Access.{Plain};
-ghost use Rattle.amqp_de.specs.Decoding.{silenced};
+ghost use Rattle.amqp_de.specs.Decoding.{as_ended};
 ghost use Rattle.amqp_de.specs.ReadParts.{RefusesElements, open_list, open_seq};
 ghost use Rattle.amqp_de.specs.Seq.{lender_of, seq_listing, at_open};
 ghost use Rattle.amqp_de.specs.contracts.deserializer.Deserializer.{the_row};
@@ -16,8 +16,8 @@ use amqp_base::Error;
 use amqp_read::Read;
 use std::alloc::Global;
 
-/// The parts of a sequence, in the form that the item has. Its deserializer answers nothing until
-/// `end` succeeded; where the access is dropped before, the deserializer is ended.
+/// The parts of a sequence, in the form that the item has. Where the access is dropped before its
+/// `end`, its deserializer is ended.
 #[derive(Drop)]
 pub enum SeqAccess<'a, R: Read> {
     /// The item is a list.
@@ -101,7 +101,7 @@ impl<'a, R: Read> SeqAccess<'a, R> {
         }
     }
 
-    /// Ends the access where all parts were read: the deserializer answers again. Nothing is
+    /// Ends the access where all parts were read: the deserializer reads on behind it. Nothing is
     /// consumed.
     ///
     /// `SequenceLengthMismatch` where parts were left unread, `InvalidValue` after a refusal; the
@@ -109,12 +109,12 @@ impl<'a, R: Read> SeqAccess<'a, R> {
     #[inline(always)]
     pub fn end(self) -> Result<Ended<'a, R>, Error>
         ensures* refused { sem 𝓛 (RestsIfErr (the_row R.row R.Read) (lender_of self.entry) (λ d.
-            d.de.ghost_name) result (λ last. last ≡ silenced (seq_listing self.entry).state)) }
+            d.de.ghost_name) result (λ last. last ≡ as_ended (seq_listing self.entry).state)) }
         ensures same_reference { IfOk result (λ d.
             d.de.ghost_name ≡ (lender_of self.entry).ghost_name) }
         ensures ok { IfOk result (λ d. Ends (seq_listing self.entry) (Ok tt) d.de.now) }
         ensures err { IfErr result (λ e.
-            Ends (seq_listing self.entry) (Err e) (silenced (seq_listing self.entry).state)) }
+            Ends (seq_listing self.entry) (Err e) (as_ended (seq_listing self.entry).state)) }
     {
         match self {
             SeqAccess::List(list) => list.closed(),

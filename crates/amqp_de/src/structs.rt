@@ -5,7 +5,7 @@ ghost use Rattle.std.specs.Borrow.{sem, RestsIfErr};
 ghost use Rattle.amqp_base.specs.Codes.{Kind, row};
 ghost use Rattle.amqp_base.specs.Structs.{is_described_name};
 ghost use Rattle.amqp_de.specs.Access.{Ends};
-ghost use Rattle.amqp_de.specs.Decoding.{silenced};
+ghost use Rattle.amqp_de.specs.Decoding.{as_ended};
 ghost use Rattle.amqp_de.specs.Seq.{at_open};
 ghost use Rattle.amqp_de.specs.Forms.{struct_listing, struct_lender, FormOpened, StructOpened};
 ghost use Rattle.amqp_de.specs.Forms.{TupleOpened, IsRow, NoStruct, RefusesStruct, RefusesRow};
@@ -18,8 +18,8 @@ use amqp_base::{DESCRIBED_BASIC, DESCRIBED_LIST, DESCRIBED_MAP, EncodingCodes, E
 use amqp_read::Read;
 use std::alloc::Global;
 
-/// The fields of a struct, in the form that the item has. Its deserializer answers nothing until
-/// `end` succeeded; where the access is dropped before, the deserializer is ended.
+/// The fields of a struct, in the form that the item has. Where the access is dropped before its
+/// `end`, its deserializer is ended.
 #[derive(Drop)]
 pub enum StructAccess<'a, R: Read> {
     /// The item is a list of the fields, in order.
@@ -87,7 +87,7 @@ impl<R: Read> Deserializer<R> {
         ensures described { is_described_name name.now ≡ true → result ≡ Err Error.InvalidValue }
     {
         if is_described(name) {
-            self.answers = false;
+            self.ended = true;
             return Err(Error::InvalidValue);
         }
         self.open_form(len)
@@ -100,7 +100,7 @@ impl<R: Read> Deserializer<R> {
         ensures described { is_described_name name.now ≡ true → result ≡ Err Error.InvalidValue }
     {
         if is_described(name) {
-            self.answers = false;
+            self.ended = true;
             return Err(Error::InvalidValue);
         }
         self.open_tuple(len)
@@ -239,19 +239,19 @@ impl<'a, R: Read> StructAccess<'a, R> {
         }
     }
 
-    /// Ends the access where all fields were read: the deserializer answers again. Nothing is
+    /// Ends the access where all fields were read: the deserializer reads on behind it. Nothing is
     /// consumed.
     ///
     /// `SequenceLengthMismatch` where something was left unread, `InvalidValue` after a refusal;
     /// the deserializer is ended then.
     pub fn end(self) -> Result<Ended<'a, R>, Error>
         ensures* refused { sem 𝓛 (RestsIfErr (the_row R.row R.Read) (struct_lender self.entry) (λ d.
-            d.de.ghost_name) result (λ last. last ≡ silenced (struct_listing self.entry).state)) }
+            d.de.ghost_name) result (λ last. last ≡ as_ended (struct_listing self.entry).state)) }
         ensures same_reference { IfOk result (λ d.
             d.de.ghost_name ≡ (struct_lender self.entry).ghost_name) }
         ensures ok { IfOk result (λ d. Ends (struct_listing self.entry) (Ok tt) d.de.now) }
         ensures err { IfErr result (λ e.
-            Ends (struct_listing self.entry) (Err e) (silenced (struct_listing self.entry).state)) }
+            Ends (struct_listing self.entry) (Err e) (as_ended (struct_listing self.entry).state)) }
     {
         match self {
             StructAccess::List(list) => list.closed(),

@@ -40,7 +40,7 @@ consumed (Some t) (Some u) s x e c = (u, sym (same_Some t s e) ∙ c)
 
 -- a deserializer over these bytes
 abbrev pub fresh : List ℕ → Decoding
-fresh s = record { reading = record { to_come = Some s; taken = 0; received = []; faults = 0; last_fault = None; honest = true; origin = [] }; answers = true; inherited = bare; described = false; begun = 0 }
+fresh s = record { reading = record { to_come = Some s; taken = 0; received = []; faults = 0; last_fault = None; honest = true; origin = [] }; ended = false; inherited = bare; described = false; begun = 0 }
 
 -- a value was read; it consumed so many bytes
 pub read_value : {T : Type 0} (taken_by : Item → Bool) (means : Item → T → Type 0) (written : T → Item) (s : List ℕ) (v : T) (t : Option (List ℕ)) (old new : Decoding) → old ≡ fresh s → Found taken_by (λ i. means i v) old new → canon (written v) ≡ t

@@ -54,7 +54,7 @@ reads_value takes means grows s v r = record {
   answer = λ i n f t. subst (λ (z : Item). means z v) (same_item s r.item i r.length n r.front f) r.value;
 }
 
-pub reads_refused : {T : Type 0} (takes : Item → Bool) (means : Item → T → Type 0) (grows : Bool) (s : List ℕ) (e : Error) (old new : Decoding) → stands_under old ≡ bare → IsTrue old.answers → IsTrue old.reading.honest → old.reading.to_come ≡ Some s
+pub reads_refused : {T : Type 0} (takes : Item → Bool) (means : Item → T → Type 0) (grows : Bool) (s : List ℕ) (e : Error) (old new : Decoding) → stands_under old ≡ bare → old.ended ≡ false → IsTrue old.reading.honest → old.reading.to_come ≡ Some s
     → Missed takes (grows || false) false old new e → ReadsAll takes means grows s (Err e)
 reads_refused takes means grows s e old new b a h at m = record {
   answer = λ i n f t. excused grows old.reading new.reading e (m.why a i (take n s) (drop n s) (rw b f.spelled) t (at ∙ ap Some (sym (take-append-drop n s))) h);
@@ -67,7 +67,7 @@ wants_memory takes old new grows (Err e) m = λ h. or_false grows (m.memory h)
 
 -- a deserializer over these bytes
 abbrev pub fresh : List ℕ → Decoding
-fresh s = record { reading = record { to_come = Some s; taken = 0; received = []; faults = 0; last_fault = None; honest = true; origin = [] }; answers = true; inherited = bare; described = false; begun = 0 }
+fresh s = record { reading = record { to_come = Some s; taken = 0; received = []; faults = 0; last_fault = None; honest = true; origin = [] }; ended = false; inherited = bare; described = false; begun = 0 }
 
 pub found_from : {T : Type 0} (takes : Item → Bool) (means : Item → T → Type 0) (s : List ℕ) (old new : Decoding) (r : Result T Error) → old ≡ fresh s → IfOk r (λ v. Found takes (λ i. means i v) old new) → IfOk r (λ v. ReadFrom takes (λ i. means i v) s)
 found_from takes means s old new (Ok v) e f =

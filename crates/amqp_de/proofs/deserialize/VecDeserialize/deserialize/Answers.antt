@@ -6,7 +6,7 @@ use Rattle.amqp_de.specs.ReadParts.{open_list}
 use Rattle.amqp_de.proofs.Sequence.{Sofar, sofar_start, sofar_step, none_opened, part_missed, push_missed, seq_found}
 use Rattle.amqp_de.proofs.Naming.{named_on}
 use Rattle.amqp_de.proofs.NamedParts.{reaches_start, reaches_step, unopened_as, list_part, no_room_as, no_end}
-use Rattle.amqp_de.proofs.ReadParts.{missed_on}
+use Rattle.amqp_de.proofs.ReadParts.{missed_on, missed_at, missed_dropped}
 use Rattle.amqp_de.proofs.deserialize.VecDeserialize.deserialize.Goals as goal
 
 pub returns-in_err-access-clause-err : goal.returns-in_err-access-clause-err
@@ -18,7 +18,7 @@ returns-in_err-access-clause-err g c =
 pub returns-in-Err-clause-err : goal.returns-in-Err-clause-err
 unfolding open_list
 returns-in-Err-clause-err g c =
-    part_missed g.T.Typed.meaning.takes g.T.Typed.meaning.means g.R.Read.buffers c.args.de.now (listing c.in_ok-access.access) (listing c.items.access) c.items.items.items c.in_ok-access.ensures.opened c.items.invariant.sofar (g.T.Typed.meaning.grows || g.R.Read.buffers) (listing c.next_element.new.self) _ _ c.in-Err.ensures.next (search rules)
+    missed_at _ _ (search rules) (missed_dropped (part_missed g.T.Typed.meaning.takes g.T.Typed.meaning.means g.R.Read.buffers c.args.de.now (listing c.in_ok-access.access) (listing c.items.access) c.items.items.items c.in_ok-access.ensures.opened c.items.invariant.sofar (g.T.Typed.meaning.grows || g.R.Read.buffers) (listing c.next_element.new.self) _ c.in-Err.ensures.next))
 
 pub items-init : goal.items-init
 unfolding open_list
@@ -68,7 +68,7 @@ unfolding open_list
 returns-in-Err-clause-named g c =
     let v = c.items.invariant in
     let a = c.in_ok-access.ensures in
-    list_part g.T.Typed.meaning.takes g.T.Typed.meaning.refuses g.R.Read.buffers c.args.de.now _ _ _ _ _ a.opened a.exact v.sofar.reads v.reaches (c.in-Err.ensures.next.some_left v.sofar.reads.answers) c.in-Err.ensures.named (search rules)
+    list_part g.T.Typed.meaning.takes g.T.Typed.meaning.refuses g.R.Read.buffers c.args.de.now _ _ _ _ _ a.opened a.exact v.sofar.reads v.reaches (c.in-Err.ensures.next.some_left v.sofar.reads.not_ended) c.in-Err.ensures.named (search rules)
 
 pub returns-in_err-push-clause-named : goal.returns-in_err-push-clause-named
 returns-in_err-push-clause-named g c = named_on _ _ _ c.from_residual-in_err-push.ensures.1 refl (no_room_as _ g.R.Read.buffers _ _)

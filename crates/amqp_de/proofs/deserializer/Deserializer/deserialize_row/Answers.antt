@@ -1,9 +1,9 @@
 use Rattle.std.proofs.Common.{rules, refl, sym, ◌∙◌, ◌||◌}
-use Rattle.amqp_de.proofs.Naming.{named_on}
+use Rattle.amqp_de.proofs.Naming.{named_on, named_dropped}
 use Rattle.amqp_de.proofs.NamedParts.{no_end}
 use Rattle.amqp_de.proofs.NamedRows.{row_unopened, row_of_others, row_named, none_behind}
 use Rattle.amqp_de.specs.ReadParts.{open_list}
-use Rattle.amqp_de.proofs.ReadParts.{missed_by, or_right, found_at, found_meant, fields_unopened, end_answered, end_refused, closed_at, on_err}
+use Rattle.amqp_de.proofs.ReadParts.{missed_by, or_right, found_at, found_meant, fields_unopened, end_answered, end_refused, missed_dropped}
 use Rattle.amqp_de.proofs.StructForms.{row_opened, other_row, unread}
 use Rattle.amqp_de.proofs.deserializer.Deserializer.deserialize_row.Goals as goal
 
@@ -22,7 +22,7 @@ returns-then-not-are-clause-err g c = other_row _ g.R.Read.buffers _ _ _ c.in_ok
 pub returns-in_err-read_elements-clause-err : goal.returns-in_err-read_elements-clause-err
 returns-in_err-read_elements-clause-err g c =
     missed_by _ _ _ (λ h. h) c.from_residual-in_err-read_elements.ensures.1 (search rules)
-    (c.in_err-read_elements.ensures.refused _ _ _ _ (row_opened _ _ c.in_ok-list.ensures.opened (g.S.Fields.slots c.args.fields).kinds)).missed
+    (missed_dropped (c.in_err-read_elements.ensures.refused _ _ _ _ (row_opened _ _ c.in_ok-list.ensures.opened (g.S.Fields.slots c.args.fields).kinds)))
 
 -- a field has no value, though every element was read
 pub returns-in_default-clause-err : goal.returns-in_default-clause-err
@@ -42,17 +42,6 @@ returns-clause-ok g c =
     let values = c.into_values.ensures.some _ c.in-Some.is in
     found_at _ _ (search rules) (found_meant _ _ _ _ _ (end_answered _ row.progress c.in_ok-end.ensures.ends) (row.meant _ values.holds).1)
 
--- no call is answered behind a refusal
-pub returns-in_err-read_elements-clause-closed : goal.returns-in_err-read_elements-clause-closed
-returns-in_err-read_elements-clause-closed g c =
-    on_err _ (closed_at (search rules) (c.in_err-read_elements.ensures.refused _ _ _ _ (row_opened _ _ c.in_ok-list.ensures.opened (g.S.Fields.slots c.args.fields).kinds)).closed)
-
-pub returns-in_default-clause-closed : goal.returns-in_default-clause-closed
-unfolding open_list
-returns-in_default-clause-closed g c =
-    let row = c.in_ok-read_elements.ensures.read _ _ _ _ (row_opened _ _ c.in_ok-list.ensures.opened (g.S.Fields.slots c.args.fields).kinds) in
-    closed_at (search rules) row.progress.reads.closed
-
 -- ---- refusals by name
 
 pub returns-in_err-list-clause-named : goal.returns-in_err-list-clause-named
@@ -71,7 +60,7 @@ unfolding open_list
 returns-in_err-read_elements-clause-named g c =
     let s = g.S.Fields.slots c.args.fields in
     let o = c.in_ok-list.ensures in
-    named_on _ _ _ c.from_residual-in_err-read_elements.ensures.1 (search rules) (row_named s.awaited g.S.Fields.takes g.S.Fields.refuses _ _ _ _ _ _ o.opened o.exact o.plain (sym (c.are.ensures.yes c.if-not-are.false) ∙ s.counted) c.in_err-read_elements.ensures.named)
+    named_on _ _ _ c.from_residual-in_err-read_elements.ensures.1 (search rules) (named_dropped (row_named s.awaited g.S.Fields.takes g.S.Fields.refuses _ _ _ _ _ _ o.opened o.exact o.plain (sym (c.are.ensures.yes c.if-not-are.false) ∙ s.counted) c.in_err-read_elements.ensures.named))
 
 pub returns-in_default-clause-named : goal.returns-in_default-clause-named
 returns-in_default-clause-named g c =

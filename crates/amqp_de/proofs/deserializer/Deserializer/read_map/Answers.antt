@@ -1,12 +1,12 @@
 use Rattle.std.proofs.Common.{rules, refl, ap, ◌∙◌, true, false}
-use Rattle.amqp_de.specs.Access.{Listing, ended}
+use Rattle.amqp_de.specs.Access.{Listing, behind_end}
 use Rattle.amqp_de.specs.ReadParts.{open_list}
 use Rattle.amqp_de.proofs.LookedFirst.{custom_device}
-use Rattle.amqp_de.proofs.ReadParts.{missed_on, missed_at, found_at, closed_at}
+use Rattle.amqp_de.proofs.ReadParts.{missed_on, missed_at, missed_dropped, found_at}
 use Rattle.amqp_de.proofs.Naming.{named_on}
 use Rattle.amqp_de.proofs.NamedParts.{reaches_start, unopened_as, no_end, taken_since}
 use Rattle.amqp_de.proofs.NamedFields.{reaches_name, reaches_value, key_named, value_named, missing_named}
-use Rattle.amqp_de.proofs.StructRead.{struct_start, name_read, field_read, map_unopened, no_field_closed, key_missed, field_missed, missing, struct_found}
+use Rattle.amqp_de.proofs.StructRead.{struct_start, name_read, field_read, map_unopened, key_missed, field_missed, missing, struct_found}
 use Rattle.amqp_de.proofs.deserializer.Deserializer.read_map.Goals as goal
 
 -- no map was opened
@@ -26,7 +26,7 @@ pairs-init g c = record {
 -- a key was refused
 pub returns-in-Err-clause-err : goal.returns-in-Err-clause-err
 unfolding open_list
-returns-in-Err-clause-err g c = missed_at _ _ (search rules) (key_missed _ _ _ _ c.pairs.invariant.sofar _ _ _ _ c.in-Err.ensures.next)
+returns-in-Err-clause-err g c = missed_at _ _ (search rules) (missed_dropped (key_missed _ _ _ _ c.pairs.invariant.sofar _ _ _ _ c.in-Err.ensures.next))
 
 -- a field was refused
 pub returns-in-Err-read_field-clause-err : goal.returns-in-Err-read_field-clause-err
@@ -34,7 +34,7 @@ unfolding open_list
 returns-in-Err-read_field-clause-err g c =
     let n = rw c.in-Some.is at c.in-Ok.ensures.next in
     let refused = rw c.as_str.ensures.value at c.in-Err-read_field.ensures.refused in
-    missed_at _ _ (search rules) (field_missed _ _ _ _ _ (name_read _ _ _ _ c.pairs.invariant.sofar c.in-Some.name _ n.0) _ _ _ refused)
+    missed_at _ _ (search rules) (missed_dropped (field_missed _ _ _ _ _ (name_read _ _ _ _ c.pairs.invariant.sofar c.in-Some.name _ n.0) _ _ _ refused))
 
 pub pairs-preserved : goal.pairs-preserved
 unfolding open_list
@@ -50,16 +50,6 @@ pairs-preserved g c =
       reaches = reaches_value _ _ _ _ _ _ _ _ _ _ v.names (reaches_name _ _ _ _ _ c.in-Some.name _ _ _ v.reaches n.0) picked;
     }
 
-pub returns-in-Err-clause-closed : goal.returns-in-Err-clause-closed
-unfolding open_list
-returns-in-Err-clause-closed g c = closed_at (search rules) (c.in-Err.ensures.next.silent c.pairs.invariant.sofar.reads.closed)
-
-pub returns-in-Err-read_field-clause-closed : goal.returns-in-Err-read_field-clause-closed
-unfolding open_list
-returns-in-Err-read_field-clause-closed g c =
-    let n = rw c.in-Some.is at c.in-Ok.ensures.next in
-    closed_at (search rules) (no_field_closed c.in-Err-read_field.ensures.refused n.0.closed)
-
 -- a field is missing
 pub returns-in_default-into_values-clause-err : goal.returns-in_default-into_values-clause-err
 unfolding open_list
@@ -72,7 +62,7 @@ unfolding open_list
 returns-clause-ok g c =
     let values = c.into_values.ensures.some _ c.in-Some-into_values.is in
     let n = rw c.in_default.is at c.in-Ok.ensures.next in
-    found_at _ _ (search rules) (struct_found _ _ _ _ c.pairs.invariant.sofar _ values _ n.0 (c.in_ok-end.ensures.ends.is ∙ ap (λ (l : Listing). ended l) n.1))
+    found_at _ _ (search rules) (struct_found _ _ _ _ c.pairs.invariant.sofar _ values _ n.0 (c.in_ok-end.ensures.ends.is ∙ ap (λ (l : Listing). behind_end l) n.1))
 
 -- ---- refusals by name
 
@@ -86,7 +76,7 @@ unfolding open_list
 returns-in-Err-clause-named g c =
     let v = c.pairs.invariant in
     let s = v.sofar in
-    key_named _ _ _ g.R.Read.buffers _ _ _ c.in_ok-map.ensures.exact _ _ _ _ (taken_since s.opened s.reads) v.reaches s.reads.answers s.turn ((c.in-Err.ensures.next.refused s.turn).some_left s.reads.answers) (search rules) c.in-Err.ensures.named
+    key_named _ _ _ g.R.Read.buffers _ _ _ c.in_ok-map.ensures.exact _ _ _ _ (taken_since s.opened s.reads) v.reaches s.reads.not_ended s.turn ((c.in-Err.ensures.next.refused s.turn).some_left s.reads.not_ended) (search rules) c.in-Err.ensures.named
 
 pub returns-in-Err-read_field-clause-named : goal.returns-in-Err-read_field-clause-named
 unfolding open_list
@@ -95,7 +85,7 @@ returns-in-Err-read_field-clause-named g c =
     let n = rw c.in-Some.is at c.in-Ok.ensures.next in
     let refused = rw c.as_str.ensures.value at c.in-Err-read_field.ensures.named in
     let s = name_read _ _ _ _ v.sofar c.in-Some.name _ n.0 in
-    value_named _ _ _ g.R.Read.buffers _ _ _ c.in_ok-map.ensures.exact _ _ _ _ _ v.names (taken_since s.opened s.reads) (reaches_name _ _ _ _ _ c.in-Some.name _ _ _ v.reaches n.0) s.reads.answers s.turn (search rules) refused
+    value_named _ _ _ g.R.Read.buffers _ _ _ c.in_ok-map.ensures.exact _ _ _ _ _ v.names (taken_since s.opened s.reads) (reaches_name _ _ _ _ _ c.in-Some.name _ _ _ v.reaches n.0) s.reads.not_ended s.turn (search rules) refused
 
 pub returns-in_default-into_values-clause-named : goal.returns-in_default-into_values-clause-named
 unfolding open_list

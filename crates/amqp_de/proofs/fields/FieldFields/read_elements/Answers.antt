@@ -1,8 +1,9 @@
 use Rattle.std.proofs.Common.{rules, ◌||◌, arith}
 use Rattle.amqp_de.specs.ReadParts.{open_list}
-use Rattle.amqp_de.proofs.ReadParts.{part_read, or_left, or_right, or_more}
+use Rattle.amqp_de.proofs.ReadParts.{part_read, part_refused, none_left, or_left, or_right, or_more}
 use Rattle.amqp_de.proofs.NamedRows.{elements_had, element_refused, element_none, elements_behind}
-use Rattle.amqp_de.proofs.Slots.{row_had, row_more, row_refused, row_refused_more, row_ended}
+use Rattle.amqp_de.proofs.PartsRead.{missed_more}
+use Rattle.amqp_de.proofs.Slots.{row_had, row_more}
 use Rattle.amqp_de.proofs.fields.FieldFields.read_elements.Goals as goal
 use Rattle.amqp_de.proofs.fields.FieldFields.read_elements.Goals.{in-Some, in-None+in-Ok-Some}
 
@@ -10,10 +11,10 @@ use Rattle.amqp_de.proofs.fields.FieldFields.read_elements.Goals.{in-Some, in-No
 pub returns-in-Ok-None-clause-refused : goal.returns-in-Ok-None-clause-refused
 returns-in-Ok-None-clause-refused g c =
     let n = rw c.in-Ok-None.field-0-is at c.in-Ok-None.ensures.next in
-    rw c.in-None.is (λ old all rest parts p. row_ended _ _ p n.0 n.1)
+    rw c.in-None.is (λ old all rest parts p. none_left _ _ p n.0 n.1)
 
 pub returns-in-Err-clause-refused : goal.returns-in-Err-clause-refused
-returns-in-Err-clause-refused g c = rw c.in-None.is (λ old all rest parts p. row_refused_more (or_more g.T.Typed.meaning.grows (g.T.Typed.meaning.grows || g.Rest.Fields.grows) g.R.Read.buffers (or_left _ _)) (row_refused _ _ p c.in-Err.ensures.next))
+returns-in-Err-clause-refused g c = rw c.in-None.is (λ old all rest parts p. missed_more (or_more g.T.Typed.meaning.grows (g.T.Typed.meaning.grows || g.Rest.Fields.grows) g.R.Read.buffers (or_left _ _)) (part_refused _ _ p c.in-Err.ensures.next))
 
 -- the field had its value before, or its element was read
 pub returns-in-Ok-clause-read : goal.returns-in-Ok-clause-read
@@ -36,11 +37,11 @@ returns-in-Err-read_elements-clause-refused g c =
     elim c.match-self.branch [
       in-Some w ↦
         let behind = rw (w.self-is, w.list-is) at c.in-Err-read_elements.ensures.refused in
-        rw w.in-Some.is (λ old all rest parts p. row_refused_more grows (behind old all rest parts p))
+        rw w.in-Some.is (λ old all rest parts p. missed_more grows (behind old all rest parts p))
     | in-None+in-Ok-Some w ↦
         let behind = rw (w.self-is, w.list-is, w.put.ensures.before) at c.in-Err-read_elements.ensures.refused in
         let n = rw w.in-Ok-Some.field-0-is at w.in-Ok-Some.ensures.next in
-        rw w.in-None.is (λ old all rest parts p. row_refused_more grows (behind old all rest _ (part_read _ p n.0).more))
+        rw w.in-None.is (λ old all rest parts p. missed_more grows (behind old all rest _ (part_read _ p n.0).more))
     ]
 
 -- ---- refusals by name

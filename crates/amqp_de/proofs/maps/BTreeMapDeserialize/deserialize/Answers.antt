@@ -1,6 +1,6 @@
 use Rattle.std.proofs.Common.{rules, true, refl, ◌∙◌}
 use Rattle.std.specs.BTreeMap.{insert_entry}
-use Rattle.amqp_de.proofs.ReadParts.{missed_on, missed_at, found_at}
+use Rattle.amqp_de.proofs.ReadParts.{missed_on, missed_at, missed_dropped, found_at}
 use Rattle.amqp_de.proofs.Naming.{named_on}
 use Rattle.amqp_de.proofs.NamedParts.{reaches_start, unopened_as, no_room_as, no_end}
 use Rattle.amqp_de.proofs.NamedPairs.{reaches_pair, pair_named, some_left}
@@ -24,7 +24,7 @@ pairs-init g c = record {
 -- a pair was refused
 pub returns-in-Err-clause-err : goal.returns-in-Err-clause-err
 unfolding open_list
-returns-in-Err-clause-err g c = missed_at _ _ (search rules) (pair_refused c.pairs.invariant.sofar.reads c.in-Err.ensures.next)
+returns-in-Err-clause-err g c = missed_at _ _ (search rules) (missed_dropped (pair_refused c.pairs.invariant.sofar.reads c.in-Err.ensures.next))
 
 pub pairs-preserved : goal.pairs-preserved
 pairs-preserved g c =
