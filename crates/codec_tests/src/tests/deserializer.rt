@@ -5,6 +5,7 @@ use super::answer::{Answer, UNEXPECTED_EOF, answer_of, name_of};
 use amqp_base::EncodingCodes;
 use amqp_de::Deserializer;
 use amqp_read::{Read, SliceReader};
+use amqp_types::Dec32;
 use std::alloc::Global;
 
 #[test]
@@ -225,6 +226,22 @@ fn ends_at_an_element(alloc: Global) -> bool {
         && is_ended(alloc, de, 4)
 }
 
+/// A refusal that the type makes itself, which consumes nothing and by itself ends nothing, ends the
+/// access that reads it as a part.
+fn ends_at_a_types_own_refusal(alloc: Global) -> bool {
+    let mut de = Deserializer::new(SliceReader::new(b"\xc0\x02\x02\x84\x43\x43"));
+    let Ok(mut access) = de.deserialize_seq(alloc) else {
+        return false;
+    };
+    let first = answer_of(&access.next_element::<Dec32>(alloc));
+    let again = answer_of(&access.next_element::<u32>(alloc));
+    let ended = answer_of(&access.end());
+    first == Answer::Message
+        && again == Answer::InvalidValue
+        && ended == Answer::InvalidValue
+        && is_ended(alloc, de, 3)
+}
+
 #[test]
 fn nothing_is_read_behind_a_list_that_was_not_read_to_its_end(rt: HostRuntime) {
     let alloc = rt.alloc();
@@ -235,4 +252,5 @@ fn nothing_is_read_behind_a_list_that_was_not_read_to_its_end(rt: HostRuntime) {
     // at a refused element
     assert!(rt; ends_at_a_part(alloc));
     assert!(rt; ends_at_an_element(alloc));
+    assert!(rt; ends_at_a_types_own_refusal(alloc));
 }
