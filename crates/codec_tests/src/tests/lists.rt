@@ -115,9 +115,15 @@ fn ends_at_most(alloc: Global) -> bool {
     }
 }
 
+/// As many elements are announced as may be, and one is there.
+const ONE_OF_MANY: &[u8] = b"\xd0\x00\x01\x00\x04\x00\x01\x00\x00\x43";
+
 #[test]
 fn a_list_has_at_most_65536_elements(rt: HostRuntime) {
-    assert!(rt; ends_at_most(rt.alloc()));
+    let alloc = rt.alloc();
+    assert!(rt; ends_at_most(alloc));
+    assert!(rt; refuses::<Vec<u32>>(alloc, ONE_OF_MANY, UNEXPECTED_EOF));
+    assert!(rt; refuses::<Vec<Vec<u32>>>(alloc, ONE_OF_MANY, Answer::InvalidFormatCode));
 }
 
 /// The next part of the sequence is the string.
