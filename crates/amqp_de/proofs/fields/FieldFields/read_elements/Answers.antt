@@ -20,28 +20,28 @@ returns-in-Err-clause-refused g c = rw c.in-None.is (λ old all rest parts p. mi
 pub returns-in-Ok-clause-read : goal.returns-in-Ok-clause-read
 returns-in-Ok-clause-read g c =
     elim c.match-self.branch [
-      in-Some w ↦
-        let behind = rw (w.self-is, w.list-is) at c.in-Ok.ensures.read in
-        rw (w.self-is, w.in-Some.is) (λ old all rest parts p. row_had c.args.self.now.name.now g.T.Typed.meaning.takes g.T.Typed.meaning.means _ _ _ old all rest parts _ (behind old all rest parts p))
-    | in-None+in-Ok-Some w ↦
-        let behind = rw (w.self-is, w.list-is, w.put.ensures.before) at c.in-Ok.ensures.read in
-        let n = rw w.in-Ok-Some.field-0-is at w.in-Ok-Some.ensures.next in
-        rw (w.self-is, w.in-None.is, w.put.ensures.named, w.put.ensures.value) (λ old all rest parts p.
-        let more = part_read _ p n.0 in
-        row_more c.args.self.now.name.now g.T.Typed.meaning.takes g.T.Typed.meaning.means _ _ _ old all rest _ parts _ _ more (behind old all rest _ more.more))
+      | in-Some w ↦
+          let behind = rw (w.self-is, w.list-is) at c.in-Ok.ensures.read in
+          rw (w.self-is, w.in-Some.is) (λ old all rest parts p. row_had c.args.self.now.name.now g.T.Typed.meaning.takes g.T.Typed.meaning.means _ _ _ old all rest parts _ (behind old all rest parts p))
+      | in-None+in-Ok-Some w ↦
+          let behind = rw (w.self-is, w.list-is, w.put.ensures.before) at c.in-Ok.ensures.read in
+          let n = rw w.in-Ok-Some.field-0-is at w.in-Ok-Some.ensures.next in
+          rw (w.self-is, w.in-None.is, w.put.ensures.named, w.put.ensures.value) (λ old all rest parts p.
+          let more = part_read _ p n.0 in
+          row_more c.args.self.now.name.now g.T.Typed.meaning.takes g.T.Typed.meaning.means _ _ _ old all rest _ parts _ _ more (behind old all rest _ more.more))
     ]
 
 pub returns-in-Err-read_elements-clause-refused : goal.returns-in-Err-read_elements-clause-refused
 returns-in-Err-read_elements-clause-refused g c =
     let grows = or_more g.Rest.Fields.grows (g.T.Typed.meaning.grows || g.Rest.Fields.grows) g.R.Read.buffers (or_right _ _) in
     elim c.match-self.branch [
-      in-Some w ↦
-        let behind = rw (w.self-is, w.list-is) at c.in-Err-read_elements.ensures.refused in
-        rw w.in-Some.is (λ old all rest parts p. missed_more grows (behind old all rest parts p))
-    | in-None+in-Ok-Some w ↦
-        let behind = rw (w.self-is, w.list-is, w.put.ensures.before) at c.in-Err-read_elements.ensures.refused in
-        let n = rw w.in-Ok-Some.field-0-is at w.in-Ok-Some.ensures.next in
-        rw w.in-None.is (λ old all rest parts p. missed_more grows (behind old all rest _ (part_read _ p n.0).more))
+      | in-Some w ↦
+          let behind = rw (w.self-is, w.list-is) at c.in-Err-read_elements.ensures.refused in
+          rw w.in-Some.is (λ old all rest parts p. missed_more grows (behind old all rest parts p))
+      | in-None+in-Ok-Some w ↦
+          let behind = rw (w.self-is, w.list-is, w.put.ensures.before) at c.in-Err-read_elements.ensures.refused in
+          let n = rw w.in-Ok-Some.field-0-is at w.in-Ok-Some.ensures.next in
+          rw w.in-None.is (λ old all rest parts p. missed_more grows (behind old all rest _ (part_read _ p n.0).more))
     ]
 
 -- ---- refusals by name
@@ -59,13 +59,13 @@ pub returns-in-Err-read_elements-clause-named : goal.returns-in-Err-read_element
 returns-in-Err-read_elements-clause-named g c =
     let grows = or_more g.Rest.Fields.grows (g.T.Typed.meaning.grows || g.Rest.Fields.grows) g.R.Read.buffers (or_right _ _) in
     elim c.match-self.branch [
-      in-Some w ↦
-        let behind = rw (w.self-is, w.list-is) at c.in-Err-read_elements.ensures.named in
-        rw w.in-Some.is (elements_had grows behind)
-    | in-None+in-Ok-Some w ↦
-        let behind = rw (w.self-is, w.list-is, w.put.ensures.before) at c.in-Err-read_elements.ensures.named in
-        let n = rw w.in-Ok-Some.field-0-is at w.in-Ok-Some.ensures.next in
-        rw w.in-None.is (elements_behind _ grows n.0 behind)
+      | in-Some w ↦
+          let behind = rw (w.self-is, w.list-is) at c.in-Err-read_elements.ensures.named in
+          rw w.in-Some.is (elements_had grows behind)
+      | in-None+in-Ok-Some w ↦
+          let behind = rw (w.self-is, w.list-is, w.put.ensures.before) at c.in-Err-read_elements.ensures.named in
+          let n = rw w.in-Ok-Some.field-0-is at w.in-Ok-Some.ensures.next in
+          rw w.in-None.is (elements_behind _ grows n.0 behind)
     ]
 
 -- ---- how many elements are left
@@ -73,11 +73,11 @@ returns-in-Err-read_elements-clause-named g c =
 pub returns-in-Ok-clause-counted : goal.returns-in-Ok-clause-counted
 returns-in-Ok-clause-counted g c =
     elim c.match-self.branch [
-      in-Some w ↦
-        let behind = rw (w.self-is, w.list-is) at c.in-Ok.ensures.counted in
-        rw w.in-Some.is behind
-    | in-None+in-Ok-Some w ↦
-        let behind = rw (w.self-is, w.list-is, w.put.ensures.before) at c.in-Ok.ensures.counted in
-        let n = rw w.in-Ok-Some.field-0-is at w.in-Ok-Some.ensures.next in
-        rw w.in-None.is (omega (arith, n.0.left, behind))
+      | in-Some w ↦
+          let behind = rw (w.self-is, w.list-is) at c.in-Ok.ensures.counted in
+          rw w.in-Some.is behind
+      | in-None+in-Ok-Some w ↦
+          let behind = rw (w.self-is, w.list-is, w.put.ensures.before) at c.in-Ok.ensures.counted in
+          let n = rw w.in-Ok-Some.field-0-is at w.in-Ok-Some.ensures.next in
+          rw w.in-None.is (omega (arith, n.0.left, behind))
     ]
