@@ -159,8 +159,8 @@ impl<R: Read> Deserialize<R> for Symbol {
 }
 
 impl<R: Read> Deserializer<R> {
-    /// For how many elements to ask memory at once. Each takes a byte at least, save in an array, so
-    /// a count that no bytes stand behind asks for no more than the bytes at hand.
+    /// For how many elements to ask memory at once. Each takes a byte at least, save in an array,
+    /// so a count that no bytes stand behind asks for no more than the bytes at hand.
     #[inline(always)]
     fn room(&self, announced: u32) -> usize
         ensures announced { result ≤ announced }

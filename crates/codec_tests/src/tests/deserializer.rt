@@ -226,8 +226,8 @@ fn ends_at_an_element(alloc: Global) -> bool {
         && is_ended(alloc, de, 4)
 }
 
-/// A refusal that the type makes itself, which consumes nothing and by itself ends nothing, ends the
-/// access that reads it as a part.
+/// A refusal that the type makes itself, which consumes nothing and by itself ends nothing, ends
+/// the access that reads it as a part.
 fn ends_at_a_types_own_refusal(alloc: Global) -> bool {
     let mut de = Deserializer::new(SliceReader::new(b"\xc0\x02\x02\x84\x43\x43"));
     let Ok(mut access) = de.deserialize_seq(alloc) else {

@@ -48,8 +48,8 @@ fn answers(reader: &mut SliceReader<'_>, alloc: Global, call: Call, position: us
     is_so && reader.bytes_consumed() == position
 }
 
-/// A reader over the bytes answers the calls, and is at the position behind each; all bytes behind it
-/// are at hand.
+/// A reader over the bytes answers the calls, and is at the position behind each; all bytes behind
+/// it are at hand.
 fn goes(alloc: Global, bytes: &[u8], calls: &[(Call, usize)]) -> bool {
     let mut reader = SliceReader::new(bytes);
     let mut is_so = reader.bytes_consumed() == 0;
