@@ -1,5 +1,5 @@
 -- What is read and written again.
-use Rattle.std.proofs.Common.{◌≡◌, ◌≢◌, ℕ, ◌≤◌, String, Bool, true, false, ◌||◌, List, [], ◌∷◌, ◌++◌, length, take, drop, map, fold, string_bytes, Option, Some, None, Result, Ok, Err, refl, sym, ap, ◌∙◌, arith, inl, inr, ◌⊎◌}
+use Rattle.std.proofs.Common.{◌≡◌, ◌≢◌, ℕ, ◌≤◌, String, Bool, true, false, ◌||◌, List, [], ◌∷◌, ◌++◌, length, take, drop, map, fold, string_bytes, Option, Some, None, Result, Ok, Err, refl, sym, ap, subst, ◌∙◌, arith, inl, inr, ◌⊎◌}
 use Rattle.std.proofs.lemmas.List.{length-append, take_at, take-append-drop}
 use Rattle.std.proofs.lemmas.Option.{same_Some}
 use Rattle.std.specs.Prelude.{IfOk}
@@ -12,6 +12,7 @@ use Rattle.amqp_base.specs.declared.error.Error.TheVariants.{OutOfMemory}
 use Rattle.amqp_base.specs.Item.{null, uint, string, Item, scalar, list, map as map_item, array, described, Items, none, more, items_of, Pairs, no_pairs, pair}
 use Rattle.amqp_base.specs.Wire.{lenient, bare, Front}
 use Rattle.amqp_base.specs.Canon.{canon}
+use Rattle.amqp_ser.specs.Texts.{HasNoText}
 use Rattle.amqp_base.specs.Fields.{all_meanings, means_fields}
 use Rattle.amqp_base.specs.Options.{means_option, option_item}
 use Rattle.amqp_base.specs.Refusing.{Refusing}
@@ -43,9 +44,9 @@ abbrev pub fresh : List ℕ → Decoding
 fresh s = record { reading = record { to_come = Some s; taken = 0; received = []; faults = 0; last_fault = None; honest = true; origin = [] }; ended = false; inherited = bare; described = false; begun = 0 }
 
 -- a value was read; it consumed so many bytes
-pub read_value : {T : Type 0} (taken_by : Item → Bool) (means : Item → T → Type 0) (written : T → Item) (s : List ℕ) (v : T) (t : Option (List ℕ)) (old new : Decoding) → old ≡ fresh s → Found taken_by (λ i. means i v) old new → canon (written v) ≡ t
-    → Recodes taken_by means written s t new.reading.taken × (new.reading.taken ≤ length s)
-read_value taken_by means written s v t old new e f c =
+pub read_value : {T : Type 0} (taken_by : Item → Bool) (means : Item → T → Type 0) (written : T → Item) (s : List ℕ) (v : T) (so : Item → Type 0) (old new : Decoding) → old ≡ fresh s → Found taken_by (λ i. means i v) old new → so (written v)
+    → Recodes taken_by means written s so new.reading.taken × (new.reading.taken ≤ length s)
+read_value taken_by means written s v so old new e f c =
     let g : Found taken_by (λ i. means i v) (fresh s) new = rw e at f in
     let h = g.front refl in
     let k = consumed (Some s) new.reading.to_come s h.text refl h.step.to_come in
@@ -100,14 +101,14 @@ decoded_as kind means written s (Refused e) w (d, inr (n, r)) = (
   d,
   λ canonical rest h.
       let same = same_item s h.item r.item h.consumed n h.front r.front in
-      let none_is : canon (kept kind h.item) ≡ None = ap canon (ap (kept kind) same ∙ sym (w r.item r.value r.meant)) ∙ r.text in
+      let none_is : canon (kept kind h.item) ≡ None = ap canon (ap (kept kind) same ∙ sym (w r.item r.value r.meant)) ∙ r.text.none in
       absurd cc (none_is, h.text),
   inr (record {
     item = r.item;
     consumed = n;
     front = r.front;
     taken = r.taken;
-    text = ap canon (sym (w r.item r.value r.meant)) ∙ r.text;
+    none = subst (λ i. HasNoText i e) (w r.item r.value r.meant) r.text;
   }),
 )
 
@@ -208,8 +209,8 @@ none_recoded taken_by refused_by means written grows s e (Ok (Refused f)) old ne
 none_recoded taken_by refused_by means written grows s e (Err f) old new q m h k = tt
 
 pub textless : {T : Type 0} (taken_by : Item → Bool) (refused_by : Refusing) (means : Item → T → Type 0) (written : T → Item) (s : List ℕ) (v : T) (e : Error) (r : Result Outcome Error) (old new : Decoding) → old ≡ fresh s → Found taken_by (λ i. means i v) old new
-    → (e ≡ OutOfMemory) ⊎ (canon (written v) ≡ None) → IfOk r (λ o. IsRefused e o) → IfOk r (λ o. Recoded taken_by refused_by means written s o)
+    → (e ≡ OutOfMemory) ⊎ HasNoText (written v) e → IfOk r (λ o. IsRefused e o) → IfOk r (λ o. Recoded taken_by refused_by means written s o)
 textless taken_by refused_by means written s v e (Ok (Value c n)) old new q f w k = absurd k
 textless taken_by refused_by means written s v e (Ok (Refused g)) old new q f (inl p) k = absurd (k.1 p)
-textless taken_by refused_by means written s v e (Ok (Refused g)) old new q f (inr p) k = (rw k.0 k.1, inr (new.reading.taken, (read_value taken_by means written s v None old new q f p).0))
+textless taken_by refused_by means written s v e (Ok (Refused g)) old new q f (inr p) k = (rw k.0 k.1, inr (new.reading.taken, (read_value taken_by means written s v (λ i. HasNoText i g) old new q f (rw k.0 p)).0))
 textless taken_by refused_by means written s v e (Err g) old new q f w k = tt

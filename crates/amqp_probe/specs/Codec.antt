@@ -7,6 +7,7 @@ use Rattle.amqp_base.specs.Codes.{Kind as ItemKind}
 use Rattle.amqp_base.specs.Item.{Item, scalar, map, string, Pairs, no_pairs, pair}
 use Rattle.amqp_base.specs.Wire.{lenient, bare, Front}
 use Rattle.amqp_base.specs.Canon.{canon}
+use Rattle.amqp_ser.specs.Texts.{HasNoText}
 use Rattle.amqp_base.specs.Maps.{is_map_of}
 use Rattle.amqp_base.specs.Fields.{takes_fields}
 use Rattle.amqp_base.specs.Options.{takes_option}
@@ -77,40 +78,40 @@ pub record HasText (kind : Kind) (bytes canonical : List ℕ) (rest : ℕ) : Typ
   pub text : canon (kept kind item) ≡ Some canonical
   pub left : rest ≡ length bytes - consumed
 
--- Such an item is spelled there, and the item of its value has no canonical text.
-pub record IsTextless (kind : Kind) (bytes : List ℕ) : Type 0 where
+-- Such an item is spelled there, and the item of its value has no canonical text, and is refused so.
+pub record IsTextless (kind : Kind) (bytes : List ℕ) (e : Error) : Type 0 where
   pub item : Item
   pub consumed : ℕ
   pub front : Front lenient bare bytes item consumed
   pub taken : takes kind item ≡ true
-  pub text : canon (kept kind item) ≡ None
+  pub none : HasNoText (kept kind item) e
 
--- A refusal says that there is no such text; and it is one that the type makes of the bytes, or they stand for a value
--- that has none.
+-- A refusal says that there is no such text; and it is the one that the type makes of the bytes, or they stand for a
+-- value that has none, and it says why.
 abbrev pub Decoded : Kind → List ℕ → Outcome → Type 0
 Decoded kind bytes (Value canonical rest) = HasText kind bytes canonical.items rest
 Decoded kind bytes (Refused e) = (e ≢ OutOfMemory) × ((canonical : List ℕ) (rest : ℕ) → HasText kind bytes canonical rest → ⊥)
-    × (refuses kind bare bytes e ⊎ IsTextless kind bytes)
+    × (refuses kind bare bytes e ⊎ IsTextless kind bytes e)
 
--- an item that is taken stands at the front, means the value, and the value is written so
-pub record Recodes {T : Type 0} (taken_by : Item → Bool) (means : Item → T → Type 0) (written : T → Item) (bytes : List ℕ) (canonical : Option (List ℕ)) (consumed : ℕ) : Type 0 where
+-- an item that is taken stands at the front and means the value, and this is so of the item that the value is written as
+pub record Recodes {T : Type 0} (taken_by : Item → Bool) (means : Item → T → Type 0) (written : T → Item) (bytes : List ℕ) (so : Item → Type 0) (consumed : ℕ) : Type 0 where
   pub value : T
   pub item : Item
   pub front : Front lenient bare bytes item consumed
   pub taken : IsTrue (taken_by item)
   pub meant : means item value
-  pub text : canon (written value) ≡ canonical
+  pub text : so (written value)
 
 -- no item that is taken stands at the front
 abbrev pub TakesNone : (Item → Bool) → List ℕ → Type 0
 TakesNone taken_by bytes = (i : Item) (n : ℕ) → Front lenient bare bytes i n → IsTrue (taken_by i) → ⊥
 
 -- the same for every type: a refusal is one that it makes of the bytes, where no item that is taken stands there, or the
--- value that was read has no text
+-- value that was read has no text and is refused so
 abbrev pub Recoded : {T : Type 0} → (Item → Bool) → Refusing → (Item → T → Type 0) → (T → Item) → List ℕ → Outcome → Type 0
-Recoded taken_by refused_by means written bytes (Value canonical rest) = (n : ℕ) × Recodes taken_by means written bytes (Some canonical.items) n × (rest ≡ length bytes - n)
+Recoded taken_by refused_by means written bytes (Value canonical rest) = (n : ℕ) × Recodes taken_by means written bytes (λ i. canon i ≡ Some canonical.items) n × (rest ≡ length bytes - n)
 Recoded taken_by refused_by means written bytes (Refused e) = (e ≢ OutOfMemory)
-    × ((TakesNone taken_by bytes × refused_by bare bytes e) ⊎ ((n : ℕ) × Recodes taken_by means written bytes None n))
+    × ((TakesNone taken_by bytes × refused_by bare bytes e) ⊎ ((n : ℕ) × Recodes taken_by means written bytes (λ i. HasNoText i e) n))
 
 -- this refusal, which isn't want of memory
 abbrev pub IsRefused : Error → Outcome → Type 0

@@ -14,13 +14,14 @@ use Rattle.amqp_base.specs.declared.shape.Setting.{Setting}
 use Rattle.amqp_base.specs.declared.shape.Setting.TheVariants.{Plain}
 use Rattle.amqp_base.specs.declared.shape.Shape.{Shape}
 use Rattle.amqp_ser.specs.State.{State, Mark, unmarked, first, other, answering}
-use Rattle.amqp_ser.specs.Law.{text_for, fits, marked, found_after, Goes, Wrote, Refused, Kept, Named, unwritten}
+use Rattle.amqp_ser.specs.Law.{text_for, fits, marked, found_after, Goes, Wrote, Refused, Unwritten, Kept, unwritten}
 use Rattle.amqp_ser.specs.Appending.{Pays}
 use Rattle.amqp_ser.specs.Compound.{Open, Empty, Run, Holds, Complete, is_map, awaits_value, BeginsWith, whole_text, shape_code, parts_text, next_mark, other_of, turned}
 use Rattle.amqp_ser.proofs.Bytes.{extends_same, appends_more, appends_none}
-use Rattle.amqp_ser.proofs.Steps.{Free, fits_free, wrote_pays, refused_pays, named_pays}
+use Rattle.amqp_ser.proofs.Steps.{Free, fits_free, wrote_pays, refused_pays}
 use Rattle.amqp_ser.proofs.TextOf.{pays_text}
 use Rattle.amqp_ser.proofs.PartTexts.{parts_more, parts_none, bind_some, pairs_text, pairs_count, odd_count, true_false}
+use Rattle.amqp_ser.proofs.WhyTexts.{part_why, body_why}
 use Rattle.amqp_ser.proofs.Lengths.{parts_fit}
 
 kept_stopped : (s : State) → Kept s (record s { stopped = true })
@@ -196,6 +197,15 @@ whole_code (Shape.Tuple n) xs = refl
 whole_code Shape.Map xs = refl
 whole_code Shape.Fields xs = refl
 
+-- a part that has no text where it stands
+part_unwritten : (s : State) (shape : Shape) (xs rest : List Item) (x : Item) (e : Error) (q : Open) → Holds s shape xs q → Free s → Free q.inner → Complete (is_map shape) (xs ++ x ∷ rest) → Unwritten q.inner x e → Unwritten s (whole shape (xs ++ x ∷ rest)) e
+part_unwritten s shape xs rest x e q h free inner complete w =
+    let none : marked (next_mark shape xs) x ≡ None = subst (λ m. marked m x ≡ None) h.run.mark (sym (text_free q.inner x inner) ∙ w.none) in
+    record {
+      none = text_free s (whole shape (xs ++ x ∷ rest)) free ∙ whole_of_none shape s.mark (xs ++ x ∷ rest) complete (parts_none shape xs rest x h.run.bytes h.run.text none);
+      named = λ plan measure. w.named inner.plan inner.measure ∙ sym (part_why shape xs rest x h.run.bytes h.run.text none complete);
+    }
+
 -- a refused part refuses the whole
 element_refused_at : (s : State) (shape : Shape) (xs rest : List Item) (f : Setting → Item) (e : Error) (q : Open) (b : State) → b.faults ≡ q.inner.faults → Refused q.inner (f q.inner.setting) e b → Holds s shape xs q → Complete q.pairs (xs ++ f (setting_inside shape) ∷ rest) → Refused s (whole shape (xs ++ f (setting_inside shape) ∷ rest)) e q.outer
 element_refused_at s shape xs rest g e q b same v h complete =
@@ -210,8 +220,7 @@ element_refused_at s shape xs rest g e q b same v h complete =
         | inl m ↦ inl m
         | inr d ↦ elim d [
           | inl io ↦ absurd (omega (arith, same, io.1))
-          | inr empty ↦
-              inr (inr (text_free s (whole shape (xs ++ x ∷ rest)) free ∙ whole_of_none shape s.mark (xs ++ x ∷ rest) (rw h.pairs at complete) (parts_none shape xs rest x h.run.bytes h.run.text (subst (λ m. marked m x ≡ None) h.run.mark (sym (text_free q.inner x inner) ∙ empty)))))
+          | inr w ↦ inr (inr (part_unwritten s shape xs rest x e q h free inner (rw h.pairs at complete) w))
         ]
       ];
     }
@@ -226,8 +235,8 @@ answering_stopped s t h k = ap answering h ∙ (let e : record s { stopped = fal
 
 -- a serializer that counts nothing takes no account of sizes
 pays_sizes : {A : Type 0} (s : State) (text : Option (List ℕ)) (found : Option Constructor) (l : List Size) (why : Error) (r : Result A Error) (t : State) → Free s → Pays s text found [] why r t → Pays s text found l why r t
-pays_sizes s text found l why (Ok x) t f p = record { kept = p.kept; device = tt; ok = (p.ok.0, p.ok.1, free_goes s t p.ok.0 l f p.ok.2.appended (p.ok.2.plan ∙ (rw f.plan refl)) (p.ok.2.measure ∙ (rw f.measure refl)) p.ok.2.setting, p.ok.3, p.ok.4, p.ok.5); err = tt; refused = tt; spares = tt; named = tt }
-pays_sizes s text found l why (Err e) t f p = record { kept = p.kept; device = p.device; ok = tt; err = p.err; refused = elim p.refused [ inl m ↦ inl m | inr d ↦ elim d [ inl io ↦ inr (inl io) | inr empty ↦ inr (inr (go text empty)) ] ]; spares = p.spares; named = p.named }
+pays_sizes s text found l why (Ok x) t f p = record { kept = p.kept; device = tt; ok = (p.ok.0, p.ok.1, free_goes s t p.ok.0 l f p.ok.2.appended (p.ok.2.plan ∙ (rw f.plan refl)) (p.ok.2.measure ∙ (rw f.measure refl)) p.ok.2.setting, p.ok.3, p.ok.4, p.ok.5); err = tt; refused = tt; spares = tt }
+pays_sizes s text found l why (Err e) t f p = record { kept = p.kept; device = p.device; ok = tt; err = p.err; refused = elim p.refused [ inl m ↦ inl m | inr d ↦ elim d [ inl io ↦ inr (inl io) | inr w ↦ inr (inr (record { none = go text w.none; named = w.named })) ] ]; spares = p.spares }
   where
     go : (o : Option (List ℕ)) → (o >>= λ b. when (fits s [] (length b)) b) ≡ None → (o >>= λ b. when (fits s l (length b)) b) ≡ None
     go None h = refl
@@ -253,14 +262,7 @@ end_wrote_each q b (Err e) t contents p = tt
 
 pub end_refused_each : {A : Type 0} (q : Open) (b : List ℕ) (r : Result A Error) (t : State) → q.inner.contents ≡ Some b → Ends q b r t → IfErr r (λ e. (s : State) (shape : Shape) (xs : List Item) → Holds s shape xs q → Complete q.pairs xs → Refused s (whole shape xs) e t)
 end_refused_each q b (Ok a) t contents p = tt
-end_refused_each q b (Err e) t contents p = λ s shape xs h complete. refused_pays s (whole shape xs) _ _ _ _ (Err e) t refl refl refl (end_pays s shape xs q b (Err e) t h complete contents p)
-
-pub end_named_each : {A : Type 0} (q : Open) (b : List ℕ) (r : Result A Error) (t : State) → q.inner.contents ≡ Some b → Ends q b r t → IfErr r (λ e. (s : State) (shape : Shape) (xs : List Item) (body : List ℕ) → Holds s shape xs q → Complete q.pairs xs → parts_text shape (items_of xs) ≡ Some body → Named s (length body) e t)
-end_named_each q b (Ok a) t contents p = tt
-end_named_each q b (Err e) t contents p = λ s shape xs body h complete text.
-    let same : Some b ≡ Some body = sym (run_fits shape xs h.start q.inner b h.empty h.run contents) ∙ text in
-    let eq : b ≡ body = cc in
-    subst (λ z. Named s (length z) e t) eq (named_pays s _ _ _ (length b) (Err e) t (end_pays s shape xs q b (Err e) t h complete contents p))
+end_refused_each q b (Err e) t contents p = λ s shape xs h complete. refused_pays s (whole shape xs) _ _ _ _ (Err e) t refl refl refl (body_why shape xs b (run_fits shape xs h.start q.inner b h.empty h.run contents) (rw h.pairs at complete)) (end_pays s shape xs q b (Err e) t h complete contents p)
 
 -- a list about one of its elements
 list_split : {X : Type 0} (xs : List X) (k : ℕ) (v : X) → k < length xs → v ≡ get_or xs k v → take k xs ++ v ∷ drop (k + 1) xs ≡ xs

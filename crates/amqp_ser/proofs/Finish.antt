@@ -8,6 +8,7 @@ use Rattle.amqp_base.specs.declared.error.Error.TheVariants.{OutOfMemory}
 use Rattle.amqp_base.specs.declared.shape.Setting.{Setting}
 use Rattle.amqp_base.specs.declared.shape.Setting.TheVariants.{Plain}
 use Rattle.amqp_ser.specs.State.{State, unmarked}
+use Rattle.amqp_ser.specs.Texts.{HasNoText}
 use Rattle.amqp_ser.specs.Law.{Wrote, Refused, marked}
 use Rattle.amqp_ser.proofs.Steps.{Free}
 use Rattle.amqp_ser.proofs.Compounds.{text_free}
@@ -26,6 +27,6 @@ to_vec_ok s f t ys plain mark answers start contents w =
     let text = subst (λ m. marked m (f s.setting) ≡ Some took.bytes) mark took.text in
     subst (λ setting. canon (f setting) ≡ Some ys) plain (sym (marked_canon (f s.setting)) ∙ (text ∙ ap Some (sym same)))
 
-pub to_vec_err : (s : State) (f : Setting → Item) (e : Error) (t : State) → s.setting ≡ Plain → s.mark ≡ unmarked → Free s → s.stopped ≡ false → t.faults ≡ s.faults → Refused s (f s.setting) e t → (e ≡ OutOfMemory) ⊎ (canon (f Plain) ≡ None)
+pub to_vec_err : (s : State) (f : Setting → Item) (e : Error) (t : State) → s.setting ≡ Plain → s.mark ≡ unmarked → Free s → s.stopped ≡ false → t.faults ≡ s.faults → Refused s (f s.setting) e t → (e ≡ OutOfMemory) ⊎ HasNoText (f Plain) e
 to_vec_err s f e t plain mark free answers faults r =
-    elim (r.cause answers) [ inl m ↦ inl m | inr d ↦ elim d [ inl io ↦ absurd (omega (arith, faults, io.1)) | inr empty ↦ inr (subst (λ setting. canon (f setting) ≡ None) plain (sym (marked_canon (f s.setting)) ∙ subst (λ m. marked m (f s.setting) ≡ None) mark (sym (text_free s (f s.setting) free) ∙ empty))) ] ]
+    elim (r.cause answers) [ inl m ↦ inl m | inr d ↦ elim d [ inl io ↦ absurd (omega (arith, faults, io.1)) | inr w ↦ inr (subst (λ setting. HasNoText (f setting) e) plain (record { none = sym (marked_canon (f s.setting)) ∙ subst (λ m. marked m (f s.setting) ≡ None) mark (sym (text_free s (f s.setting) free) ∙ w.none); named = w.named free.plan free.measure })) ] ]

@@ -6,6 +6,7 @@ pub mod ShortNumbers
 pub mod WideTexts
 pub mod PayloadTexts
 pub mod PartTexts
+pub mod WhyTexts
 pub mod Lengths
 pub mod Compounds
 pub mod Fields

@@ -8,7 +8,7 @@ use Rattle.amqp_base.specs.declared.error.Error.{Error}
 use Rattle.amqp_base.specs.declared.error.Error.TheVariants.{OutOfMemory}
 use Rattle.amqp_base.specs.Faults.{IsFault}
 use Rattle.amqp_ser.specs.State.{State}
-use Rattle.amqp_ser.specs.Law.{marked, text_for, found_after, fits, Goes, Wrote, Refused, Kept, IsDevice, Named, unwritten}
+use Rattle.amqp_ser.specs.Law.{marked, text_for, found_after, fits, Goes, Wrote, Refused, Kept, IsDevice, why_unwritten}
 use Rattle.amqp_ser.specs.Appending.{Appended, Pays}
 use Rattle.amqp_ser.proofs.Bytes.{appends_more, extends_more, extends_same}
 
@@ -94,16 +94,23 @@ pays_appended s v text found bytes why r t same is answers a = pays_found s text
       err = tt;
       refused = tt;
       spares = tt;
-      named = tt;
     }
     pays_found s text found bytes why (Err e) t is answers a = record {
       kept = record { bytes = a.kept.bytes; faults = a.kept.faults; grows = a.kept.grows };
       device = a.device;
       ok = tt;
       err = a.err;
-      refused = elim a.refused [ inl m ↦ inl m | inr d ↦ elim d [ inl f ↦ inr (inl f) | inr full ↦ inr (inr (rw is (when_false _ bytes full))) ] ];
+      refused = elim a.refused [
+        | inl m ↦ inl m
+        | inr d ↦ elim d [
+          | inl f ↦ inr (inl f)
+          | inr full ↦ inr (inr (record {
+            none = rw is (when_false _ bytes full);
+            named = λ plan measure. absurd (apart (sym (fits_free s (length bytes) [] (record { plan = plan; measure = measure })) ∙ full));
+          }))
+        ]
+      ];
       spares = a.spares;
-      named = λ plan measure. elim a.refused [ inl m ↦ inl m | inr d ↦ elim d [ inl f ↦ inr (inl f) | inr full ↦ absurd (apart (sym (fits_free s (length bytes) [] (record { plan = plan; measure = measure })) ∙ full)) ] ];
     }
 
 stopped_pays : {A : Type 0} (r : Result A Error) (s : State) (text : Option (List ℕ)) (found : Option Constructor) (l : List Size) (e : Error) → r ≡ Err e → text ≡ None → (e ≡ OutOfMemory → ⊥) → (IsDevice e → ⊥) → Pays s text found l e r (record s { stopped = true })
@@ -115,9 +122,8 @@ stopped_pays (Err f) s text found l e same none memory device =
       device = λ d. absurd (device (subst (λ x. IsDevice x) eq d));
       ok = tt;
       err = refl;
-      refused = inr (inr (rw none refl));
+      refused = inr (inr (record { none = rw none refl; named = λ plan measure. eq }));
       spares = λ m. absurd (memory (sym eq ∙ m));
-      named = λ plan measure. inr (inr eq);
     }
 
 -- no text is there, and nothing was written
@@ -132,16 +138,11 @@ wrote_pays s i text found l why (Ok x) t is same z p = record {
 }
 wrote_pays s i text found l why (Err e) t is same z p = tt
 
-pub refused_pays : {A : Type 0} (s : State) (i : Item) (text : Option (List ℕ)) (found : Option Constructor) (l : List Size) (why : Error) (r : Result A Error) (t : State) → marked s.mark i ≡ text → found_after s.mark (kind_code i) s.found ≡ found → sizes i ≡ l → Pays s text found l why r t → IfErr r (λ e. Refused s i e t)
+pub refused_pays : {A : Type 0} (s : State) (i : Item) (text : Option (List ℕ)) (found : Option Constructor) (l : List Size) (why : Error) (r : Result A Error) (t : State) → marked s.mark i ≡ text → found_after s.mark (kind_code i) s.found ≡ found → sizes i ≡ l → why_unwritten i ≡ why → Pays s text found l why r t → IfErr r (λ e. Refused s i e t)
 unfolding text_for
-refused_pays s i text found l why (Ok x) t is same z p = tt
-refused_pays s i text found l why (Err e) t is same z p = record {
+refused_pays s i text found l why (Ok x) t is same z name p = tt
+refused_pays s i text found l why (Err e) t is same z name p = record {
   kept = p.kept;
   device = p.device;
-  cause = λ h. elim p.refused [ inl m ↦ inl m | inr d ↦ inr (elim d [ inl f ↦ inl f | inr none ↦ inr (rw (is, z) none) ]) ];
+  cause = λ h. elim p.refused [ inl m ↦ inl m | inr d ↦ inr (elim d [ inl f ↦ inl f | inr w ↦ inr (record { none = rw (is, z) w.none; named = λ plan measure. w.named plan measure ∙ sym name }) ]) ];
 }
-
--- a refusal has its name
-pub named_pays : {A : Type 0} (s : State) (text : Option (List ℕ)) (found : Option Constructor) (l : List Size) (n : ℕ) (r : Result A Error) (t : State) → Pays s text found l (unwritten n) r t → IfErr r (λ e. Named s n e t)
-named_pays s text found l n (Ok x) t p = tt
-named_pays s text found l n (Err e) t p = λ answers plan measure. p.named plan measure

@@ -16,6 +16,7 @@ use Rattle.amqp_base.specs.Structs.{FieldItem, struct_shape, fields_parts, is_de
 use Rattle.amqp_base.specs.Codes.{row}
 use Rattle.amqp_base.specs.Sizes.{sizes_in}
 use Rattle.amqp_ser.specs.State.{State, Mark, unmarked, first, other, state, mark_of, found_of}
+pub use Rattle.amqp_ser.specs.Texts.{other_of}
 use Rattle.amqp_ser.specs.Law.{Goes, placed, Refused, Kept, Stops}
 use Rattle.amqp_ser.specs.declared.compound.Parts.{Parts}
 use Rattle.amqp_ser.specs.declared.seq.SeqSerializer.{SeqSerializer}
@@ -42,10 +43,6 @@ parts_text Shape.Array is = array_body is
 parts_text (Shape.Tuple n) is = canons is
 parts_text Shape.Map is = canons is
 parts_text Shape.Fields is = canons is
-
-abbrev pub other_of : Option Constructor → Mark
-other_of None = first
-other_of (Some c) = other c
 
 abbrev pub shape_code : Shape → EncodingCodes
 shape_code Shape.List = List32

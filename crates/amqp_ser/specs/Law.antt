@@ -1,28 +1,16 @@
 -- The law of writing.
-use Rattle.std.specs.Prelude.{◌≡◌, ◌⊎◌, ℕ, ◌+◌, ◌^◌, ◌<◌, ◌≤◌, nat_lt, ◌==◌, ◌&&◌, Bool, true, false, if◌then◌else◌, List, [], ◌∷◌, ◌++◌, length, drop, Option, None, Some, Result, Err, OnErr, IfErr}
+use Rattle.std.specs.Prelude.{◌≡◌, ◌⊎◌, ℕ, ◌+◌, ◌^◌, ◌<◌, ◌≤◌, nat_lt, ◌==◌, ◌&&◌, Bool, true, false, List, [], ◌∷◌, ◌++◌, length, drop, Option, None, Some, Result, Err, OnErr, IfErr}
 use Rattle.std.specs.Io.KnownBytes.{Appends}
-use Rattle.std.specs.declared.io.ErrorKind.TheVariants.{Other}
 use Rattle.amqp_base.specs.Item.{Item}
 use Rattle.amqp_base.specs.Wire.{Constructor}
-use Rattle.amqp_base.specs.Canon.{◌>>=◌, when, limit, canon, body, kind_code, constructor_text, is_under}
+use Rattle.amqp_base.specs.Canon.{◌>>=◌, when, kind_code}
 use Rattle.amqp_base.specs.Sizes.{Size, sizes}
 use Rattle.amqp_base.specs.Faults.{Extends, IsFault}
 use Rattle.amqp_base.specs.declared.error.Error.{Error}
-use Rattle.amqp_base.specs.declared.error.Error.TheVariants.{Io, OutOfMemory, InvalidValue}
+use Rattle.amqp_base.specs.declared.error.Error.TheVariants.{OutOfMemory, InvalidValue}
 pub use Rattle.amqp_base.specs.Refusals.{IsDevice}
 use Rattle.amqp_ser.specs.State.{State, Mark, unmarked, first, other, Counted}
-
--- data behind its constructor, as the mark has it
-abbrev pub placed : Mark → Option Constructor → Option (List ℕ) → Option (List ℕ)
-placed unmarked c b = None
-placed first c b = c >>= λ d. constructor_text d >>= λ m. b >>= λ a. Some (m ++ a)
-placed (other d) c b = if is_under d c then b else None
-
--- the text of an item, as the mark has it
-unfoldable pub marked : Mark → Item → Option (List ℕ)
-marked unmarked i = canon i
-marked first i = placed first (kind_code i) (body i)
-marked (other d) i = placed (other d) (kind_code i) (body i)
+unfoldable pub use Rattle.amqp_ser.specs.Texts.{placed, marked, unwritten, why_unwritten}
 
 abbrev pub found_after : Mark → Option Constructor → Option Constructor → Option Constructor
 found_after unmarked c old = old
@@ -77,9 +65,14 @@ pub record Took (s : State) (i : Item) (t : State) : Type 0 where
   pub mark : t.mark ≡ s.mark
   pub found : t.found ≡ found_after s.mark (kind_code i) s.found
 
+-- the item has no text here; outside passes it is refused by name
+pub record Unwritten (s : State) (i : Item) (e : Error) : Type 0 where
+  pub none : text_for s i ≡ None
+  pub named : s.plan ≡ None → s.measure ≡ None → e ≡ why_unwritten i
+
 -- why an item may be refused
 abbrev pub MayRefuse : State → Item → Error → State → Type 0
-MayRefuse s i e t = (e ≡ OutOfMemory) ⊎ ((IsFault t.last_fault e × (s.faults < t.faults)) ⊎ (text_for s i ≡ None))
+MayRefuse s i e t = (e ≡ OutOfMemory) ⊎ ((IsFault t.last_fault e × (s.faults < t.faults)) ⊎ Unwritten s i e)
 
 -- what every call keeps, whatever it answers
 pub record Kept (s t : State) : Type 0 where
@@ -107,15 +100,3 @@ pub record Stops {A : Type 0} (s : State) (r : Result A Error) (t : State) : Typ
 -- want of memory comes only where the writer grows or answered a fault
 abbrev pub Spares : {A : Type 0} → State → Result A Error → State → Type 0
 Spares s r t = IfErr r (λ e. e ≡ OutOfMemory → (s.grows ≡ true) ⊎ (s.faults < t.faults))
-
--- the refusal where there is no text: too long a payload or body, else an element that can't stand there
-abbrev pub unwritten : ℕ → Error
-unwritten n = if nat_lt limit n then Io Other else InvalidValue
-
--- what may be answered for a payload or body of n bytes, 0 where there is none
-abbrev pub Names : State → Error → Error → State → Type 0
-Names s why e t = (e ≡ OutOfMemory) ⊎ ((IsFault t.last_fault e × (s.faults < t.faults)) ⊎ (e ≡ why))
-
--- each refusal has its name
-abbrev pub Named : State → ℕ → Error → State → Type 0
-Named s n e t = s.stopped ≡ false → s.plan ≡ None → s.measure ≡ None → Names s (unwritten n) e t

@@ -6,7 +6,7 @@ ghost use Rattle.amqp_base.specs.Item.{Item, items_of};
 ghost use Rattle.amqp_base.specs.Shapes.{whole, setting_inside};
 ghost use Rattle.amqp_base.specs.Wire.{under};
 ghost use Rattle.amqp_ser.specs.State.{State, state, mark_of, unmarked, answering};
-ghost use Rattle.amqp_ser.specs.Law.{Wrote, Refused, Kept, Named, IsDevice, unwritten, found_after};
+ghost use Rattle.amqp_ser.specs.Law.{Wrote, Refused, Kept, IsDevice, unwritten, found_after};
 ghost use Rattle.amqp_ser.specs.Appending.{Pays, as_error};
 ghost use Rattle.amqp_ser.specs.Compound.{the_buffer, open_parts, is_map, awaits_value, Empty, Run};
 ghost use Rattle.amqp_ser.specs.Compound.{Holds, Complete, RefusesOpen, BeginsWith, BreaksOff};
@@ -248,11 +248,6 @@ impl<W: Sink> Serializer<W> {
             Holds s shape xs (open_parts pairs (state W.Write W.FaultCount self.old) parts) →
             Complete pairs xs →
             Refused s (whole shape xs) e (state W.Write W.FaultCount self.new)) }
-        ensures named { (pairs : Bool) →
-            IfErr result (λ e. (s : State) (shape : Shape) (xs : List Item) (b : List ℕ) →
-            Holds s shape xs (open_parts pairs (state W.Write W.FaultCount self.old) parts) →
-            Complete pairs xs → parts_text shape (items_of xs) ≡ Some b →
-            Named s (length b) e (state W.Write W.FaultCount self.new)) }
         ensures kept { Kept (state W.Write W.FaultCount self.old)
             (state W.Write W.FaultCount self.new) }
         ensures stopped { OnErr result ((state W.Write W.FaultCount self.old).stopped ≡ true →

@@ -4,7 +4,7 @@ ghost use Rattle.std.specs.Prelude.{◌≡◌, ◌≢◌, ◌++◌, ◌∷◌, [
 ghost use Rattle.amqp_base.specs.Item.{scalar, null};
 ghost use Rattle.amqp_base.specs.Wire.{under};
 ghost use Rattle.amqp_ser.specs.State.{Fresh, state, mark_of, unmarked, first};
-ghost use Rattle.amqp_ser.specs.Law.{Wrote, Refused, Stops, Spares, Named, placed, found_after};
+ghost use Rattle.amqp_ser.specs.Law.{Wrote, Refused, Stops, Spares, placed, found_after};
 ghost use Rattle.amqp_ser.specs.Appending.{Appended, Pays, error_of, as_error};
 ghost use Rattle.amqp_ser.specs.Compound.{turned};
 
@@ -285,8 +285,6 @@ impl<W: Sink> Serializer<W> {
             (state W.Write W.FaultCount self.new)) }
         ensures err { IfErr result (λ e. Refused (state W.Write W.FaultCount self.old) (scalar null)
             e (state W.Write W.FaultCount self.new)) }
-        ensures named { IfErr result (λ e.
-            Named (state W.Write W.FaultCount self.old) 0 e (state W.Write W.FaultCount self.new)) }
         ensures stops { Stops (state W.Write W.FaultCount self.old) result
             (state W.Write W.FaultCount self.new) }
         ensures spares { Spares (state W.Write W.FaultCount self.old) result

@@ -2,9 +2,10 @@
 //! text that the grammar allows is read.
 #![tactic(auto)]
 
-ghost use Rattle.std.specs.Prelude.{◌≡◌, ◌⊎◌, None, Some, IfOk, IfErr, IsTrue};
+ghost use Rattle.std.specs.Prelude.{◌≡◌, ◌⊎◌, Some, IfOk, IfErr, IsTrue};
 ghost use Rattle.amqp_base.specs.Canon.{canon};
 ghost use Rattle.amqp_base.specs.declared.error.Error.TheVariants.{OutOfMemory};
+ghost use Rattle.amqp_ser.specs.Texts.{HasNoText};
 ghost use Rattle.serde_amqp.specs.Headline.{ReadFrom, ReadsAll, NamedFrom};
 ghost use Rattle.amqp_base.specs.declared.shape.Setting.{Setting};
 
@@ -38,12 +39,13 @@ pub use amqp_types::{
 };
 use std::alloc::Global;
 
-/// The canonical text of a value. Refused where its item has none (`InvalidValue`; `Io(Other)`
-/// where a payload or a body is above 4,294,967,291 bytes), and as `OutOfMemory`.
+/// The canonical text of a value. Where its item has none, the first part that has none is refused:
+/// as `Io(Other)`, where a payload or a body is above 4,294,967,291 bytes, else as `InvalidValue`,
+/// an element that can't stand in its array. `OutOfMemory`: there is no room for the text.
 pub fn to_vec<T: Serialize>(alloc: Global, value: &T) -> Result<Vec<u8>, Error>
     ensures ok { IfOk result (λ v. canon (T.meaning.item value.now Setting.Plain) ≡ Some v.items) }
     ensures err { IfErr result (λ e.
-        (e ≡ Error.OutOfMemory) ⊎ (canon (T.meaning.item value.now Setting.Plain) ≡ None)) }
+        (e ≡ Error.OutOfMemory) ⊎ HasNoText (T.meaning.item value.now Setting.Plain) e) }
 {
     let mut ser = Serializer::new(Vec::new(alloc));
     value.serialize(alloc, &mut ser)?;
