@@ -127,11 +127,3 @@ front_ok old r (Err e) c t = tt
 no_byte : (s : List ℕ) → length s < 1 → byte_at s ≡ Err (Io UnexpectedEof)
 no_byte [] l = refl
 no_byte (x ∷ s) l = absurd (omega arith)
-
-pub front_err : (buffers : Bool) (old : Decoding) (r : Reading) (b : Result ℕ Error) → stands_under old ≡ bare → IfErr b (λ e. Unread buffers buffers 1 old.reading r e) → IfErr b (λ e. BeginsNot buffers old (begun_from old r) e)
-front_err buffers old r (Ok x) c t = tt
-front_err buffers old r (Err e) c u = record {
-  rejects = rw c (unread_rejects byte_at 1 old.reading r e no_byte u);
-  ended = refl;
-  few = refl;
-}

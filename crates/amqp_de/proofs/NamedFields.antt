@@ -47,12 +47,6 @@ part_as h p = record {
 
 -- ---- one field
 
--- no field has this name
-pub no_field_named : (name text : List ℕ) (refuses : List {1} Refusing) (buffers : Bool) (old new : Listing) (e : Error) → IsCustom text e → FieldNamed name no_slots refuses buffers old new e
-no_field_named name text refuses buffers old new (Message m) c = record { why = λ t l a z at h. inl tt }
-no_field_named name text refuses buffers old new OutOfMemory c = record { why = λ t l a z at h. inr (no_memory refl refl) }
-no_field_named name text refuses buffers old new e c = absurd c
-
 module _ {T V : Type 0} (own : List ℕ) (takes : Item → Bool) (means : Item → T → Type 0) where
   pub own_picked : {ts : List (Item → Bool)} (value : Option T) (x : T) (s : Slots V) (name : List ℕ) (old new : Listing) → awaits own value name ≡ true → Part takes (λ i. means i x) old new → FieldPicked name (slot own takes means value s) (slot own takes means (Some x) s) (takes ∷ ts) old new
   own_picked (Some y) x s name old new h p = absurd cc

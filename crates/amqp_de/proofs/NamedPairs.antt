@@ -13,13 +13,6 @@ use Rattle.amqp_de.specs.ReadPairs.{NextPair, NoEntry, no_key, no_value, PairsRe
 use Rattle.amqp_de.proofs.NamedParts.{Reaches, reaches_on, part_told, refused_behind, taken_since}
 use Rattle.amqp_de.proofs.Pairs.{key_more}
 
--- it isn't its turn
-pub no_turn : {Turn : Listing → Type 0} {refuses : Refusing} {grows buffers : Bool} {old new : Listing} {e : Error} → (Turn old → ⊥) → TurnNamed Turn refuses grows buffers old new e
-no_turn h = record { part = λ t. absurd (h t) }
-
-pub in_turn_named : {Turn : Listing → Type 0} {refuses : Refusing} {grows buffers : Bool} {old new : Listing} {e : Error} → PartNamed refuses grows buffers old new e → TurnNamed Turn refuses grows buffers old new e
-in_turn_named n = record { part = λ t. n }
-
 -- a part was refused here
 turned : (key : Item → Bool) (keys : Refusing) (value : Item → Bool) (values : Refusing) (n : ℕ) (s : List ℕ) (e : Error) → 0 < n → keys bare s e → turn_refusal key keys value values n s e
 turned key keys value values zero s e l p = absurd (omega (arith, l))

@@ -21,11 +21,6 @@ use Rattle.amqp_de.proofs.Received.{keeps_known}
 use Rattle.amqp_de.proofs.LookedFirst.{excused_kept, same_place}
 use Rattle.amqp_de.proofs.ReadParts.{or_right}
 
--- nothing is said of a type's refusals
-pub named_any : {A : Type 0} (grows buffers : Bool) (old new : Decoding) (r : Result A Error) → IfErr r (λ e. Named any_refusal grows buffers old new e)
-named_any grows buffers old new (Ok v) = tt
-named_any grows buffers old new (Err e) = record { why = λ a s at h. inl tt }
-
 pub named_more : {refuses : Refusing} {a b buffers : Bool} {old new : Decoding} {e : Error} → (IsTrue a → IsTrue b) → Named refuses a buffers old new e → Named refuses b buffers old new e
 named_more {refuses = refuses} {a = a} {b = b} {buffers = buffers} {old = old} {new = new} {e = e} g n = record { why = λ x s at h. tell s (n.why x s at h) }
   where

@@ -42,10 +42,6 @@ is_null_kind _ h = absurd cc
 other_kind : (x : EncodingCodes) (i : Item) → (x ≡ Null → ⊥) → (row x).kind ≡ item_kind i → is_null i ≡ false
 other_kind x i n k = not_null i (λ h. n (null_code x (k ∙ h)))
 
-pub none_found : {T : Type 0} (takes : Item → Bool) (means : Item → T → Type 0) (old mid new : Decoding) (x : EncodingCodes) → Looks old mid x → Found (is_of Kind.null) (λ i. i ≡ scalar (null)) mid new
-    → Found (takes_option takes) (λ i. means_option means i None) old new
-none_found takes means old mid new x l f = found_as (is_of Kind.null) (takes_option takes) (λ i. i ≡ scalar (null)) (λ i. means_option means i None) old new (λ i t m. (rw m refl, rw m refl)) (found_behind (is_of Kind.null) (λ i. i ≡ scalar (null)) old mid new x l f)
-
 -- a value behind another code than null's isn't null
 some_here : {T : Type 0} (takes : Item → Bool) (means : Item → T → Type 0) (v : T) (old mid new : Decoding) (x : EncodingCodes) → (x ≡ Null → ⊥) → Looks old mid x → Found takes (λ i. means i v) mid new
     → Found (takes_option takes) (λ i. means_option means i (Some v)) mid new

@@ -84,14 +84,6 @@ parsed parse c s b rest z p q = rw p q
 no_byte : (parse : EncodingCodes → List ℕ → Parsed ℕ) (c : Constructor) (s : List ℕ) (e : Error) → byte_under c s ≡ Err e → item_at parse c s ≡ Err e
 no_byte parse c s e p = rw p refl
 
-pub opens_exactly : (parse : EncodingCodes → List ℕ → Parsed ℕ) (old mid : Decoding) (r : Reading) (x : ℕ) (c : Constructor) (begun left : ℕ) (limit : Option ℕ) → Begins old mid x → ParsesAs (behind_byte parse x) mid.reading r left → OpensExactly parse old (listing_of mid r c begun left limit)
-opens_exactly parse old mid r x c begun left limit b d = record {
-  exact = λ s at.
-      let o = b.exact s at in
-      let p = d.exact o.0 o.1 in
-      (p.0, p.1, parsed parse (stands_under old) s x o.0 _ o.2 p.2);
-}
-
 refused_byte : {buffers : Bool} (parse : EncodingCodes → List ℕ → Parsed ℕ) (old new : Decoding) (e : Error) → BeginsNot buffers old new e → Rejects buffers buffers (item_at parse (stands_under old)) old.reading new.reading e
 refused_byte {buffers = buffers} parse old new e n = record { why = λ s at h. tell s (n.rejects.why s at h); steady = n.rejects.steady; device = n.rejects.device; memory = n.rejects.memory }
   where

@@ -95,9 +95,6 @@ module _ (key value : Item → Bool) where
 
 -- ---- the calls
 
-some_same : {A : Type 0} {x y : A} → Some x ≡ Some y → x ≡ y
-some_same e = cc
-
 pub pairs_opened : {A : Type 0} (old : Decoding) (r : Result A Error) (l : A → Listing) → IfOk r (λ o. Opens HasPairs old (l o)) → IfOk r (λ o. (l o).left % 2 ≡ 0) → IfOk r (λ o. (key value : Item → Bool) → PairsRead old key value no_pairs (l o))
 pairs_opened old (Ok o) l p q = λ key value. pairs_start key value old (l o) p q
 pairs_opened old (Err e) l p q = p
@@ -105,15 +102,6 @@ pairs_opened old (Err e) l p q = p
 pub no_map : {A : Type 0} (buffers : Bool) (old last : Decoding) (r : Result A Error) → IfErr r (λ e. OpensNot HasPairs map_data buffers buffers old last e) → IfErr r (λ e. NoMap buffers old last e)
 no_map buffers old last (Ok v) o = o
 no_map buffers old last (Err e) o = record { not_opened = o; missed = λ key value. map_unopened key value o }
-
--- out of turn
-pub turned_away : (Turn : Listing → Type 0) (takes : Item → Bool) (grows buffers : Bool) (old new : Listing) → (Turn old → ⊥) → new ≡ ended_access old → OutOfTurn Turn takes grows buffers old new InvalidValue
-turned_away Turn takes grows buffers old new not_now n = record {
-  if_ended = λ u. (refl, n ∙ ap (λ (b : Bool). record { state = record { reading = old.state.reading; ended = b; inherited = old.state.inherited; described = old.state.described; begun = old.state.begun }; left = old.left; outer = old.outer; limit = old.limit }) (sym u));
-  other = λ _. (refl, n);
-  refused = λ t. absurd (not_now t);
-  ended = ap (λ (l : Listing). l.state.ended) n;
-}
 
 -- in turn, but refused
 pub part_refused : (Turn : Listing → Type 0) (takes : Item → Bool) (grows buffers : Bool) (old new : Listing) (e : Error) → Turn old → NoPart takes grows buffers old new e → OutOfTurn Turn takes grows buffers old new e
@@ -145,10 +133,6 @@ module _ {old : Decoding} {key value : Item → Bool} {pairs : Pairs} {now : Lis
   -- none is left, and the end was answered
   pub pairs_end : {last : Decoding} {next : Listing} → PairsRead old key value pairs now → next ≡ now → AllRead next last → Found (is_map_of key value) (λ i. i ≡ map pairs) old last
   pairs_end {last = last} s same n = pairs_found key value old pairs now s last (rw same at n.left) (rw same at n.is)
-
--- where all was read the end isn't refused
-pub end_stands : {takes : Item → Bool} {grows buffers : Bool} (old : Decoding) (key value : Item → Bool) (pairs : Pairs) (now : Listing) → PairsRead old key value pairs now → (last x : Decoding) (e : Error) → now.left ≡ 0 → Ends now (Err e) x → Missed takes grows buffers old last e
-end_stands old key value pairs now s last x e z n = absurd ((read.end_refused old s.from (in_turn pairs) now s.opened s.reads x e n).0 z)
 
 -- ---- what the pairs mean
 

@@ -133,10 +133,6 @@ or_more false b c p h = or_right b c h
 
 -- ---- what callers say of an access
 
--- nothing was read yet
-pub progress_from : {old : Decoding} {all : List (Item → Bool)} {l m : Listing} → m ≡ l → Opens HasParts old l → Progress old all all none m
-progress_from {old = old} {all = all} {l = l} same o = rw same (progress_start old l o all)
-
 module _ {X F : Type 0} {old : Decoding} {all : List (Item → Bool)} {parts : Items} (a : Access X F Open) where
   -- one more part was read
   pub part_read : {rest : List (Item → Bool)} {t : Item → Bool} {means : Item → Type 0} {next : Listing} → Progress old all (t ∷ rest) parts (open_list a) → Part t means (open_list a) next → MoreRead old all rest parts means next

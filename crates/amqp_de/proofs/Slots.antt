@@ -14,15 +14,6 @@ use Rattle.amqp_de.specs.ReadFields.{Slots, no_slots, slot, awaits, HaveValues, 
 use Rattle.amqp_de.proofs.PartsRead.{left_of, right_of, join_last, join_none}
 use Rattle.amqp_de.proofs.LookedFirst.{custom_device}
 
--- of a call's answer
-pub on_ok : {A P Q : Type 0} (r : Result A Error) → (P → Q) → OnOk r P → OnOk r Q
-on_ok (Ok v) f p = f p
-on_ok (Err e) f p = tt
-
-pub if_err : {A : Type 0} {P Q : Error → Type 0} (r : Result A Error) → ((e : Error) → P e → Q e) → IfErr r P → IfErr r Q
-if_err (Ok v) f p = tt
-if_err (Err e) f p = f e p
-
 swap : (a b c : Bool) → (a && (b && c)) ≡ (b && (a && c))
 swap true b c = refl
 swap false true c = refl
@@ -74,9 +65,6 @@ no_field name text buffers l e c = unknown refl (custom_device text e c) (λ v p
 pub row_done : (old : Decoding) (all rest : List (Item → Bool)) (parts : Items) (l : Listing) → Progress old all rest parts l → RowRead old all rest parts no_slots no_slots l
 unfolding all_meanings
 row_done old all rest parts l p = record { items = none; progress = rw (join_none parts) p; full = refl; meant = λ vs h. (h, tt) }
-
-pub no_values : (vs : Unit {0}) → HaveValues no_slots vs
-no_values vs = record { holds = tt; full = refl; meant = tt }
 
 module _ {T V : Type 0} (own : List ℕ) (takes : Item → Bool) (means : Item → T → Type 0) where
   -- the value of the first field was read

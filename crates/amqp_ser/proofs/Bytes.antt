@@ -60,14 +60,6 @@ going_more s t u bytes rest more after g split appended faults last grows same =
   same = same ∙ (let e : record t { contents = u.contents; faults = u.faults; last_fault = u.last_fault; grows = u.grows } ≡ record t { contents = u.contents } = rw (faults, last, grows) refl in e) ∙ ap (λ (x : State). record x { contents = u.contents }) g.same;
 }
 
-pub going_none : (s : State) (bytes : List ℕ) → Going s bytes bytes s
-going_none s bytes = record {
-  done = [];
-  split = grind (arith, common_steps);
-  appended = appends_none s.contents;
-  same = refl;
-}
-
 pub kept_going : (s t : State) (bytes rest : List ℕ) → Going s bytes rest t → Kept s t
 kept_going s t bytes rest g = record {
   bytes = extends_appends _ _ _ g.appended;

@@ -58,10 +58,6 @@ text_free s i f = go (marked s.mark i)
 some_of : (o : Option Constructor) (g : Constructor → Option (List ℕ)) (b : List ℕ) → o >>= g ≡ Some b → (c : Constructor) × (o ≡ Some c)
 some_of o g b h = let p = bind_some o g b h in (p.0, p.1)
 
-first_code : (x : Item) (b : List ℕ) → marked first x ≡ Some b → (c : Constructor) × (kind_code x ≡ Some c)
-unfolding marked
-first_code x b h = some_of (kind_code x) _ b h
-
 first_turn : (m : Mark) (found old k : Option Constructor) → m ≡ first → found ≡ found_after m k old → turned m found ≡ other_of k
 first_turn m found old k h f = let g : found ≡ k = f ∙ (let e : found_after m k old ≡ k = rw h refl in e) in rw (h, g) refl
 
@@ -274,12 +270,6 @@ map_split f xs k v h e = sym (map-append f (take k xs) (v ∷ drop (k + 1) xs)) 
 -- a list begins with the images of a front and of the next element
 pub begins_map : {X : Type 0} (f : X → Item) (xs : List X) (k : ℕ) (v : X) → k < length xs → v ≡ get_or xs k v → BeginsWith (map f xs) (map f (take k xs) ++ f v ∷ [])
 begins_map f xs k v h e = subst (λ ys. BeginsWith ys (map f (take k xs) ++ f v ∷ [])) (map_split f xs k v h e) (begins_split (map f (take k xs)) (f v) (map f (drop (k + 1) xs)))
-
--- one part more of those that are written
-pub holds_next : {X : Type 0} (f : X → Item) (s : State) (shape : Shape) (xs : List X) (k : ℕ) (v : X) (q : Open) → k < length xs → v ≡ get_or xs k v → Holds s shape (map f (take k xs) ++ f v ∷ []) q → Holds s shape (map f (take (k + 1) xs)) q
-holds_next f s shape xs k v q h e held =
-    let next : take (k + 1) xs ≡ take k xs ++ v ∷ [] = take_more xs k v h ∙ ap (λ x. take k xs ++ x ∷ []) (sym e) in
-    subst (λ ys. Holds s shape ys q) (sym (ap (map f) next ∙ map-append f (take k xs) (v ∷ []))) held
 
 -- at the end the images of the front are those of all
 pub holds_all : {X : Type 0} (f : X → Item) (s : State) (shape : Shape) (xs : List X) (k : ℕ) (q : Open) → length xs ≤ k → Holds s shape (map f (take k xs)) q → Holds s shape (map f xs) q

@@ -22,9 +22,6 @@ kept_two s t u h k = record {
   grows = k.grows ∙ h.grows;
 }
 
-pub kept_same : (s : State) → Kept s s
-kept_same s = record { bytes = extends_same s.contents; faults = omega arith; grows = refl }
-
 -- a serializer that counts nothing
 pub record Free (s : State) : Type 0 where
   pub plan : s.plan ≡ None
