@@ -1,11 +1,11 @@
 -- What the calls of a reader answer.
-use Rattle.std.specs.Prelude.{◌≡◌, ◌⊎◌, ℕ, ◌+◌, ◌^◌, ◌<◌, ◌≤◌, max, Bool, true, false, IsTrue, List, length, take, Option, None, Some, ⊤}
+use Rattle.std.specs.Prelude.{◌≡◌, ◌⊎◌, ℕ, ◌+◌, ◌^◌, ◌<◌, ◌≤◌, max, Bool, true, false, IsTrue, List, length, take, drop, Option, None, Some, ⊤}
 use Rattle.std.specs.Io.KnownBytes.{IsAtEnd}
 use Rattle.std.specs.declared.io.ErrorKind.TheVariants.{UnexpectedEof, Other}
 use Rattle.amqp_base.specs.declared.error.Error.{Error}
 use Rattle.amqp_base.specs.declared.error.Error.TheVariants.{Io, OutOfMemory}
 use Rattle.amqp_base.specs.Faults.{IsFault}
-use Rattle.amqp_read.specs.Reading.{Reading, Agree, Stays}
+use Rattle.amqp_read.specs.Reading.{Reading, Agree, Stays, Takes}
 
 -- the known bytes begin with these; where none are known, the received ones do
 abbrev pub StartsWith : Option (List ℕ) → List ℕ → List ℕ → Type 0
@@ -15,6 +15,15 @@ StartsWith (Some s) received b = take (length b) s ≡ b
 -- the next bytes are these, and they were received, save where all bytes are known
 abbrev pub Shows : Reading → List ℕ → Type 0
 Shows r b = StartsWith r.to_come r.received b
+
+-- behind the first n known bytes come these; where none are known, behind the first n received ones
+abbrev pub ComeBehind : ℕ → Option (List ℕ) → List ℕ → List ℕ → Type 0
+ComeBehind n None received b = take (length b) (drop n received) ≡ b
+ComeBehind n (Some s) received b = take (length b) (drop n s) ≡ b
+
+-- behind the next n bytes come these, and they were received, save where all bytes are known
+abbrev pub ShowsBehind : ℕ → Reading → List ℕ → Type 0
+ShowsBehind n r b = ComeBehind n r.to_come r.received b
 
 -- the known bytes begin with these; where none are known, the received ones are the same as far as both go
 abbrev pub Admits : Option (List ℕ) → List ℕ → List ℕ → Type 0
@@ -59,6 +68,22 @@ PassesCount buffers n old e = (e ≡ Io Other) × IsTrue buffers × (2 ^ 64 ≤ 
 -- why n bytes were not consumed
 abbrev pub NotTaken : Bool → Bool → ℕ → Reading → Reading → Error → Type 0
 NotTaken grows buffers n old new e = ((e ≡ Io UnexpectedEof) × IsShort n old) ⊎ (Fails grows buffers old new e ⊎ PassesCount buffers n old e)
+
+-- why n bytes were not looked at
+abbrev pub NotSeen : Bool → Bool → ℕ → Reading → Reading → Error → Type 0
+NotSeen grows buffers n old new e = ((e ≡ Io UnexpectedEof) × IsShort n old) ⊎ Fails grows buffers old new e
+
+-- n bytes were consumed
+pub record Passes (n : ℕ) (old new : Reading) : Type 0 where
+  pub bytes : List ℕ
+  pub len : length bytes ≡ n
+  pub step : Takes old new bytes
+
+-- n bytes were consumed at most
+pub record PassesSome (n : ℕ) (old new : Reading) : Type 0 where
+  pub bytes : List ℕ
+  pub few : length bytes ≤ n
+  pub step : Takes old new bytes
 
 -- a look: nothing was consumed, and no byte behind the n that were looked at was received
 pub record Looked (n : ℕ) (old new : Reading) : Type 0 where

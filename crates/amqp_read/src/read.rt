@@ -5,6 +5,7 @@ ghost use Rattle.std.specs.Prelude.{◌∷◌, length, OnOk, OnErr, IfOk, IfErr,
 ghost use Rattle.amqp_read.specs.Reading.{Reading, Stays, Takes};
 ghost use Rattle.amqp_read.specs.Steps.{Shows, MayCome, Ended, IsShort, Fails, NotTaken};
 ghost use Rattle.amqp_read.specs.Steps.{PassesCount, Holds, Looked, AtHand};
+ghost use Rattle.amqp_read.specs.Steps.{ShowsBehind, NotSeen, Passes, PassesSome};
 ghost use Rattle.amqp_base.specs.declared.error.Error.TheVariants.{OutOfMemory};
 
 use amqp_base::Error;
@@ -16,8 +17,8 @@ pub(crate) mod sealed {
 }
 
 /// Bytes to come, a position, and bytes that were received ahead. A refused call changes nothing
-/// that a caller sees: the position stays, and no received byte is lost. Lengths and positions are
-/// in bytes.
+/// that a caller sees: the position stays, and no received byte is lost; `skip` alone may have
+/// passed some bytes. Lengths and positions are in bytes.
 ///
 /// Where a call needs more bytes than are to come, it answers what it says itself. Beside that a
 /// reader over a slice refuses nothing, `OutOfMemory` of `read_bytes` aside. A reader over a source
@@ -85,6 +86,37 @@ pub trait Read: sealed::Sealed + Drop {
             NotTaken true buffers n (reading self.old) (reading self.new) e) }
         ensures bytes_first { IfErr result (λ e.
             (e ≡ OutOfMemory) → (IsTrue buffers ⊎ Holds n (reading self.old).to_come)) };
+
+    /// The byte behind the next `i`. All of them stay; `None` where no more than `i` are to come.
+    #[doc(hidden)]
+    fn peek_at(&mut self, i: usize) -> Result<Option<u8>, Error>
+        ensures ok { IfOk result (λ o. MatchOption o (IsShort (i + 1) (reading self.old)) (λ b.
+            ShowsBehind i (reading self.new) (b ∷ []))) }
+        ensures looked { Looked (i + 1) (reading self.old) (reading self.new) }
+        ensures why { IfErr result (λ e.
+            Fails buffers buffers (reading self.old) (reading self.new) e) };
+
+    /// A copy of the `n` bytes behind the next `from`. All of them stay; `Io(UnexpectedEof)` where
+    /// fewer are to come, `OutOfMemory` where the vector finds no memory. Memory for it is asked
+    /// for only after the bytes are there.
+    #[doc(hidden)]
+    fn peek_copied(&mut self, alloc: Global, from: usize, n: usize) -> Result<Vec<u8>, Error>
+        ensures ok { IfOk result (λ v.
+            (length v.items ≡ n) × ShowsBehind from (reading self.new) v.items) }
+        ensures looked { Looked (from + n) (reading self.old) (reading self.new) }
+        ensures why { IfErr result (λ e.
+            NotSeen true buffers (from + n) (reading self.old) (reading self.new) e) }
+        ensures bytes_first { IfErr result (λ e. (e ≡ OutOfMemory) →
+            (IsTrue buffers ⊎ Holds (from + n) (reading self.old).to_come)) };
+
+    /// Consumes the next `n` bytes, and keeps none of them; `Io(UnexpectedEof)` where fewer are to
+    /// come. A refusal may have consumed some of them.
+    #[doc(hidden)]
+    fn skip(&mut self, n: usize) -> Result<(), Error>
+        ensures ok { OnOk result (Passes n (reading self.old) (reading self.new)) }
+        ensures err { OnErr result (PassesSome n (reading self.old) (reading self.new)) }
+        ensures why { IfErr result (λ e.
+            NotTaken buffers buffers n (reading self.old) (reading self.new) e) };
 }
 
 /// Consumes the next `N` bytes; `Io(UnexpectedEof)` where fewer are to come. A refusal consumes

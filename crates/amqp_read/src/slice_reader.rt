@@ -1,7 +1,8 @@
 //! A reader over bytes in memory.
 
 ghost use Rattle.std.specs.Prelude.{◌≡◌, ◌<◌, ◌≤◌, ◌+◌, ◌^◌, ℕ, Bool, true, false, List, [], ◌∷◌};
-ghost use Rattle.std.specs.Prelude.{length, IfOk, IfErr, OnErr, IsTrue, MatchOption, Some, None};
+ghost use Rattle.std.specs.Prelude.{length, IfOk, IfErr, OnOk, OnErr, IsTrue};
+ghost use Rattle.std.specs.Prelude.{MatchOption, Some, None};
 ghost use Rattle.std.specs.declared.io.ErrorKind.TheVariants.{UnexpectedEof};
 ghost use Rattle.amqp_base.specs.declared.error.Error.TheVariants.{Io};
 ghost use Rattle.std.specs.Borrow.{sem};
@@ -10,6 +11,7 @@ ghost use mir.Syntax.{named};
 ghost use Rattle.amqp_read.specs.contracts.slice_reader.SliceReader.{the_row};
 ghost use Rattle.amqp_read.specs.Reading.{Reading, Takes};
 ghost use Rattle.amqp_read.specs.Steps.{ShortOf, MayCome, IsShort, Looked};
+ghost use Rattle.amqp_read.specs.Steps.{NotTaken, Passes, PassesSome};
 
 use crate::Read;
 use crate::read::sealed::Sealed;
@@ -165,6 +167,35 @@ impl<'s> Read for SliceReader<'s> {
                 Ok(bytes)
             }
             Err(_) => Err(Error::OutOfMemory),
+        }
+    }
+
+    #[inline(always)]
+    fn peek_at(&mut self, i: usize) -> Result<Option<u8>, Error> {
+        Ok(self.rest.get(i).copied())
+    }
+
+    fn peek_copied(&mut self, alloc: Global, from: usize, n: usize) -> Result<Vec<u8>, Error> {
+        if from > self.rest.len() || n > self.rest.len() - from {
+            return Err(Error::Io(ErrorKind::UnexpectedEof));
+        }
+        match Vec::from_slice(alloc, &self.rest[from..from + n]) {
+            Ok(bytes) => Ok(bytes),
+            Err(_) => Err(Error::OutOfMemory),
+        }
+    }
+
+    // A refusal changes nothing.
+    #[inline(always)]
+    fn skip(&mut self, n: usize) -> Result<(), Error>
+        ensures ok { OnOk result (Passes n self.old self.new) }
+        ensures err { OnErr result (PassesSome n self.old self.new) }
+        ensures why { IfErr result (λ e. NotTaken false false n self.old self.new e) }
+        ensures unchanged { OnErr result (self.new ≡ self.old) }
+    {
+        match self.get_byte_slice(n) {
+            Ok(_) => Ok(()),
+            Err(e) => Err(e),
         }
     }
 }

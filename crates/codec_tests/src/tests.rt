@@ -10,6 +10,7 @@ mod error;
 mod fixed;
 mod format_code;
 mod lists;
+mod looks;
 mod map_calls;
 mod maps;
 mod numbers;

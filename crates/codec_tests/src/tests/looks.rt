@@ -1,0 +1,92 @@
+//! Looks further ahead than the next byte, and bytes that are passed over.
+
+use super::answer::{UNEXPECTED_EOF, name_of};
+use amqp_read::{Read, SliceReader};
+use std::alloc::Global;
+
+/// A call, and what it answers: a byte, or so many of them; nothing where fewer are to come. A skip
+/// passes over so many bytes or is refused.
+#[derive(Clone, Copy)]
+enum Call {
+    At(usize, Option<u8>),
+    Copied(usize, usize, Option<&'static [u8]>),
+    Skip(usize, bool),
+}
+
+use Call::{At, Copied, Skip};
+
+/// The call answers so, and the reader is at the position behind it.
+fn answers<R: Read>(reader: &mut R, alloc: Global, call: Call, position: usize) -> bool {
+    let is_so = match call {
+        At(i, byte) => matches!(&reader.peek_at(i), Ok(found) if *found == byte),
+        Copied(from, n, bytes) => match reader.peek_copied(alloc, from, n) {
+            Ok(found) => Some(found.as_slice()) == bytes,
+            Err(e) => bytes.is_none() && name_of(&e) == UNEXPECTED_EOF,
+        },
+        Skip(n, passes) => match reader.skip(n) {
+            Ok(()) => passes,
+            Err(e) => !passes && name_of(&e) == UNEXPECTED_EOF,
+        },
+    };
+    is_so && reader.bytes_consumed() == position
+}
+
+/// A reader over three bytes answers the calls, and is at the position behind each.
+fn goes(alloc: Global, calls: &[(Call, usize)]) -> bool {
+    let mut reader = SliceReader::new(b"\xde\xad\xbe");
+    let mut is_so = true;
+    for (call, position) in calls {
+        is_so = answers(&mut reader, alloc, *call, *position) && is_so;
+    }
+    is_so
+}
+
+#[test]
+fn a_byte_further_ahead_stays(rt: HostRuntime) {
+    let calls = [
+        (At(0, Some(0xde)), 0),
+        (At(2, Some(0xbe)), 0),
+        (At(3, None), 0),
+        (At(usize::MAX, None), 0),
+        (Skip(1, true), 1),
+        (At(0, Some(0xad)), 1),
+        (At(1, Some(0xbe)), 1),
+        (At(2, None), 1),
+    ];
+    assert!(rt; goes(rt.alloc(), &calls));
+}
+
+#[test]
+fn a_copy_of_bytes_further_ahead_is_whole_or_refused(rt: HostRuntime) {
+    let calls = [
+        (Copied(0, 3, Some(b"\xde\xad\xbe")), 0),
+        (Copied(1, 1, Some(b"\xad")), 0),
+        (Copied(3, 0, Some(b"")), 0),
+        (Copied(4, 0, None), 0),
+        (Copied(1, 3, None), 0),
+        (Copied(1, usize::MAX, None), 0),
+        (Copied(usize::MAX, 1, None), 0),
+        (Skip(2, true), 2),
+        (Copied(0, 1, Some(b"\xbe")), 2),
+        (Copied(1, 1, None), 2),
+    ];
+    assert!(rt; goes(rt.alloc(), &calls));
+}
+
+#[test]
+fn a_skip_passes_over_all_bytes_or_is_refused(rt: HostRuntime) {
+    let calls = [
+        (Skip(0, true), 0),
+        (Skip(4, false), 0),
+        (Skip(usize::MAX, false), 0),
+        (Skip(2, true), 2),
+        (Skip(2, false), 2),
+        (At(0, Some(0xbe)), 2),
+        (Skip(1, true), 3),
+        (At(0, None), 3),
+        (Copied(0, 0, Some(b"")), 3),
+        (Skip(0, true), 3),
+        (Skip(1, false), 3),
+    ];
+    assert!(rt; goes(rt.alloc(), &calls));
+}
