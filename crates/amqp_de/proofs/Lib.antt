@@ -30,6 +30,6 @@ pub mod StructRead
 pub mod NamedFields
 pub mod StructForms
 pub mod FormsOpened
-pub mod Decimals
+pub mod DecimalRead
 pub mod DecimalNames
 pub mod Nulls

@@ -1,16 +1,15 @@
 //! The parts of a list, one at a time.
 
-ghost use Rattle.std.specs.Prelude.{◌≡◌, Bool, true, false, Option, Some, None, List, IsTrue, Ok};
-ghost use Rattle.std.specs.Prelude.{Err, IfOk, IfErr};
+ghost use Rattle.std.specs.Prelude.{◌≡◌, true, false, Option, Some, None, IsTrue, Ok, Err, IfOk};
+ghost use Rattle.std.specs.Prelude.{IfErr};
 ghost use Rattle.std.specs.Borrow.{sem, RestsIfErr};
-ghost use Rattle.amqp_base.specs.Item.{Item, none};
 ghost use Rattle.amqp_base.specs.declared.error.Error.TheVariants.{SequenceLengthMismatch};
+ghost use Rattle.amqp_base.specs.Parse.{list_data};
 ghost use Rattle.amqp_de.specs.Access.{Within, HasParts, Ends, Opens, OpensExactly, OpensNot};
 ghost use Rattle.amqp_de.specs.Access.{Plain};
 ghost use Rattle.amqp_de.specs.Decoding.{as_ended};
-ghost use Rattle.amqp_base.specs.Parse.{list_data, tuple_data};
 ghost use Rattle.amqp_de.specs.Places.{limit_of};
-ghost use Rattle.amqp_de.specs.ReadParts.{Progress, RefusesTuple, open_list};
+ghost use Rattle.amqp_de.specs.ReadParts.{open_list};
 ghost use Rattle.amqp_de.specs.ReadPairs.{ended_access};
 ghost use Rattle.amqp_de.specs.Seq.{listing, at_open};
 ghost use Rattle.amqp_de.specs.contracts.deserializer.Deserializer.{the_row};
@@ -140,56 +139,6 @@ impl<R: Read> Deserializer<R> {
             form: Elements,
         })
     }
-
-    /// Begins a list of just so many parts.
-    #[inline(always)]
-    pub(crate) fn open_tuple(&mut self, len: usize) -> Result<Open, Error>
-        ensures ok { IfOk result (λ o. Opens HasParts self.old (at_open self.new o)) }
-        ensures exact { IfOk result (λ o.
-            OpensExactly (tuple_data len) self.old (at_open self.new o)) }
-        ensures len { IfOk result (λ o. o.left ≡ len) }
-        ensures err { RefusesTuple len R.buffers self.old result self.new }
-        ensures progress { IfOk result (λ o.
-            (all : List (Item → Bool)) → Progress self.old all all none (at_open self.new o)) }
-    {
-        match self.open_list() {
-            Ok(opened) => {
-                if opened.left as usize != len {
-                    self.stop();
-                    return Err(Error::SequenceLengthMismatch);
-                }
-                Ok(opened)
-            }
-            Err(e) => Err(e),
-        }
-    }
-
-    /// Opens a tuple: a list (part 1, section 1.6.22) of `len` elements. Its code, size and count
-    /// are consumed. The size is not compared with the bytes that are there.
-    ///
-    /// In this order: `Io(UnexpectedEof)` where there is no byte, `InvalidFormatCode` where it is
-    /// no list's code, `Io(UnexpectedEof)` where size or count are missing, `InvalidValue` where
-    /// the count is above 65,536, `InvalidLength` where the size doesn't cover the count's own
-    /// bytes, `SequenceLengthMismatch` where the count isn't `len`. A refusal ends the
-    /// deserializer.
-    #[tactic(auto, unfolding(crate::specs::ReadParts::open_list))]
-    pub fn deserialize_tuple(&mut self, len: usize) -> Result<ListAccess<'_, R>, Error>
-        ensures* refused { sem 𝓛 (RestsIfErr (the_row R.row R.Read) self.entry (λ a.
-            a.de.ghost_name) result (λ last. RefusesTuple len R.buffers self.old result last)) }
-        ensures same_reference { IfOk result (λ a. a.de.ghost_name ≡ self.entry.ghost_name) }
-        ensures opened { IfOk result (λ a. Opens HasParts self.old (open_list a)) }
-        ensures exact { IfOk result (λ a. OpensExactly (tuple_data len) self.old (open_list a)) }
-        ensures len { IfOk result (λ a. (open_list a).left ≡ len) }
-        ensures progress { IfOk result (λ a.
-            (all : List (Item → Bool)) → Progress self.old all all none (open_list a)) }
-    {
-        let inner = self.open_tuple(len)?;
-        Ok(Access {
-            de: self,
-            inner,
-            form: Elements,
-        })
-    }
 }
 
 impl<'a, R: Read> Access<'a, R, Elements> {
@@ -237,7 +186,7 @@ impl<'a, R: Read, F: Copy> Access<'a, R, F> {
     pub(crate) fn refuse(&mut self) -> Error
         ensures same_reference { self.new.de.ghost_name ≡ self.old.de.ghost_name }
         ensures error { result ≡ Error.InvalidValue }
-        ensures stopped { listing self.new ≡ ended_access (listing self.old) }
+        ensures ended { listing self.new ≡ ended_access (listing self.old) }
     {
         self.de.stop();
         Error::InvalidValue
@@ -310,7 +259,7 @@ impl<R: Read> Deserializer<R> {
     #[inline(always)]
     pub(crate) fn close(&mut self, inner: Open) -> Result<(), Error>
         ensures ends { Ends (at_open self.old inner) result self.new }
-        ensures stopped { IfErr result (λ e. self.new ≡ as_ended self.old) }
+        ensures ended { IfErr result (λ e. self.new ≡ as_ended self.old) }
     {
         let ended = self.ended;
         self.ended = true;

@@ -1,198 +1,236 @@
-//! Numbers of several encodings.
+//! Null, booleans, characters, timestamps and uuids.
+#![tactic(auto, unfolding(amqp_base::specs::Codes::row, amqp_base::specs::SameKind::same_kind, amqp_base::specs::SameKind::place, crate::specs::OneCode::is_only))]
 
 ghost use Rattle.std.specs.Prelude.{false};
 ghost use Rattle.amqp_base.specs.Codes.{Kind};
-ghost use Rattle.amqp_base.specs.Item.{uint, ulong, int, long};
+ghost use Rattle.amqp_base.specs.Item.{scalar, null, boolean, char, timestamp, uuid};
 ghost use Rattle.amqp_de.specs.Scalars.{ReadsScalar};
 
 use crate::Deserializer;
 use crate::deserializer::byte;
-use crate::leaf::Leaf;
-use amqp_base::Error;
-use amqp_read::{Read, read_const_bytes};
+use crate::leaf::{Leaf, fixed};
+use amqp_base::{EncodingCodes, Error};
+use amqp_read::Read;
+use amqp_types::{Timestamp, Uuid};
 
 #[derive(Drop)]
-struct AsUint;
+struct AsNull;
 
-impl Leaf for AsUint {
+impl Leaf for AsNull {
     ghost use Rattle.std.specs.Prelude.{false, refl};
     ghost use Rattle.amqp_base.specs.Codes.{Kind};
-    ghost use Rattle.amqp_base.specs.Item.{uint};
+    ghost use Rattle.amqp_base.specs.Item.{null};
 
-    type Value = u32;
+    type Value = ();
 
-    ghost kind = { Kind.uint };
+    ghost kind = { Kind.null };
 
-    ghost shows = { uint };
+    ghost shows = { λ _. null };
 
     ghost grows = { false };
 
     ghost of_kind = { λ _. refl };
 
     #[inline(always)]
-    fn read<R: Read>(self, reader: &mut R, code: u8) -> Result<u32, Error> {
+    fn read<R: Read>(self, reader: &mut R, code: u8) -> Result<(), Error> {
+        let _ = reader;
         match code {
-            0x70 => match read_const_bytes::<R, 4>(reader) {
-                Ok(bytes) => Ok(u32::from_be_bytes(bytes)),
-                Err(e) => Err(e),
-            },
-            0x52 => match byte(reader) {
-                Ok(byte) => Ok(byte as u32),
-                Err(e) => Err(e),
-            },
-            0x43 => Ok(0),
+            0x40 => Ok(()),
             _ => Err(Error::InvalidFormatCode),
         }
     }
 }
 
 #[derive(Drop)]
-struct AsUlong;
+struct AsBoolean;
 
-impl Leaf for AsUlong {
+impl Leaf for AsBoolean {
     ghost use Rattle.std.specs.Prelude.{false, refl};
     ghost use Rattle.amqp_base.specs.Codes.{Kind};
-    ghost use Rattle.amqp_base.specs.Item.{ulong};
+    ghost use Rattle.amqp_base.specs.Item.{boolean};
 
-    type Value = u64;
+    type Value = bool;
 
-    ghost kind = { Kind.ulong };
+    ghost kind = { Kind.boolean };
 
-    ghost shows = { ulong };
+    ghost shows = { boolean };
 
     ghost grows = { false };
 
     ghost of_kind = { λ _. refl };
 
     #[inline(always)]
-    fn read<R: Read>(self, reader: &mut R, code: u8) -> Result<u64, Error> {
+    fn read<R: Read>(self, reader: &mut R, code: u8) -> Result<bool, Error> {
         match code {
-            0x80 => match read_const_bytes::<R, 8>(reader) {
-                Ok(bytes) => Ok(u64::from_be_bytes(bytes)),
+            0x56 => match byte(reader) {
+                Ok(byte) => match byte {
+                    0 => Ok(false),
+                    1 => Ok(true),
+                    _ => Err(Error::InvalidValue),
+                },
                 Err(e) => Err(e),
             },
-            0x53 => match byte(reader) {
-                Ok(byte) => Ok(byte as u64),
-                Err(e) => Err(e),
-            },
-            0x44 => Ok(0),
+            0x41 => Ok(true),
+            0x42 => Ok(false),
             _ => Err(Error::InvalidFormatCode),
         }
     }
 }
 
 #[derive(Drop)]
-struct AsInt;
+struct AsChar;
 
-impl Leaf for AsInt {
+impl Leaf for AsChar {
     ghost use Rattle.std.specs.Prelude.{false, refl};
     ghost use Rattle.amqp_base.specs.Codes.{Kind};
-    ghost use Rattle.amqp_base.specs.Item.{int};
+    ghost use Rattle.amqp_base.specs.Item.{char};
 
-    type Value = i32;
+    type Value = char;
 
-    ghost kind = { Kind.int };
+    ghost kind = { Kind.char };
 
-    ghost shows = { int };
+    ghost shows = { char };
 
     ghost grows = { false };
 
     ghost of_kind = { λ _. refl };
 
     #[inline(always)]
-    fn read<R: Read>(self, reader: &mut R, code: u8) -> Result<i32, Error> {
-        match code {
-            0x71 => match read_const_bytes::<R, 4>(reader) {
-                Ok(bytes) => Ok(i32::from_be_bytes(bytes)),
-                Err(e) => Err(e),
+    fn read<R: Read>(self, reader: &mut R, code: u8) -> Result<char, Error> {
+        match fixed::<R, 4>(reader, code, EncodingCodes::Char) {
+            Ok(bytes) => match char::from_u32(u32::from_be_bytes(bytes)) {
+                Some(character) => Ok(character),
+                None => Err(Error::InvalidValue),
             },
-            0x54 => match read_const_bytes::<R, 1>(reader) {
-                Ok(bytes) => Ok(i8::from_be_bytes(bytes) as i32),
-                Err(e) => Err(e),
-            },
-            _ => Err(Error::InvalidFormatCode),
-        }
-    }
-}
-
-#[derive(Drop)]
-struct AsLong;
-
-impl Leaf for AsLong {
-    ghost use Rattle.std.specs.Prelude.{false, refl};
-    ghost use Rattle.amqp_base.specs.Codes.{Kind};
-    ghost use Rattle.amqp_base.specs.Item.{long};
-
-    type Value = i64;
-
-    ghost kind = { Kind.long };
-
-    ghost shows = { long };
-
-    ghost grows = { false };
-
-    ghost of_kind = { λ _. refl };
-
-    #[inline(always)]
-    fn read<R: Read>(self, reader: &mut R, code: u8) -> Result<i64, Error> {
-        match code {
-            0x81 => match read_const_bytes::<R, 8>(reader) {
-                Ok(bytes) => Ok(i64::from_be_bytes(bytes)),
-                Err(e) => Err(e),
-            },
-            0x55 => match read_const_bytes::<R, 1>(reader) {
-                Ok(bytes) => Ok(i8::from_be_bytes(bytes) as i64),
-                Err(e) => Err(e),
-            },
-            _ => Err(Error::InvalidFormatCode),
+            Err(e) => Err(e),
         }
     }
 }
 
 impl<R: Read> Deserializer<R> {
-    /// A uint, in any of its three encodings (part 1, section 1.6.5).
+    /// Null (part 1, section 1.6.1): a code without data.
     ///
-    /// `Io(UnexpectedEof)` where bytes are missing, `InvalidFormatCode` where another item stands.
-    /// A refusal ends the deserializer.
+    /// `Io(UnexpectedEof)` where there is no byte, `InvalidFormatCode` where another item stands. A
+    /// refusal ends the deserializer.
     #[inline(always)]
-    pub fn deserialize_u32(&mut self) -> Result<u32, Error>
-        ensures { ReadsScalar Kind.uint uint R.buffers R.buffers self.old result self.new }
+    pub fn deserialize_unit(&mut self) -> Result<(), Error>
+        ensures { ReadsScalar Kind.null (λ _. null) R.buffers R.buffers self.old result self.new }
     {
-        self.leaf(AsUint)
+        self.leaf(AsNull)
     }
 
-    /// An ulong, in any of its three encodings (part 1, section 1.6.6).
+    /// The value of a unit struct: null (part 1, section 1.6.1), whatever its name.
     ///
-    /// `Io(UnexpectedEof)` where bytes are missing, `InvalidFormatCode` where another item stands.
-    /// A refusal ends the deserializer.
+    /// `Io(UnexpectedEof)` where there is no byte, `InvalidFormatCode` where another item stands. A
+    /// refusal ends the deserializer.
     #[inline(always)]
-    pub fn deserialize_u64(&mut self) -> Result<u64, Error>
-        ensures { ReadsScalar Kind.ulong ulong R.buffers R.buffers self.old result self.new }
+    pub fn deserialize_unit_struct(&mut self, name: &'static str) -> Result<(), Error>
+        ensures { ReadsScalar Kind.null (λ _. null) R.buffers R.buffers self.old result self.new }
     {
-        self.leaf(AsUlong)
+        let _ = name;
+        self.deserialize_unit()
     }
 
-    /// An int, in either of its two encodings (part 1, section 1.6.9): two's complement in 1 or 4
-    /// bytes.
+    /// A boolean, in any of its three encodings (part 1, section 1.6.2): a code that says all, or a
+    /// byte, which is 0 or 1.
     ///
-    /// `Io(UnexpectedEof)` where bytes are missing, `InvalidFormatCode` where another item stands.
-    /// A refusal ends the deserializer.
+    /// `Io(UnexpectedEof)` where bytes are missing, `InvalidFormatCode` where another item stands,
+    /// `InvalidValue` where the byte is there and is neither 0 nor 1. A refusal ends the
+    /// deserializer.
     #[inline(always)]
-    pub fn deserialize_i32(&mut self) -> Result<i32, Error>
-        ensures { ReadsScalar Kind.int int R.buffers R.buffers self.old result self.new }
+    pub fn deserialize_bool(&mut self) -> Result<bool, Error>
+        ensures { ReadsScalar Kind.boolean boolean R.buffers R.buffers self.old result self.new }
     {
-        self.leaf(AsInt)
+        self.leaf(AsBoolean)
     }
 
-    /// A long, in either of its two encodings (part 1, section 1.6.10): two's complement in 1 or 8
-    /// bytes.
+    /// A character (part 1, section 1.6.16): its code point in 4 bytes.
+    ///
+    /// `Io(UnexpectedEof)` where bytes are missing, `InvalidFormatCode` where another item stands,
+    /// `InvalidValue` where all bytes are there and are no Unicode scalar value: a surrogate, or
+    /// above 0x10FFFF. A refusal ends the deserializer.
+    #[inline(always)]
+    pub fn deserialize_char(&mut self) -> Result<char, Error>
+        ensures { ReadsScalar Kind.char char R.buffers R.buffers self.old result self.new }
+    {
+        self.leaf(AsChar)
+    }
+
+    /// A timestamp (part 1, section 1.6.17): milliseconds since the Unix epoch, two's complement in
+    /// 8 bytes.
     ///
     /// `Io(UnexpectedEof)` where bytes are missing, `InvalidFormatCode` where another item stands.
     /// A refusal ends the deserializer.
     #[inline(always)]
-    pub fn deserialize_i64(&mut self) -> Result<i64, Error>
-        ensures { ReadsScalar Kind.long long R.buffers R.buffers self.old result self.new }
+    pub fn deserialize_timestamp(&mut self) -> Result<Timestamp, Error>
+        ensures { ReadsScalar Kind.timestamp timestamp R.buffers R.buffers self.old
+            result self.new }
     {
-        self.leaf(AsLong)
+        self.leaf(AsTimestamp)
+    }
+
+    /// A uuid (part 1, section 1.6.18): 16 bytes.
+    ///
+    /// `Io(UnexpectedEof)` where bytes are missing, `InvalidFormatCode` where another item stands.
+    /// A refusal ends the deserializer.
+    #[inline(always)]
+    pub fn deserialize_uuid(&mut self) -> Result<Uuid, Error>
+        ensures { ReadsScalar Kind.uuid uuid R.buffers R.buffers self.old result self.new }
+    {
+        self.leaf(AsUuid)
+    }
+}
+
+#[derive(Drop)]
+struct AsTimestamp;
+
+impl Leaf for AsTimestamp {
+    ghost use Rattle.std.specs.Prelude.{false, refl};
+    ghost use Rattle.amqp_base.specs.Codes.{Kind};
+    ghost use Rattle.amqp_base.specs.Item.{timestamp};
+
+    type Value = Timestamp;
+
+    ghost kind = { Kind.timestamp };
+
+    ghost shows = { timestamp };
+
+    ghost grows = { false };
+
+    ghost of_kind = { λ _. refl };
+
+    #[inline(always)]
+    fn read<R: Read>(self, reader: &mut R, code: u8) -> Result<Timestamp, Error> {
+        match fixed::<R, 8>(reader, code, EncodingCodes::Timestamp) {
+            Ok(bytes) => Ok(Timestamp::from_milliseconds(i64::from_be_bytes(bytes))),
+            Err(e) => Err(e),
+        }
+    }
+}
+
+#[derive(Drop)]
+struct AsUuid;
+
+impl Leaf for AsUuid {
+    ghost use Rattle.std.specs.Prelude.{false, refl};
+    ghost use Rattle.amqp_base.specs.Codes.{Kind};
+    ghost use Rattle.amqp_base.specs.Item.{uuid};
+
+    type Value = Uuid;
+
+    ghost kind = { Kind.uuid };
+
+    ghost shows = { uuid };
+
+    ghost grows = { false };
+
+    ghost of_kind = { λ _. refl };
+
+    #[inline(always)]
+    fn read<R: Read>(self, reader: &mut R, code: u8) -> Result<Uuid, Error> {
+        match fixed::<R, 16>(reader, code, EncodingCodes::Uuid) {
+            Ok(bytes) => Ok(Uuid::from(bytes)),
+            Err(e) => Err(e),
+        }
     }
 }

@@ -6,10 +6,9 @@ ghost use Rattle.amqp_base.specs.Codes.{Kind, row};
 ghost use Rattle.amqp_base.specs.Structs.{is_described_name};
 ghost use Rattle.amqp_de.specs.Access.{Ends};
 ghost use Rattle.amqp_de.specs.Decoding.{as_ended};
-ghost use Rattle.amqp_de.specs.Seq.{at_open};
 ghost use Rattle.amqp_de.specs.Forms.{struct_listing, struct_lender, FormOpened, StructOpened};
-ghost use Rattle.amqp_de.specs.Forms.{TupleOpened, IsRow, NoStruct, RefusesStruct, RefusesRow};
-ghost use Rattle.amqp_de.specs.Forms.{FormElement, FormKey, FormValue, FormEntry};
+ghost use Rattle.amqp_de.specs.Forms.{NoStruct, RefusesStruct, FormElement, FormKey, FormValue};
+ghost use Rattle.amqp_de.specs.Forms.{FormEntry};
 ghost use Rattle.amqp_de.specs.contracts.deserializer.Deserializer.{the_row};
 
 use crate::list::{Access, Elements, Ended, Entries, Open};
@@ -37,7 +36,7 @@ pub(crate) enum OpenedStruct {
 
 /// Whether a descriptor stands before the fields of a struct of this name.
 #[inline(always)]
-fn is_described(name: &'static str) -> bool
+pub(crate) fn is_described(name: &'static str) -> bool
     ensures { result ≡ is_described_name name.now }
 {
     name == DESCRIBED_LIST || name == DESCRIBED_MAP || name == DESCRIBED_BASIC
@@ -93,19 +92,6 @@ impl<R: Read> Deserializer<R> {
         self.open_form(len)
     }
 
-    /// The elements of a tuple struct, under a plain name.
-    fn open_row(&mut self, name: &'static str, len: usize) -> Result<Open, Error>
-        ensures ok { IfOk result (λ o. TupleOpened len self.old (at_open self.new o)) }
-        ensures err { RefusesRow name.now len R.buffers self.old result self.new }
-        ensures described { is_described_name name.now ≡ true → result ≡ Err Error.InvalidValue }
-    {
-        if is_described(name) {
-            self.ended = true;
-            return Err(Error::InvalidValue);
-        }
-        self.open_tuple(len)
-    }
-
     /// Opens a struct: a list of `len` fields (part 1, section 1.6.22), or a map from names to
     /// fields (section 1.6.23), whose number of pairs isn't looked at. Its code, size and count are
     /// consumed. The size is not compared with the bytes that are there.
@@ -139,36 +125,6 @@ impl<R: Read> Deserializer<R> {
                 de: self,
                 inner: pairs,
                 form: Entries,
-            })),
-            Err(e) => Err(e),
-        }
-    }
-
-    /// Opens a tuple struct: a list of `len` fields (part 1, section 1.6.22). Its code, size and
-    /// count are consumed.
-    ///
-    /// `InvalidValue` where `name` is one of those of described structs, else the refusals of
-    /// `deserialize_tuple`. A refusal ends the deserializer.
-    pub fn deserialize_tuple_struct(
-        &mut self,
-        alloc: Global,
-        name: &'static str,
-        len: usize,
-    ) -> Result<StructAccess<'_, R>, Error>
-        ensures* refused { sem 𝓛 (RestsIfErr (the_row R.row R.Read) self.entry (λ a.
-            (struct_lender a).ghost_name) result (λ last.
-            RefusesRow name.now len R.buffers self.old result last)) }
-        ensures same_reference { IfOk result (λ a.
-            (struct_lender a).ghost_name ≡ self.entry.ghost_name) }
-        ensures opened { IfOk result (λ a. IsRow a × TupleOpened len self.old (struct_listing a)) }
-        ensures described { is_described_name name.now ≡ true → result ≡ Err Error.InvalidValue }
-    {
-        let _ = alloc;
-        match self.open_row(name, len) {
-            Ok(row) => Ok(StructAccess::List(Access {
-                de: self,
-                inner: row,
-                form: Elements,
             })),
             Err(e) => Err(e),
         }

@@ -86,7 +86,7 @@ appended_all x s t bytes rest p m nil g =
     record {
       kept = kept_going s t bytes rest g;
       device = tt;
-      ok = (goes_plain s t bytes p m (rw all g.appended) (ap (λ (x : State). x.plan) g.same) (ap (λ (x : State). x.measure) g.same) (ap (λ (x : State). x.setting) g.same), ap (λ (x : State). x.mark) g.same, ap (λ (x : State). x.found) g.same, ap (λ (x : State). x.stopped) g.same);
+      ok = (goes_plain s t bytes p m (rw all g.appended) (ap (λ (x : State). x.plan) g.same) (ap (λ (x : State). x.measure) g.same) (ap (λ (x : State). x.setting) g.same), ap (λ (x : State). x.mark) g.same, ap (λ (x : State). x.found) g.same, ap (λ (x : State). x.ended) g.same);
       err = tt;
       refused = tt;
       spares = tt;
@@ -101,10 +101,10 @@ unfolding refusal_of
 refusal_io NoMemory = inl refl
 refusal_io kind = inr refl
 
--- a fault stops the serializer
+-- a fault ends the serializer
 pub appended_fault : {A : Type 0} (s t u : State) (bytes rest : List ℕ) (kind : ErrorKind) (e : Error) → Going s bytes rest t → e ≡ refusal_of kind → Keeps t.contents u.contents
-    → (u.faults ≡ t.faults + 1) ⊎ ((kind ≡ NoMemory) × (t.grows ≡ true) × (u.faults ≡ t.faults)) → (t.faults < u.faults → u.last_fault ≡ Some kind) → u.grows ≡ t.grows → u.stopped ≡ true → Appended {A = A} s bytes (Err e) u
-appended_fault s t u bytes rest kind e g is bytes_kept counts last grows stopped =
+    → (u.faults ≡ t.faults + 1) ⊎ ((kind ≡ NoMemory) × (t.grows ≡ true) × (u.faults ≡ t.faults)) → (t.faults < u.faults → u.last_fault ≡ Some kind) → u.grows ≡ t.grows → u.ended ≡ true → Appended {A = A} s bytes (Err e) u
+appended_fault s t u bytes rest kind e g is bytes_kept counts last grows ended =
     let same : t.faults ≡ s.faults = ap (λ (x : State). x.faults) g.same in
     let held : t.grows ≡ s.grows = ap (λ (x : State). x.grows) g.same in
     record {
@@ -115,7 +115,7 @@ appended_fault s t u bytes rest kind e g is bytes_kept counts last grows stopped
       };
       device = λ d. elim counts [ inl one ↦ omega (arith, one, same) | inr m ↦ absurd (subst (λ x. IsDevice x) (is ∙ refusal_memory kind m.0) d) ];
       ok = tt;
-      err = stopped;
+      err = ended;
       refused = elim counts [
         | inl one ↦ elim (refusal_io kind) [ inl m ↦ inl (is ∙ m) | inr io ↦ inr (inl (subst (λ x. IsFault u.last_fault x) (sym (is ∙ io)) (last (omega (arith, one))), omega (arith, one, same))) ]
         | inr m ↦ inl (is ∙ refusal_memory kind m.0)

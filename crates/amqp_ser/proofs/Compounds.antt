@@ -24,8 +24,8 @@ use Rattle.amqp_ser.proofs.PartTexts.{parts_more, parts_none, bind_some, pairs_t
 use Rattle.amqp_ser.proofs.WhyTexts.{part_why, body_why}
 use Rattle.amqp_ser.proofs.Lengths.{parts_fit}
 
-kept_stopped : (s : State) → Kept s (record s { stopped = true })
-kept_stopped s = record { bytes = extends_same s.contents; faults = omega arith; grows = refl }
+kept_ended : (s : State) → Kept s (record s { ended = true })
+kept_ended s = record { bytes = extends_same s.contents; faults = omega arith; grows = refl }
 
 count_items : (xs : List Item) → count (items_of xs) ≡ length xs
 count_items [] = refl
@@ -81,7 +81,7 @@ no_parts (Shape.Tuple n) = refl
 no_parts Shape.Map = refl
 no_parts Shape.Fields = refl
 
-pub run_none : (shape : Shape) (u : State) → Empty u → u.mark ≡ next_mark shape [] → u.setting ≡ setting_inside shape → u.stopped ≡ false → Run shape u [] u
+pub run_none : (shape : Shape) (u : State) → Empty u → u.mark ≡ next_mark shape [] → u.setting ≡ setting_inside shape → u.ended ≡ false → Run shape u [] u
 run_none shape u e mark inside answers = record { bytes = []; text = no_parts shape; goes = free_goes u u [] _ (free_of u e) (appends_none u.contents) e.plan e.measure refl; mark = mark; inside = inside; answers = answers }
 
 -- one part more
@@ -210,7 +210,7 @@ element_refused_at s shape xs rest g e q b same v h complete =
     let free : Free s = record { plan = h.plan; measure = h.measure } in
     let inner = goes_free h.start q.inner _ _ (free_of h.start h.empty) h.run.goes in
     record {
-      kept = subst (λ t. Kept s t) (sym h.outer) (kept_stopped s);
+      kept = subst (λ t. Kept s t) (sym h.outer) (kept_ended s);
       device = λ d. absurd (omega (arith, same, r.device d));
       cause = λ a. elim (r.cause h.run.answers) [
         | inl m ↦ inl m
@@ -226,8 +226,8 @@ element_refused s shape xs all g e q b same v h split complete =
     let r = begins_rest xs all (g (setting_inside shape)) split in
     subst (λ ys. Refused s (whole shape ys) e q.outer) (sym r.1) (element_refused_at s shape xs r.0 g e q b same v h (subst (λ ys. Complete q.pairs ys) r.1 complete))
 
-answering_stopped : (s t : State) → t ≡ record s { stopped = true } → s.stopped ≡ false → answering t ≡ s
-answering_stopped s t h k = ap answering h ∙ (let e : record s { stopped = false } ≡ s = ap (λ b. record s { stopped = b }) (sym k) in e)
+answering_ended : (s t : State) → t ≡ record s { ended = true } → s.ended ≡ false → answering t ≡ s
+answering_ended s t h k = ap answering h ∙ (let e : record s { ended = false } ≡ s = ap (λ b. record s { ended = b }) (sym k) in e)
 
 -- a serializer that counts nothing takes no account of sizes
 pays_sizes : {A : Type 0} (s : State) (text : Option (List ℕ)) (found : Option Constructor) (l : List Size) (why : Error) (r : Result A Error) (t : State) → Free s → Pays s text found [] why r t → Pays s text found l why r t
@@ -247,7 +247,7 @@ end_pays s shape xs q b r t h complete contents p =
     let fits : q.count ≤ length b = omega (arith, h.count, parts_fit shape xs b text) in
     let mark : q.outer.mark ≡ s.mark = ap (λ (x : State). x.mark) h.outer in
     let found : q.outer.found ≡ s.found = ap (λ (x : State). x.found) h.outer in
-    let at_s = subst (λ x. Pays x (whole_text q.shape q.outer.mark q.count b) (found_after q.outer.mark (Some (under (shape_code q.shape))) q.outer.found) [] (unwritten (length b)) r t) (answering_stopped s q.outer h.outer h.answered) (p fits) in
+    let at_s = subst (λ x. Pays x (whole_text q.shape q.outer.mark q.count b) (found_after q.outer.mark (Some (under (shape_code q.shape))) q.outer.found) [] (unwritten (length b)) r t) (answering_ended s q.outer h.outer h.answered) (p fits) in
     let same : marked s.mark (whole shape xs) ≡ whole_text q.shape q.outer.mark q.count b = rw (mark, h.shape_is, h.count) (whole_of_some shape s.mark xs b (rw h.pairs at complete) text) in
     let code : found_after s.mark (kind_code (whole shape xs)) s.found ≡ found_after q.outer.mark (Some (under (shape_code q.shape))) q.outer.found = rw (mark, found, h.shape_is, whole_code shape xs) refl in
     pays_sizes s _ _ (sizes (whole shape xs)) _ r t (record { plan = h.plan; measure = h.measure }) (pays_text s _ _ _ _ [] _ r t same code at_s)

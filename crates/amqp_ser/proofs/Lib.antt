@@ -9,9 +9,9 @@ pub mod PartTexts
 pub mod WhyTexts
 pub mod Lengths
 pub mod Compounds
-pub mod Fields
+pub mod FieldParts
 pub mod Finish
 pub mod Counting
 pub mod MapPairs
 pub mod ManyParts
-pub mod WholeRows
+pub mod WholeFields

@@ -60,11 +60,11 @@ appended_two s t u a b x (Err e) f h k =
       spares = λ m. elim (k.spares m) [ inl grows ↦ inl (sym h.kept.grows ∙ grows) | inr more ↦ inr (omega (arith, h.kept.faults, more)) ];
     }
 
--- what stopped at the first part stopped
-pub appended_stop : {A B : Type 0} (s t : State) (a b : List ℕ) (e : Error) (q : Result A Error) (r : Result B Error) → Free s → q ≡ Err e → r ≡ Err e → Appended s a q t → Appended s b r t
-appended_stop s t a b e (Ok x) r f is same h = cc
-appended_stop s t a b e (Err d) (Ok x) f is same h = cc
-appended_stop s t a b e (Err d) (Err g) f is same h =
+-- what was ended by the first part is ended
+pub appended_ended : {A B : Type 0} (s t : State) (a b : List ℕ) (e : Error) (q : Result A Error) (r : Result B Error) → Free s → q ≡ Err e → r ≡ Err e → Appended s a q t → Appended s b r t
+appended_ended s t a b e (Ok x) r f is same h = cc
+appended_ended s t a b e (Err d) (Ok x) f is same h = cc
+appended_ended s t a b e (Err d) (Err g) f is same h =
     let eq : d ≡ g = cc in
     record {
       kept = h.kept;
@@ -79,11 +79,11 @@ when_false : (t : Bool) (b : List ℕ) → t ≡ false → when t b ≡ None
 when_false t b h = rw h refl
 
 -- the bytes of a text were appended, by a serializer that first found a constructor
-pub pays_appended : {A : Type 0} (s v : State) (text : Option (List ℕ)) (found : Option Constructor) (bytes : List ℕ) (why : Error) (r : Result A Error) (t : State) → v ≡ record s { found = found } → text ≡ Some bytes → s.stopped ≡ false → Appended v bytes r t → Pays s text found [] why r t
+pub pays_appended : {A : Type 0} (s v : State) (text : Option (List ℕ)) (found : Option Constructor) (bytes : List ℕ) (why : Error) (r : Result A Error) (t : State) → v ≡ record s { found = found } → text ≡ Some bytes → s.ended ≡ false → Appended v bytes r t → Pays s text found [] why r t
 unfolding fits
 pays_appended s v text found bytes why r t same is answers a = pays_found s text found bytes why r t is answers (subst (λ x. Appended x bytes r t) same a)
   where
-    pays_found : {A : Type 0} (s : State) (text : Option (List ℕ)) (found : Option Constructor) (bytes : List ℕ) (why : Error) (r : Result A Error) (t : State) → text ≡ Some bytes → s.stopped ≡ false → Appended (record s { found = found }) bytes r t → Pays s text found [] why r t
+    pays_found : {A : Type 0} (s : State) (text : Option (List ℕ)) (found : Option Constructor) (bytes : List ℕ) (why : Error) (r : Result A Error) (t : State) → text ≡ Some bytes → s.ended ≡ false → Appended (record s { found = found }) bytes r t → Pays s text found [] why r t
     pays_found s text found bytes why (Ok x) t is answers a = record {
       kept = record { bytes = a.kept.bytes; faults = a.kept.faults; grows = a.kept.grows };
       device = tt;
@@ -110,9 +110,9 @@ pays_appended s v text found bytes why r t same is answers a = pays_found s text
       spares = a.spares;
     }
 
-stopped_pays : {A : Type 0} (r : Result A Error) (s : State) (text : Option (List ℕ)) (found : Option Constructor) (l : List Size) (e : Error) → r ≡ Err e → text ≡ None → (e ≡ OutOfMemory → ⊥) → (IsDevice e → ⊥) → Pays s text found l e r (record s { stopped = true })
-stopped_pays (Ok x) s text found l e same none memory device = cc
-stopped_pays (Err f) s text found l e same none memory device =
+ended_pays : {A : Type 0} (r : Result A Error) (s : State) (text : Option (List ℕ)) (found : Option Constructor) (l : List Size) (e : Error) → r ≡ Err e → text ≡ None → (e ≡ OutOfMemory → ⊥) → (IsDevice e → ⊥) → Pays s text found l e r (record s { ended = true })
+ended_pays (Ok x) s text found l e same none memory device = cc
+ended_pays (Err f) s text found l e same none memory device =
     let eq : f ≡ e = cc in
     record {
       kept = record { bytes = extends_same s.contents; faults = omega arith; grows = refl };
@@ -124,8 +124,8 @@ stopped_pays (Err f) s text found l e same none memory device =
     }
 
 -- no text is there, and nothing was written
-pub pays_none : {A : Type 0} (s : State) (text : Option (List ℕ)) (found : Option Constructor) (l : List Size) (e : Error) (r : Result A Error) (t : State) → t ≡ record s { stopped = true } → text ≡ None → (e ≡ OutOfMemory → ⊥) → (IsDevice e → ⊥) → r ≡ Err e → Pays s text found l e r t
-pays_none s text found l e r t same none memory device is = subst (λ x. Pays s text found l e r x) (sym same) (stopped_pays r s text found l e is none memory device)
+pub pays_none : {A : Type 0} (s : State) (text : Option (List ℕ)) (found : Option Constructor) (l : List Size) (e : Error) (r : Result A Error) (t : State) → t ≡ record s { ended = true } → text ≡ None → (e ≡ OutOfMemory → ⊥) → (IsDevice e → ⊥) → r ≡ Err e → Pays s text found l e r t
+pays_none s text found l e r t same none memory device is = subst (λ x. Pays s text found l e r x) (sym same) (ended_pays r s text found l e is none memory device)
 
 pub wrote_pays : {A : Type 0} (s : State) (i : Item) (text : Option (List ℕ)) (found : Option Constructor) (l : List Size) (why : Error) (r : Result A Error) (t : State) → marked s.mark i ≡ text → found_after s.mark (kind_code i) s.found ≡ found → sizes i ≡ l → Pays s text found l why r t → OnOk r (Wrote s i t)
 wrote_pays s i text found l why (Ok x) t is same z p = record {

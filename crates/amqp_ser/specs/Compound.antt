@@ -20,7 +20,7 @@ pub use Rattle.amqp_ser.specs.Texts.{other_of}
 use Rattle.amqp_ser.specs.Law.{Goes, placed, Refused, Kept, Stops}
 use Rattle.amqp_ser.specs.declared.compound.Parts.{Parts}
 use Rattle.amqp_ser.specs.declared.seq.SeqSerializer.{SeqSerializer}
-use Rattle.amqp_ser.specs.declared.tuple.TupleSerializer.{TupleSerializer}
+use Rattle.amqp_ser.specs.declared.tuples.TupleSerializer.{TupleSerializer}
 use Rattle.amqp_ser.specs.declared.map.MapSerializer.{MapSerializer}
 use Rattle.amqp_ser.specs.declared.tuple_structs.TupleStructSerializer.{TupleStructSerializer}
 use Rattle.amqp_ser.specs.declared.structs.StructSerializer.{StructSerializer}
@@ -97,10 +97,10 @@ pub record Run (shape : Shape) (u : State) (xs : List Item) (v : State) : Type 0
   pub goes : Goes u bytes (sizes_in (items_of xs)) v
   pub mark : v.mark ≡ next_mark shape xs
   pub inside : v.setting ≡ setting_inside shape
-  pub answers : v.stopped ≡ false
+  pub answers : v.ended ≡ false
 
 abbrev pub the_buffer : Serializer (Vec ℕ Global) → State
-the_buffer b = record { contents = Some b.writer.items; faults = 0; last_fault = None; grows = true; setting = b.setting; mark = mark_of b.mark; found = found_of b.found; plan = None; measure = None; stopped = b.stopped }
+the_buffer b = record { contents = Some b.writer.items; faults = 0; last_fault = None; grows = true; setting = b.setting; mark = mark_of b.mark; found = found_of b.found; plan = None; measure = None; ended = b.ended }
 
 -- parts on a serializer
 abbrev pub open_parts : Bool → State → Parts → Open
@@ -153,8 +153,8 @@ pub record Holds (s : State) (shape : Shape) (xs : List Item) (q : Open) : Type 
   pub empty : Empty start
   pub run : Run shape start xs q.inner
   pub count : q.count ≡ length xs
-  pub outer : q.outer ≡ record s { stopped = true }
-  pub answered : s.stopped ≡ false
+  pub outer : q.outer ≡ record s { ended = true }
+  pub answered : s.ended ≡ false
   pub plan : s.plan ≡ None
   pub measure : s.measure ≡ None
 
@@ -175,7 +175,7 @@ pub record RefusesNamed {A X : Type 0} (name : List ℕ) (item : X → Item) (s 
 -- what every call of a compound keeps
 pub record Keeps (q p : Open) : Type 0 where
   pub kept : Kept q.outer p.outer
-  pub stopped : q.outer.stopped ≡ true → p.outer.stopped ≡ true
+  pub ended : q.outer.ended ≡ true → p.outer.ended ≡ true
 
 -- ys begins with xs
 abbrev pub BeginsWith : {X : Type 0} → List X → List X → Type 0
@@ -184,10 +184,10 @@ BeginsWith [] (x ∷ xs) = ⊥
 BeginsWith (y ∷ ys) (x ∷ xs) = (y ≡ x) × BeginsWith ys xs
 
 -- a call of the compound was refused
-abbrev pub IsBroken : Open → Type 0
-IsBroken q = q.inner.stopped ≡ true
+abbrev pub IsEnded : Open → Type 0
+IsEnded q = q.inner.ended ≡ true
 
--- a refusal breaks the compound, and each call of a broken one is refused
-pub record BreaksOff {A : Type 0} (q : Open) (r : Result A Error) (p : Open) : Type 0 where
-  pub err : OnErr r (IsBroken p)
-  pub broken : IsBroken q → (r ≡ Err InvalidValue) × (p ≡ q)
+-- a refusal ends the compound, and each call of an ended one is refused
+pub record EndsCompound {A : Type 0} (q : Open) (r : Result A Error) (p : Open) : Type 0 where
+  pub err : OnErr r (IsEnded p)
+  pub ended : IsEnded q → (r ≡ Err InvalidValue) × (p ≡ q)

@@ -83,19 +83,19 @@ pub record Kept (s t : State) : Type 0 where
 -- the item was written
 pub record Wrote (s : State) (i : Item) (t : State) : Type 0 where
   pub kept : Kept s t
-  pub took : s.stopped ≡ false → Took s i t
-  pub answers : s.stopped ≡ false → t.stopped ≡ false
+  pub took : s.ended ≡ false → Took s i t
+  pub answers : s.ended ≡ false → t.ended ≡ false
 
 -- the item was refused
 pub record Refused (s : State) (i : Item) (e : Error) (t : State) : Type 0 where
   pub kept : Kept s t
   pub device : IsDevice e → s.faults < t.faults
-  pub cause : s.stopped ≡ false → MayRefuse s i e t
+  pub cause : s.ended ≡ false → MayRefuse s i e t
 
 -- what holds of the serializer's own calls beside
 pub record Stops {A : Type 0} (s : State) (r : Result A Error) (t : State) : Type 0 where
-  pub err : OnErr r (t.stopped ≡ true)
-  pub stopped : s.stopped ≡ true → (r ≡ Err InvalidValue) × (t ≡ s)
+  pub err : OnErr r (t.ended ≡ true)
+  pub ended : s.ended ≡ true → (r ≡ Err InvalidValue) × (t ≡ s)
 
 -- want of memory comes only where the writer grows or answered a fault
 abbrev pub Spares : {A : Type 0} → State → Result A Error → State → Type 0

@@ -37,7 +37,7 @@ pub record State : Type 0 where
   -- what would have been written, and its sizes
   pub measure : Option Counted
   -- every call answers `InvalidValue`
-  pub stopped : Bool
+  pub ended : Bool
 
 abbrev pub mark_of : CodeMark → Mark
 mark_of Unmarked = unmarked
@@ -59,7 +59,7 @@ state w f s = record {
   found = found_of s.found;
   plan = None;
   measure = None;
-  stopped = s.stopped;
+  ended = s.ended;
 }
 
 -- a serializer that has written nothing yet
@@ -73,8 +73,8 @@ pub record Fresh {W : Type 0} (w : Write.Ghosts W) (f : FaultCount.Ghosts W) (gi
   pub found : (state w f s).found ≡ None
   pub plan : (state w f s).plan ≡ None
   pub measure : (state w f s).measure ≡ None
-  pub answers : (state w f s).stopped ≡ false
+  pub answers : (state w f s).ended ≡ false
 
 -- the state, if calls are answered
 abbrev pub answering : State → State
-answering s = record s { stopped = false }
+answering s = record s { ended = false }

@@ -9,7 +9,7 @@ ghost use Rattle.amqp_ser.specs.State.{State, state, mark_of, unmarked, answerin
 ghost use Rattle.amqp_ser.specs.Law.{Wrote, Refused, Kept, IsDevice, unwritten, found_after};
 ghost use Rattle.amqp_ser.specs.Appending.{Pays, as_error};
 ghost use Rattle.amqp_ser.specs.Compound.{the_buffer, open_parts, is_map, awaits_value, Empty, Run};
-ghost use Rattle.amqp_ser.specs.Compound.{Holds, Complete, RefusesOpen, BeginsWith, BreaksOff};
+ghost use Rattle.amqp_ser.specs.Compound.{Holds, Complete, RefusesOpen, BeginsWith, EndsCompound};
 ghost use Rattle.amqp_ser.specs.Compound.{parts_text, whole_text, shape_code, narrow_of};
 ghost use Rattle.amqp_ser.specs.Compound.{empty_list, next_mark};
 
@@ -50,7 +50,7 @@ impl Parts {
             setting: setting_inside(shape),
             mark: first_mark(shape),
             found: None,
-            stopped: false,
+            ended: false,
         };
         Ok(Parts {
             shape,
@@ -92,10 +92,10 @@ impl Parts {
             Holds s shape xs (open_parts pairs outer self.old) →
             BeginsWith all (xs ++ T.meaning.item value.now (setting_inside shape) ∷ []) →
             Complete pairs all → Refused s (whole shape all) e outer) }
-        ensures stops { (pairs : Bool) (outer : State) → BreaksOff (open_parts pairs outer self.old)
-            result (open_parts pairs outer self.new) }
+        ensures stops { (pairs : Bool) (outer : State) → EndsCompound
+            (open_parts pairs outer self.old) result (open_parts pairs outer self.new) }
     {
-        if self.buffer.stopped {
+        if self.buffer.ended {
             return Err(Error::InvalidValue);
         }
         match value.serialize(alloc, &mut self.buffer) {
@@ -105,7 +105,7 @@ impl Parts {
                 Ok(())
             }
             Err(e) => {
-                self.buffer.stopped = true;
+                self.buffer.ended = true;
                 Err(e)
             }
         }
@@ -131,17 +131,17 @@ impl Parts {
         ensures turn { (outer s : State) (xs : List Item) →
             Holds s Shape.Map xs (open_parts true outer self.old) →
             (awaits_value xs ≡ is_value → ⊥) → result ≡ Err Error.InvalidValue }
-        ensures stops { (outer : State) → BreaksOff (open_parts true outer self.old) result
+        ensures stops { (outer : State) → EndsCompound (open_parts true outer self.old) result
             (open_parts true outer self.new) }
     {
-        if self.buffer.stopped {
+        if self.buffer.ended {
             return Err(Error::InvalidValue);
         }
         let turn = self.awaits_value();
         if turn == is_value {
             return self.write(alloc, part);
         }
-        self.buffer.stopped = true;
+        self.buffer.ended = true;
         Err(Error::InvalidValue)
     }
 }
@@ -220,14 +220,14 @@ impl<W: Sink> Serializer<W> {
     pub(crate) fn begin(&mut self, alloc: Global, shape: Shape) -> Result<Parts, Error>
         ensures ok { IfOk result (λ p. Holds (state W.Write W.FaultCount self.old) shape []
             (open_parts (is_map shape) (state W.Write W.FaultCount self.new) p)) }
-        ensures held { OnOk result ((state W.Write W.FaultCount self.new).stopped ≡ true) }
+        ensures held { OnOk result ((state W.Write W.FaultCount self.new).ended ≡ true) }
         ensures err { RefusesOpen shape (state W.Write W.FaultCount self.old) result
             (state W.Write W.FaultCount self.new) }
     {
-        if self.stopped {
+        if self.ended {
             return Err(Error::InvalidValue);
         }
-        self.stopped = true;
+        self.ended = true;
         match Parts::new(alloc, shape) {
             Ok(parts) => Ok(parts),
             Err(_) => Err(Error::OutOfMemory),
@@ -250,16 +250,16 @@ impl<W: Sink> Serializer<W> {
             Refused s (whole shape xs) e (state W.Write W.FaultCount self.new)) }
         ensures kept { Kept (state W.Write W.FaultCount self.old)
             (state W.Write W.FaultCount self.new) }
-        ensures stopped { OnErr result ((state W.Write W.FaultCount self.old).stopped ≡ true →
-            (state W.Write W.FaultCount self.new).stopped ≡ true) }
-        ensures broken { parts.buffer.stopped ≡ true → result ≡ Err Error.InvalidValue }
+        ensures stays_ended { OnErr result ((state W.Write W.FaultCount self.old).ended ≡ true →
+            (state W.Write W.FaultCount self.new).ended ≡ true) }
+        ensures ended { parts.buffer.ended ≡ true → result ≡ Err Error.InvalidValue }
     {
         let Parts {
             shape,
             buffer,
             count,
         } = parts;
-        if buffer.stopped {
+        if buffer.ended {
             return Err(Error::InvalidValue);
         }
         let body = buffer.into_inner();
@@ -284,12 +284,12 @@ impl<W: Sink> Serializer<W> {
             (state W.Write W.FaultCount self.new) }
         ensures device { IfErr (as_error result) (λ e.
             IsDevice e → W.faults self.old.writer < W.faults self.new.writer) }
-        ensures err { OnErr result (self.new.stopped ≡ true) }
+        ensures err { OnErr result (self.new.ended ≡ true) }
     {
-        self.stopped = false;
+        self.ended = false;
         let len = body.len();
         if len > LONGEST {
-            self.stopped = true;
+            self.ended = true;
             return Err(Refusal::Io(ErrorKind::Other));
         }
         let size = ((len + 4) as u32).to_be_bytes();
@@ -308,7 +308,7 @@ impl<W: Sink> Serializer<W> {
     /// header.
     #[inline(always)]
     fn finish_unmarked(&mut self, shape: Shape, count: usize, body: &[u8]) -> Result<(), Refusal>
-        requires answers { self.old.stopped ≡ false }
+        requires answers { self.old.ended ≡ false }
         requires marked { mark_of self.old.mark ≡ unmarked }
         requires short { length body.now ≤ 4294967291 }
         ensures law { count ≤ length body.now → Pays (state W.Write W.FaultCount self.old)
@@ -321,7 +321,7 @@ impl<W: Sink> Serializer<W> {
             (state W.Write W.FaultCount self.new) }
         ensures device { IfErr (as_error result) (λ e.
             IsDevice e → W.faults self.old.writer < W.faults self.new.writer) }
-        ensures err { OnErr result (self.new.stopped ≡ true) }
+        ensures err { OnErr result (self.new.ended ≡ true) }
     {
         let len = body.len();
         if is_empty_list(shape, len) {

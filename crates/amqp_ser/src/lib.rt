@@ -2,28 +2,32 @@
 #![tactic(auto, unfolding(crate::specs::State::state, crate::specs::Compound::open_state, crate::specs::Compound::tuple_state, crate::specs::Compound::map_state, crate::specs::Compound::tuple_struct_state, crate::specs::Compound::struct_state))]
 
 mod compound;
+mod decimals;
 mod each;
+mod fields;
 mod fixed;
 mod floats;
 mod map;
-mod numbers;
+mod maps;
+mod newtypes;
+mod option;
 mod payloads;
-mod rows;
 mod scalars;
 mod seq;
 mod serialize;
 mod serializer;
 mod signed;
 mod structs;
-mod tuple;
 mod tuple_structs;
+mod tuples;
+mod unsigned;
 
 pub use compound::Parts;
+pub use fields::{Struct, StructFields, Written};
 pub use map::MapSerializer;
-pub use rows::{Struct, StructFields, Written};
 pub use seq::SeqSerializer;
 pub use serialize::Serialize;
 pub use serializer::Serializer;
 pub use structs::StructSerializer;
-pub use tuple::TupleSerializer;
 pub use tuple_structs::TupleStructSerializer;
+pub use tuples::TupleSerializer;

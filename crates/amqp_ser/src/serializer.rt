@@ -1,16 +1,13 @@
 //! The serializer: its state, and the bytes that it appends.
 
-ghost use Rattle.std.specs.Prelude.{◌≡◌, ◌≢◌, ◌++◌, ◌∷◌, [], true, false, IfErr, OnOk, OnErr, Some};
-ghost use Rattle.amqp_base.specs.Item.{scalar, null};
+ghost use Rattle.std.specs.Prelude.{◌≡◌, ◌≢◌, ◌++◌, ◌∷◌, [], true, false, OnErr, Some};
 ghost use Rattle.amqp_base.specs.Wire.{under};
 ghost use Rattle.amqp_ser.specs.State.{Fresh, state, mark_of, unmarked, first};
-ghost use Rattle.amqp_ser.specs.Law.{Wrote, Refused, Stops, Spares, placed, found_after};
+ghost use Rattle.amqp_ser.specs.Law.{placed, found_after};
 ghost use Rattle.amqp_ser.specs.Appending.{Appended, Pays, error_of, as_error};
 ghost use Rattle.amqp_ser.specs.Compound.{turned};
 
-use crate::Serialize;
 use amqp_base::{EncodingCodes, Error, Setting, Sink};
-use std::alloc::Global;
 use std::io::ErrorKind;
 
 /// The most bytes of a payload or of a compound's body: a size of four bytes counts four more.
@@ -76,7 +73,7 @@ pub struct Serializer<W> {
     /// The constructor of the last item that was a first element.
     pub(crate) found: Option<EncodingCodes>,
     /// Whether every call answers `InvalidValue`.
-    pub(crate) stopped: bool,
+    pub(crate) ended: bool,
 }
 
 impl<W: Sink> Serializer<W> {
@@ -89,7 +86,7 @@ impl<W: Sink> Serializer<W> {
             setting: Setting::Plain,
             mark: Mark::Unmarked,
             found: None,
-            stopped: false,
+            ended: false,
         }
     }
 
@@ -103,7 +100,7 @@ impl<W: Sink> Serializer<W> {
             setting: Setting::Symbol,
             mark: Mark::Unmarked,
             found: None,
-            stopped: false,
+            ended: false,
         }
     }
 
@@ -117,7 +114,7 @@ impl<W: Sink> Serializer<W> {
             setting: Setting::DescribedList,
             mark: Mark::Unmarked,
             found: None,
-            stopped: false,
+            ended: false,
         }
     }
 
@@ -131,7 +128,7 @@ impl<W: Sink> Serializer<W> {
             setting: Setting::DescribedMap,
             mark: Mark::Unmarked,
             found: None,
-            stopped: false,
+            ended: false,
         }
     }
 
@@ -145,7 +142,7 @@ impl<W: Sink> Serializer<W> {
             setting: Setting::DescribedBasic,
             mark: Mark::Unmarked,
             found: None,
-            stopped: false,
+            ended: false,
         }
     }
 
@@ -165,12 +162,12 @@ impl<W: Sink> Serializer<W> {
             setting: _,
             mark: _,
             found: _,
-            stopped: _,
+            ended: _,
         } = self;
         writer
     }
 
-    /// Appends all of `bytes`, or stops.
+    /// Appends all of `bytes`, or ends.
     #[inline(always)]
     pub(crate) fn append(&mut self, bytes: &[u8]) -> Result<(), Refusal>
         ensures { Appended (state W.Write W.FaultCount self.old) bytes.now (as_error result)
@@ -181,7 +178,7 @@ impl<W: Sink> Serializer<W> {
             match self.writer.write_some(rest) {
                 Ok(n) => rest = &rest[n..],
                 Err(kind) => {
-                    self.stopped = true;
+                    self.ended = true;
                     return Err(Refusal::Io(kind));
                 }
             }
@@ -210,7 +207,7 @@ impl<W: Sink> Serializer<W> {
         head: &[u8],
         body: &[u8],
     ) -> Result<(), Refusal>
-        requires answers { self.old.stopped ≡ false }
+        requires answers { self.old.ended ≡ false }
         requires marked { mark_of self.old.mark ≢ unmarked }
         ensures law { Pays (state W.Write W.FaultCount self.old)
             (placed (state W.Write W.FaultCount self.old).mark (Some (under code))
@@ -225,11 +222,11 @@ impl<W: Sink> Serializer<W> {
                 if outer.byte() == code.byte() {
                     return self.append_two(head, body);
                 }
-                self.stopped = true;
+                self.ended = true;
                 Err(Refusal::InvalidValue)
             }
             Mark::Unmarked => {
-                self.stopped = true;
+                self.ended = true;
                 Err(Refusal::InvalidValue)
             }
         }
@@ -243,7 +240,7 @@ impl<W: Sink> Serializer<W> {
         head: &[u8],
         body: &[u8],
     ) -> Result<(), Refusal>
-        requires answers { self.old.stopped ≡ false }
+        requires answers { self.old.ended ≡ false }
         requires marked { mark_of self.old.mark ≡ first }
         ensures law { Pays (state W.Write W.FaultCount self.old)
             (placed (state W.Write W.FaultCount self.old).mark (Some (under code))
@@ -274,68 +271,6 @@ impl<W: Sink> Serializer<W> {
                 self.mark = Mark::Other(code);
             }
         }
-    }
-
-    /// Writes null (section 1.6.1), as an option that holds nothing. It takes no memory of its own.
-    ///
-    /// `InvalidValue`: it is to stand in an array, whose elements can't be null.
-    #[inline(always)]
-    pub fn serialize_none(&mut self, alloc: Global) -> Result<(), Error>
-        ensures ok { OnOk result (Wrote (state W.Write W.FaultCount self.old) (scalar null)
-            (state W.Write W.FaultCount self.new)) }
-        ensures err { IfErr result (λ e. Refused (state W.Write W.FaultCount self.old) (scalar null)
-            e (state W.Write W.FaultCount self.new)) }
-        ensures stops { Stops (state W.Write W.FaultCount self.old) result
-            (state W.Write W.FaultCount self.new) }
-        ensures spares { Spares (state W.Write W.FaultCount self.old) result
-            (state W.Write W.FaultCount self.new) }
-    {
-        self.serialize_unit(alloc)
-    }
-
-    /// Writes the value itself, as an option that holds it. It is refused as the value's own
-    /// `serialize`.
-    pub fn serialize_some<T: Serialize>(&mut self, alloc: Global, value: &T) -> Result<(), Error>
-        ensures ok { OnOk result (Wrote (state W.Write W.FaultCount self.old)
-            (T.meaning.item value.now (state W.Write W.FaultCount self.old).setting)
-            (state W.Write W.FaultCount self.new)) }
-        ensures err { IfErr result (λ e. Refused (state W.Write W.FaultCount self.old)
-            (T.meaning.item value.now (state W.Write W.FaultCount self.old).setting) e
-            (state W.Write W.FaultCount self.new)) }
-        ensures stops { Stops (state W.Write W.FaultCount self.old) result
-            (state W.Write W.FaultCount self.new) }
-    {
-        if self.stopped {
-            return Err(Error::InvalidValue);
-        }
-        match value.serialize(alloc, self) {
-            Ok(()) => Ok(()),
-            Err(e) => {
-                self.stopped = true;
-                Err(e)
-            }
-        }
-    }
-
-    /// Writes the value itself, as a newtype that holds it; `name` isn't written. It is refused as
-    /// the value's own `serialize`.
-    pub fn serialize_newtype_struct<T: Serialize>(
-        &mut self,
-        alloc: Global,
-        name: &'static str,
-        value: &T,
-    ) -> Result<(), Error>
-        ensures ok { OnOk result (Wrote (state W.Write W.FaultCount self.old)
-            (T.meaning.item value.now (state W.Write W.FaultCount self.old).setting)
-            (state W.Write W.FaultCount self.new)) }
-        ensures err { IfErr result (λ e. Refused (state W.Write W.FaultCount self.old)
-            (T.meaning.item value.now (state W.Write W.FaultCount self.old).setting) e
-            (state W.Write W.FaultCount self.new)) }
-        ensures stops { Stops (state W.Write W.FaultCount self.old) result
-            (state W.Write W.FaultCount self.new) }
-    {
-        let _ = name;
-        self.serialize_some(alloc, value)
     }
 }
 

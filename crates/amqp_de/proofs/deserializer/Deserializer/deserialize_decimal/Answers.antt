@@ -5,7 +5,7 @@ use Rattle.amqp_types.specs.declared.decimal.Decimal.TheVariants.{Dec32, Dec64, 
 use Rattle.amqp_base.specs.SameKind.{same_kind, place}
 use Rattle.amqp_de.specs.Decimals.{is_decimal, decimal, decimal_at}
 use Rattle.amqp_de.proofs.Answered.{found, missed_byte, missed_data, exact_data}
-use Rattle.amqp_de.proofs.Decimals.{reads_decimal}
+use Rattle.amqp_de.proofs.DecimalRead.{reads_decimal}
 use Rattle.amqp_de.proofs.deserializer.Deserializer.deserialize_decimal.Goals as goal
 
 a_decimal : (d : Decimal) → IsTrue (is_decimal (scalar (decimal d)))

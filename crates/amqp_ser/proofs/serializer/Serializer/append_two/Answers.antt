@@ -2,7 +2,7 @@ use Rattle.amqp_ser.specs.State.{state}
 use Rattle.amqp_ser.specs.Appending.{as_error}
 use Rattle.amqp_ser.specs.Compound.{open_state}
 use Rattle.std.proofs.Common.{refl, ap}
-use Rattle.amqp_ser.proofs.Steps.{appended_two, appended_stop}
+use Rattle.amqp_ser.proofs.Steps.{appended_two, appended_ended}
 use Rattle.amqp_ser.proofs.serializer.Serializer.append_two.Goals as goal
 
 pub returns-in-Ok : goal.returns-in-Ok
@@ -11,4 +11,4 @@ returns-in-Ok g c = appended_two _ _ _ _ _ _ _ (record { plan = refl; measure = 
 
 pub returns-in-Err : goal.returns-in-Err
 unfolding state open_state
-returns-in-Err g c = appended_stop _ _ _ _ _ _ _ (record { plan = refl; measure = refl }) (ap as_error c.in-Err.is) refl c.append.ensures
+returns-in-Err g c = appended_ended _ _ _ _ _ _ _ (record { plan = refl; measure = refl }) (ap as_error c.in-Err.is) refl c.append.ensures

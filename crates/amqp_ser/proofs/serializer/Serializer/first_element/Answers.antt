@@ -2,7 +2,7 @@ use Rattle.amqp_ser.specs.State.{state}
 use Rattle.amqp_ser.specs.Appending.{as_error}
 use Rattle.amqp_ser.specs.Compound.{open_state}
 use Rattle.std.proofs.Common.{refl, ap, ◌++◌}
-use Rattle.amqp_ser.proofs.Steps.{appended_two, appended_stop}
+use Rattle.amqp_ser.proofs.Steps.{appended_two, appended_ended}
 use Rattle.amqp_ser.proofs.TextOf.{first_pays}
 use Rattle.amqp_ser.proofs.serializer.Serializer.first_element.Goals as goal
 
@@ -12,4 +12,4 @@ returns-in-Ok g c = record { law = first_pays _ _ c.args.code c.byte.result (c.a
 
 pub returns-in-Err : goal.returns-in-Err
 unfolding state open_state
-returns-in-Err g c = record { law = first_pays _ _ c.args.code c.byte.result (c.args.head.now ++ c.args.body.now) _ _ c.requires.marked refl c.byte.ensures c.requires.answers (appended_stop _ _ _ _ _ _ _ (record { plan = refl; measure = refl }) (ap as_error c.in-Err.is) refl c.append.ensures) }
+returns-in-Err g c = record { law = first_pays _ _ c.args.code c.byte.result (c.args.head.now ++ c.args.body.now) _ _ c.requires.marked refl c.byte.ensures c.requires.answers (appended_ended _ _ _ _ _ _ _ (record { plan = refl; measure = refl }) (ap as_error c.in-Err.is) refl c.append.ensures) }

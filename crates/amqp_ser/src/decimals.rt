@@ -1,0 +1,119 @@
+//! Decimals.
+
+ghost use Rattle.std.specs.Prelude.{IfErr, OnOk};
+ghost use Rattle.amqp_base.specs.Item.{scalar, decimal32, decimal64, decimal128};
+ghost use Rattle.amqp_ser.specs.State.{state};
+ghost use Rattle.amqp_ser.specs.Law.{Wrote, Refused, Stops, Spares};
+
+use crate::serializer::refused;
+use crate::{Serialize, Serializer};
+use amqp_base::{EncodingCodes, Error, Sink};
+use amqp_types::{Dec32, Dec64, Dec128};
+use std::alloc::Global;
+
+impl<W: Sink> Serializer<W> {
+    /// Writes a decimal32 (section 1.6.13): 74 and its four bytes; in an array the four bytes. It
+    /// takes no memory of its own.
+    ///
+    /// `InvalidValue`: the array that it is to stand in has elements under another constructor.
+    #[inline(always)]
+    pub fn serialize_decimal32(&mut self, alloc: Global, v: &Dec32) -> Result<(), Error>
+        ensures ok { OnOk result (Wrote (state W.Write W.FaultCount self.old)
+            (scalar (decimal32 v.now)) (state W.Write W.FaultCount self.new)) }
+        ensures err { IfErr result (λ e. Refused (state W.Write W.FaultCount self.old)
+            (scalar (decimal32 v.now)) e (state W.Write W.FaultCount self.new)) }
+        ensures stops { Stops (state W.Write W.FaultCount self.old) result
+            (state W.Write W.FaultCount self.new) }
+        ensures spares { Spares (state W.Write W.FaultCount self.old) result
+            (state W.Write W.FaultCount self.new) }
+    {
+        let _ = alloc;
+        if self.ended {
+            return Err(Error::InvalidValue);
+        }
+        match self.four_bytes(EncodingCodes::Decimal32, *v.as_inner()) {
+            Ok(()) => Ok(()),
+            Err(e) => Err(refused(e)),
+        }
+    }
+
+    /// Writes a decimal64 (section 1.6.14): 84 and its eight bytes; in an array the eight bytes. It
+    /// takes no memory of its own.
+    ///
+    /// `InvalidValue`: the array that it is to stand in has elements under another constructor.
+    #[inline(always)]
+    pub fn serialize_decimal64(&mut self, alloc: Global, v: &Dec64) -> Result<(), Error>
+        ensures ok { OnOk result (Wrote (state W.Write W.FaultCount self.old)
+            (scalar (decimal64 v.now)) (state W.Write W.FaultCount self.new)) }
+        ensures err { IfErr result (λ e. Refused (state W.Write W.FaultCount self.old)
+            (scalar (decimal64 v.now)) e (state W.Write W.FaultCount self.new)) }
+        ensures stops { Stops (state W.Write W.FaultCount self.old) result
+            (state W.Write W.FaultCount self.new) }
+        ensures spares { Spares (state W.Write W.FaultCount self.old) result
+            (state W.Write W.FaultCount self.new) }
+    {
+        let _ = alloc;
+        if self.ended {
+            return Err(Error::InvalidValue);
+        }
+        match self.eight_bytes(EncodingCodes::Decimal64, *v.as_inner()) {
+            Ok(()) => Ok(()),
+            Err(e) => Err(refused(e)),
+        }
+    }
+
+    /// Writes a decimal128 (section 1.6.15): 94 and its sixteen bytes; in an array the sixteen
+    /// bytes. It takes no memory of its own.
+    ///
+    /// `InvalidValue`: the array that it is to stand in has elements under another constructor.
+    #[inline(always)]
+    pub fn serialize_decimal128(&mut self, alloc: Global, v: &Dec128) -> Result<(), Error>
+        ensures ok { OnOk result (Wrote (state W.Write W.FaultCount self.old)
+            (scalar (decimal128 v.now)) (state W.Write W.FaultCount self.new)) }
+        ensures err { IfErr result (λ e. Refused (state W.Write W.FaultCount self.old)
+            (scalar (decimal128 v.now)) e (state W.Write W.FaultCount self.new)) }
+        ensures stops { Stops (state W.Write W.FaultCount self.old) result
+            (state W.Write W.FaultCount self.new) }
+        ensures spares { Spares (state W.Write W.FaultCount self.old) result
+            (state W.Write W.FaultCount self.new) }
+    {
+        let _ = alloc;
+        if self.ended {
+            return Err(Error::InvalidValue);
+        }
+        match self.sixteen_bytes(EncodingCodes::Decimal128, *v.as_inner()) {
+            Ok(()) => Ok(()),
+            Err(e) => Err(refused(e)),
+        }
+    }
+}
+
+impl Serialize for Dec32 {
+    #[inline(always)]
+    fn serialize<W: Sink>(&self, alloc: Global, ser: &mut Serializer<W>) -> Result<(), Error> {
+        match ser.serialize_decimal32(alloc, self) {
+            Ok(()) => Ok(()),
+            Err(e) => Err(e),
+        }
+    }
+}
+
+impl Serialize for Dec64 {
+    #[inline(always)]
+    fn serialize<W: Sink>(&self, alloc: Global, ser: &mut Serializer<W>) -> Result<(), Error> {
+        match ser.serialize_decimal64(alloc, self) {
+            Ok(()) => Ok(()),
+            Err(e) => Err(e),
+        }
+    }
+}
+
+impl Serialize for Dec128 {
+    #[inline(always)]
+    fn serialize<W: Sink>(&self, alloc: Global, ser: &mut Serializer<W>) -> Result<(), Error> {
+        match ser.serialize_decimal128(alloc, self) {
+            Ok(()) => Ok(()),
+            Err(e) => Err(e),
+        }
+    }
+}

@@ -1,0 +1,137 @@
+//! Structs, all fields at once.
+
+ghost use Rattle.std.specs.Prelude.{◌≡◌, ◌++◌, ◌∷◌, [], true, false, not, ◌&&◌, IsTrue, IfErr};
+ghost use Rattle.std.specs.Prelude.{OnOk, List};
+ghost use Rattle.amqp_base.specs.Structs.{FieldItem, named, struct_item, is_described_name};
+ghost use Rattle.amqp_base.specs.Structs.{is_descriptor_name};
+ghost use Rattle.amqp_ser.specs.State.{State, state};
+ghost use Rattle.amqp_ser.specs.Law.{Wrote, Refused};
+ghost use Rattle.amqp_ser.specs.Compound.{struct_state, HoldsFields, BeginsWith};
+
+use crate::{Serialize, Serializer, StructSerializer};
+use amqp_base::{Error, Sink, Typed};
+use std::alloc::Global;
+
+/// Fields under their names, in order.
+pub trait StructFields: Drop {
+    ghost use Rattle.std.specs.Prelude.{List, Bool};
+    ghost use Rattle.amqp_base.specs.Structs.{FieldItem};
+
+    /// The fields.
+    ghost items: { Self → List FieldItem };
+
+    /// No field has the name of a descriptor.
+    ghost usual: { Self → Bool };
+
+    /// Writes them, in order.
+    fn write<W: Sink>(&self, alloc: Global, out: &mut StructSerializer<'_, W>) -> Result<(), Error>
+        ensures same_reference { out.new.ser.ghost_name ≡ out.old.ser.ghost_name }
+        ensures ok { OnOk result ((s : State) (fs : List FieldItem) →
+            HoldsFields s fs (struct_state W.Write W.FaultCount out.old) →
+            HoldsFields s (fs ++ Self.items self.now) (struct_state W.Write W.FaultCount out.new)) }
+        ensures err { IfErr result (λ e. IsTrue (Self.usual self.now) →
+            (s : State) (fs all : List FieldItem) →
+            HoldsFields s fs (struct_state W.Write W.FaultCount out.old) →
+            BeginsWith all (fs ++ Self.items self.now) → Refused s (struct_item s.setting all) e
+            (state W.Write W.FaultCount out.new.ser.now)) };
+}
+
+impl StructFields for () {
+    ghost items = { λ _. [] };
+
+    ghost usual = { λ _. true };
+
+    fn write<W: Sink>(
+        &self,
+        alloc: Global,
+        out: &mut StructSerializer<'_, W>,
+    ) -> Result<(), Error> {
+        let _ = alloc;
+        let _ = out;
+        Ok(())
+    }
+}
+
+/// A field under its name, and the fields behind it.
+#[derive(Drop)]
+pub struct Written<'a, T, Rest> {
+    /// Its name.
+    pub name: &'a str,
+    /// Its value.
+    pub value: &'a T,
+    /// The fields behind it.
+    pub rest: Rest,
+}
+
+impl<T: Serialize, Rest: StructFields> StructFields for Written<'_, T, Rest> {
+    ghost items = { λ w. named w.name.now (T.meaning.item w.value.now) ∷ Rest.items w.rest };
+
+    ghost usual = { λ w. not (is_descriptor_name w.name.now) && Rest.usual w.rest };
+
+    fn write<W: Sink>(
+        &self,
+        alloc: Global,
+        out: &mut StructSerializer<'_, W>,
+    ) -> Result<(), Error> {
+        match out.serialize_field(alloc, self.name, self.value) {
+            Ok(()) => self.rest.write(alloc, out),
+            Err(e) => Err(e),
+        }
+    }
+}
+
+/// A struct: its name, and its fields.
+#[derive(Drop)]
+pub struct Struct<'n, F> {
+    /// Its name, which isn't written.
+    pub name: &'n str,
+    /// Its fields.
+    pub fields: F,
+}
+
+impl<W: Sink> Serializer<W> {
+    /// Writes a struct, all its fields at once.
+    pub fn serialize_fields<F: StructFields>(
+        &mut self,
+        alloc: Global,
+        whole: &Struct<'_, F>,
+    ) -> Result<(), Error>
+        ensures ok { OnOk result (Wrote (state W.Write W.FaultCount self.old)
+            (struct_item (state W.Write W.FaultCount self.old).setting (F.items whole.now.fields))
+            (state W.Write W.FaultCount self.new)) }
+        ensures err { is_described_name whole.now.name.now ≡ false →
+            IsTrue (F.usual whole.now.fields) →
+            IfErr result (λ e. Refused (state W.Write W.FaultCount self.old)
+            (struct_item (state W.Write W.FaultCount self.old).setting
+            (F.items whole.now.fields)) e (state W.Write W.FaultCount self.new)) }
+    {
+        let mut out = match self.serialize_struct(alloc, whole.name, 0) {
+            Ok(out) => out,
+            Err(e) => return Err(e),
+        };
+        match whole.fields.write(alloc, &mut out) {
+            Ok(()) => out.end(),
+            Err(e) => Err(e),
+        }
+    }
+}
+
+/// Writes a struct by its fields: `write_fields!(ser, alloc, self, Sensor { id, unit })` calls
+/// `Serializer::serialize_fields` with the fields of `self` under their own names.
+#[macro_export]
+macro_rules! write_fields {
+    ($ser:expr, $alloc:expr, $of:expr, $name:ident { $($field:ident),+ $(,)? }) => {
+        $ser.serialize_fields($alloc, &$crate::Struct {
+            name: stringify!($name),
+            fields: $crate::write_fields!(@fields $of; $($field),+),
+        })
+    };
+    (@fields $of:expr;) => { () };
+    (@fields $of:expr; $field:ident $(, $rest:ident)*) => {
+        $crate::Written {
+            name: stringify!($field),
+            value: &$of.$field,
+            rest: $crate::write_fields!(@fields $of; $($rest),*),
+        }
+    };
+}

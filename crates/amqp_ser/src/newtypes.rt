@@ -1,0 +1,32 @@
+//! Newtypes, which are nothing of their own on the wire.
+
+ghost use Rattle.std.specs.Prelude.{IfErr, OnOk};
+ghost use Rattle.amqp_ser.specs.State.{state};
+ghost use Rattle.amqp_ser.specs.Law.{Wrote, Refused, Stops};
+
+use crate::{Serialize, Serializer};
+use amqp_base::{Error, Sink};
+use std::alloc::Global;
+
+impl<W: Sink> Serializer<W> {
+    /// Writes the value itself, as a newtype that holds it; `name` isn't written. It is refused as
+    /// the value's own `serialize`.
+    pub fn serialize_newtype_struct<T: Serialize>(
+        &mut self,
+        alloc: Global,
+        name: &'static str,
+        value: &T,
+    ) -> Result<(), Error>
+        ensures ok { OnOk result (Wrote (state W.Write W.FaultCount self.old)
+            (T.meaning.item value.now (state W.Write W.FaultCount self.old).setting)
+            (state W.Write W.FaultCount self.new)) }
+        ensures err { IfErr result (λ e. Refused (state W.Write W.FaultCount self.old)
+            (T.meaning.item value.now (state W.Write W.FaultCount self.old).setting) e
+            (state W.Write W.FaultCount self.new)) }
+        ensures stops { Stops (state W.Write W.FaultCount self.old) result
+            (state W.Write W.FaultCount self.new) }
+    {
+        let _ = name;
+        self.serialize_some(alloc, value)
+    }
+}

@@ -1,0 +1,164 @@
+//! Tuples, part by part.
+
+ghost use Rattle.std.specs.Prelude.{◌≡◌, ℕ, ◌++◌, ◌∷◌, [], length, Some, true, IfOk, IfErr, OnOk};
+ghost use Rattle.std.specs.Prelude.{OnErr, Err, List};
+ghost use Rattle.std.specs.Borrow.{sem, RestsIfErr};
+ghost use Rattle.amqp_base.specs.Item.{Item, items_of};
+ghost use Rattle.amqp_base.specs.Shapes.{whole};
+ghost use Rattle.amqp_ser.specs.State.{State, state};
+ghost use Rattle.amqp_ser.specs.Law.{Wrote, Refused, Kept};
+ghost use Rattle.amqp_ser.specs.Compound.{tuple_state, parts_text, RefusesOpen, Holds, Keeps};
+ghost use Rattle.amqp_ser.specs.Compound.{BeginsWith, EndsCompound, IsEnded};
+ghost use Rattle.amqp_ser.specs.contracts.serializer.Serializer.{the_row};
+
+use crate::{Parts, Serialize, Serializer};
+use amqp_base::{Error, Setting, Shape, Sink};
+use std::alloc::Global;
+
+/// A tuple that is being written, part by part: a list of just so many elements as were announced.
+/// Nothing of it reaches the writer before `end`. Until `end` succeeded its serializer answers
+/// nothing but `InvalidValue`, also where it is dropped.
+pub struct TupleSerializer<'a, W, B = Parts> {
+    ser: &'a mut Serializer<W>,
+    parts: B,
+}
+
+impl<W, B: Drop> Drop for TupleSerializer<'_, W, B> {
+    fn drop(self)
+        ensures { self.exit.0.now ≡ self.entry.ser.now }
+    {
+        let TupleSerializer { ser: _, parts: _ } = self;
+    }
+}
+
+impl<W: Sink> Serializer<W> {
+    /// Opens a tuple of `len` parts, which is written as a list (section 1.6.22).
+    ///
+    /// `OutOfMemory`: there is no memory for its buffer.
+    #[inline(always)]
+    pub fn serialize_tuple(
+        &mut self,
+        alloc: Global,
+        len: usize,
+    ) -> Result<TupleSerializer<'_, W>, Error>
+        ensures* rests { sem 𝓛 (RestsIfErr (the_row W.row) self.entry (λ q.
+            q.ser.ghost_name) result (λ n.
+            RefusesOpen (Shape.Tuple len) (state W.Write W.FaultCount self.old) result
+            (state W.Write W.FaultCount n))) }
+        ensures same_reference { IfOk result (λ q. q.ser.ghost_name ≡ self.entry.ghost_name) }
+        ensures held { IfOk result (λ q. (state W.Write W.FaultCount q.ser.now).ended ≡ true) }
+        ensures opened { IfOk result (λ q. Holds (state W.Write W.FaultCount self.old)
+            (Shape.Tuple len) [] (tuple_state W.Write W.FaultCount q)) }
+    {
+        match self.begin(alloc, Shape::Tuple(len)) {
+            Ok(parts) => Ok(TupleSerializer { ser: self, parts }),
+            Err(e) => Err(e),
+        }
+    }
+}
+
+impl<'a, W: Sink> TupleSerializer<'a, W> {
+    /// Writes one more part. It is refused as the part's own `serialize`; then the compound answers
+    /// `InvalidValue` to all that follows, `end` too. A part beyond the announced number is refused
+    /// at `end`.
+    #[inline(always)]
+    pub fn serialize_element<T: Serialize>(&mut self, alloc: Global, value: &T) -> Result<(), Error>
+        ensures same_reference { self.new.ser.ghost_name ≡ self.old.ser.ghost_name }
+        ensures ok { OnOk result ((s : State) (shape : Shape) (xs : List Item) →
+            Holds s shape xs (tuple_state W.Write W.FaultCount self.old) →
+            Holds s shape (xs ++ T.meaning.item value.now Setting.Plain ∷ [])
+            (tuple_state W.Write W.FaultCount self.new)) }
+        ensures err { IfErr result (λ e. (s : State) (shape : Shape) (xs all : List Item) →
+            Holds s shape xs (tuple_state W.Write W.FaultCount self.old) →
+            BeginsWith all (xs ++ T.meaning.item value.now Setting.Plain ∷ []) →
+            Refused s (whole shape all) e (state W.Write W.FaultCount self.new.ser.now)) }
+        ensures kept { Keeps (tuple_state W.Write W.FaultCount self.old)
+            (tuple_state W.Write W.FaultCount self.new) }
+        ensures stops { EndsCompound (tuple_state W.Write W.FaultCount self.old) result
+            (tuple_state W.Write W.FaultCount self.new) }
+    {
+        match self.parts.write(alloc, value) {
+            Ok(()) => Ok(()),
+            Err(e) => Err(e),
+        }
+    }
+
+    /// Writes the whole: its code, size and count, and the parts (where there are none, the byte
+    /// 45). Only then does its serializer answer again.
+    ///
+    /// `SequenceLengthMismatch`: another number of parts was written than announced; then nothing
+    /// is written. `Io(Other)`: the parts have more than 4,294,967,291 bytes. `InvalidValue`: a
+    /// part was refused, or the array that the whole is to stand in has elements under another
+    /// constructor.
+    pub fn end(self) -> Result<(), Error>
+        ensures ok { OnOk result ((s : State) (n : ℕ) (xs : List Item) →
+            Holds s (Shape.Tuple n) xs (tuple_state W.Write W.FaultCount self.entry) →
+            Wrote s (whole (Shape.Tuple n) xs) (state W.Write W.FaultCount self.exit.0.now)) }
+        ensures err { IfErr result (λ e. (s : State) (n : ℕ) (xs : List Item) →
+            Holds s (Shape.Tuple n) xs (tuple_state W.Write W.FaultCount self.entry) →
+            length xs ≡ n → Refused s (whole (Shape.Tuple n) xs) e
+            (state W.Write W.FaultCount self.exit.0.now)) }
+        ensures mismatch { (s : State) (n : ℕ) (xs : List Item) →
+            Holds s (Shape.Tuple n) xs (tuple_state W.Write W.FaultCount self.entry) →
+            (length xs ≡ n → ⊥) → (result ≡ Err Error.SequenceLengthMismatch) ×
+            (self.exit.0.now ≡ self.entry.ser.now) }
+        ensures kept { Kept (state W.Write W.FaultCount self.entry.ser.now)
+            (state W.Write W.FaultCount self.exit.0.now) }
+        ensures stays_ended { OnErr result (
+            (state W.Write W.FaultCount self.entry.ser.now).ended ≡ true →
+            (state W.Write W.FaultCount self.exit.0.now).ended ≡ true) }
+        ensures ended { IsEnded (tuple_state W.Write W.FaultCount self.entry) →
+            result ≡ Err Error.InvalidValue }
+    {
+        let TupleSerializer { ser, parts } = self;
+        if parts.buffer.ended {
+            return Err(Error::InvalidValue);
+        }
+        if parts.is_full() {
+            return ser.close(parts);
+        }
+        Err(Error::SequenceLengthMismatch)
+    }
+}
+
+/// The one value, as a list of it.
+impl<A: Serialize> Serialize for (A,) {
+    fn serialize<W: Sink>(&self, alloc: Global, ser: &mut Serializer<W>) -> Result<(), Error> {
+        let mut tuple = ser.serialize_tuple(alloc, 1)?;
+        tuple.serialize_element(alloc, &self.0)?;
+        tuple.end()
+    }
+}
+
+/// Two values, as a list of them.
+impl<A: Serialize, B: Serialize> Serialize for (A, B) {
+    fn serialize<W: Sink>(&self, alloc: Global, ser: &mut Serializer<W>) -> Result<(), Error> {
+        let mut tuple = ser.serialize_tuple(alloc, 2)?;
+        tuple.serialize_element(alloc, &self.0)?;
+        tuple.serialize_element(alloc, &self.1)?;
+        tuple.end()
+    }
+}
+
+/// Three values, as a list of them.
+impl<A: Serialize, B: Serialize, C: Serialize> Serialize for (A, B, C) {
+    fn serialize<W: Sink>(&self, alloc: Global, ser: &mut Serializer<W>) -> Result<(), Error> {
+        let mut tuple = ser.serialize_tuple(alloc, 3)?;
+        tuple.serialize_element(alloc, &self.0)?;
+        tuple.serialize_element(alloc, &self.1)?;
+        tuple.serialize_element(alloc, &self.2)?;
+        tuple.end()
+    }
+}
+
+/// Four values, as a list of them.
+impl<A: Serialize, B: Serialize, C: Serialize, D: Serialize> Serialize for (A, B, C, D) {
+    fn serialize<W: Sink>(&self, alloc: Global, ser: &mut Serializer<W>) -> Result<(), Error> {
+        let mut tuple = ser.serialize_tuple(alloc, 4)?;
+        tuple.serialize_element(alloc, &self.0)?;
+        tuple.serialize_element(alloc, &self.1)?;
+        tuple.serialize_element(alloc, &self.2)?;
+        tuple.serialize_element(alloc, &self.3)?;
+        tuple.end()
+    }
+}
