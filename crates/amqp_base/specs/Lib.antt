@@ -28,6 +28,7 @@ pub mod Meaning
 pub mod Sorts
 pub mod Chosen
 pub mod Faults
+pub mod Passes
 pub mod Refusals
 pub mod PlainArrays
 pub mod Laws

@@ -60,6 +60,7 @@ impl From<io::ErrorKind> for Error {
     ghost from_gives = { λ kind e. e ≡ refusal_of kind };
 
     #[tactic(auto, unfolding(crate::specs::Faults::refusal_of))]
+    #[inline(always)]
     fn from(kind: io::ErrorKind) -> Error {
         match kind {
             io::ErrorKind::OutOfMemory => Error::OutOfMemory,

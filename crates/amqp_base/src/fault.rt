@@ -1,12 +1,14 @@
 //! Sources and sinks of bytes, and how often they failed.
 
 ghost use Rattle.std.specs.Prelude.{◌≡◌, ◌<◌, ◌≤◌, ℕ, Bool, true, false, List, [], ◌∷◌, length};
-ghost use Rattle.std.specs.Prelude.{Option, None, Some, ◌+◌, IfOk, IsTrue};
+ghost use Rattle.std.specs.Prelude.{Option, None, Some, ◌+◌, IfOk, IfSome, IsTrue};
 ghost use Rattle.std.specs.Borrow.{GName};
 ghost use Rattle.std.specs.Io.{ReadsAtMost};
 ghost use Rattle.std.specs.Io.KnownBytes.{WriteAppends, ReadConsumes, IsAtEnd};
 ghost use Rattle.std.specs.declared.io.ErrorKind.{ErrorKind};
 ghost use Rattle.amqp_base.specs.Faults.{Counts, Remembers};
+ghost use Rattle.amqp_base.specs.Passes.{Planned, Measured, Plans, Measures, MakesRoom, SetsSize};
+ghost use Rattle.amqp_base.specs.Passes.{TakesNext, IsCounted, IsWritten, CountsMore};
 
 use crate::Count;
 use std::io;
@@ -23,6 +25,35 @@ pub trait FaultCount {
 
     /// Whether want of memory may go uncounted. No call changes it.
     ghost grows: { Self → Bool };
+
+    /// What a writer that knows all sizes has written, and which are still to come. Only writers of
+    /// the codec's own have one.
+    ghost plan: { Self → Option Planned } = { λ _. None };
+
+    /// What a writer that only counts has counted. Only writers of the codec's own do so.
+    ghost measure: { Self → Option Measured } = { λ _. None };
+}
+
+/// What a writer does with the parts of a compound.
+#[doc(hidden)]
+#[derive(Clone, Copy)]
+pub enum Pass {
+    /// It takes the whole.
+    Buffers,
+    /// It counts them, before their header.
+    Measures,
+    /// It takes them behind their header.
+    Writes,
+}
+
+/// The length of a compound's body, and the count of its parts.
+#[doc(hidden)]
+#[derive(Clone, Copy)]
+pub struct Size {
+    /// The length of the body.
+    pub length: usize,
+    /// The count of the parts.
+    pub count: usize,
 }
 
 /// A reader, by the one call that the codec makes.
@@ -69,7 +100,84 @@ pub trait Sink: Write + FaultCount + Drop {
             (Self.faults self.new) result }
         ensures kind { Remembers (Self.faults self.old) (Self.faults self.new)
             (Self.last_fault self.old) (Self.last_fault self.new) result }
-        ensures grows { Self.grows self.new ≡ Self.grows self.old };
+        ensures grows { Self.grows self.new ≡ Self.grows self.old }
+        ensures plan { Plans (Self.plan self.old) (Self.plan self.new) result bytes.now }
+        ensures measure { Measures (Self.measure self.old) (Self.measure self.new) result };
+
+    /// What becomes of the parts of a compound.
+    #[doc(hidden)]
+    fn pass(&self) -> Pass {
+        Pass::Buffers
+    }
+
+    /// Makes a place for the size of a compound that opens while it is counted: the place.
+    #[doc(hidden)]
+    fn open_measured(&mut self) -> Option<usize>
+        ensures room { IfSome result (λ at.
+            MakesRoom (Self.measure self.old) at (Self.measure self.new)) }
+        ensures alone { IfSome result (λ _. Self.plan self.old ≡ None) }
+        ensures plan { Self.plan self.new ≡ Self.plan self.old }
+        ensures faults { Self.faults self.new ≡ Self.faults self.old }
+        ensures last { Self.last_fault self.new ≡ Self.last_fault self.old }
+        ensures grows { Self.grows self.new ≡ Self.grows self.old }
+    {
+        None
+    }
+
+    /// Puts the size of a compound that ends at the place that it was given. Whether it did.
+    #[doc(hidden)]
+    fn close_measured(&mut self, at: usize, size: Size) -> bool
+        ensures set { IsTrue result → SetsSize (Self.measure self.old) at size.length size.count
+            (Self.measure self.new) }
+        ensures plan { Self.plan self.new ≡ Self.plan self.old }
+        ensures faults { Self.faults self.new ≡ Self.faults self.old }
+        ensures last { Self.last_fault self.new ≡ Self.last_fault self.old }
+        ensures grows { Self.grows self.new ≡ Self.grows self.old }
+    {
+        let _ = at;
+        let _ = size;
+        false
+    }
+
+    /// Takes the size of the compound that opens next.
+    #[doc(hidden)]
+    fn next_size(&mut self) -> Option<Size>
+        ensures next { IfSome result (λ z.
+            TakesNext (Self.plan self.old) z.length z.count (Self.plan self.new)) }
+        ensures alone { IfSome result (λ _. Self.measure self.old ≡ None) }
+        ensures measure { Self.measure self.new ≡ Self.measure self.old }
+        ensures faults { Self.faults self.new ≡ Self.faults self.old }
+        ensures last { Self.last_fault self.new ≡ Self.last_fault self.old }
+        ensures grows { Self.grows self.new ≡ Self.grows self.old }
+    {
+        None
+    }
+
+    /// How many bytes were counted or written.
+    #[doc(hidden)]
+    fn so_far(&self) -> Option<usize>
+        ensures counted { IfSome result (λ n. IsCounted (Self.measure self.now) n) }
+        ensures written { IfSome result (λ n. IsWritten (Self.plan self.now) n) }
+    {
+        None
+    }
+
+    /// Counts so many bytes more, where it only counts. Whether it did.
+    #[doc(hidden)]
+    fn counts(&mut self, more: usize) -> bool
+        ensures counted { IsTrue result →
+            CountsMore (Self.measure self.old) more (Self.measure self.new) }
+        ensures alone { IsTrue result → Self.plan self.old ≡ None }
+        ensures untold { IsTrue result → Self.contents self.old ≡ None }
+        ensures same { result ≡ false → self.new ≡ self.old }
+        ensures plan { Self.plan self.new ≡ Self.plan self.old }
+        ensures faults { Self.faults self.new ≡ Self.faults self.old }
+        ensures last { Self.last_fault self.new ≡ Self.last_fault self.old }
+        ensures grows { Self.grows self.new ≡ Self.grows self.old }
+    {
+        let _ = more;
+        false
+    }
 }
 
 /// A vector has no faults but want of memory.

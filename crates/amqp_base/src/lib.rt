@@ -19,6 +19,8 @@ pub use constants::{
 pub use count::Count;
 pub use encoding::{EnumType, IsArrayElement, StructEncoding};
 pub use error::Error;
+#[doc(hidden)]
+pub use fault::{Pass, Size};
 pub use fault::{Counted, FaultCount, Sink, Source};
 pub use format_code::{Category, EncodingCodes, IsDescribed};
 pub use shape::{Setting, Shape};

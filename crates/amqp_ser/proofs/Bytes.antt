@@ -1,5 +1,5 @@
 -- Known bytes over several writes.
-use Rattle.std.proofs.Common.{◌≡◌, ◌<◌, ◌==◌, Bool, suc, ◌∷◌, ℕ, ◌+◌, ◌≤◌, List, [], ◌++◌, length, take, drop, refl, sym, ◌∙◌, ap, subst, append_assoc, arith, Option, Some, None, Ok, Err, inl, inr, true, false, ◌⊎◌}
+use Rattle.std.proofs.Common.{◌≡◌, ◌<◌, ◌==◌, Bool, suc, ◌∷◌, ℕ, ◌+◌, ◌≤◌, List, [], ◌++◌, length, length-append, length-take-le, take, drop, refl, sym, ◌∙◌, ap, subst, append_assoc, arith, Option, Some, None, Ok, Err, inl, inr, true, false, ◌⊎◌, min}
 use Rattle.std.proofs.lemmas.Grind.{common_steps}
 use Rattle.std.proofs.lemmas.List.{take-append-drop, take_all, length-drop, append-nil}
 use Rattle.std.proofs.lemmas.Bool.{ne_eqb}
@@ -9,8 +9,10 @@ use Rattle.std.specs.declared.io.ErrorKind.TheVariants.{OutOfMemory as NoMemory}
 use Rattle.amqp_base.specs.Faults.{Extends, refusal_of, IsFault}
 use Rattle.amqp_base.specs.declared.error.Error.{Error}
 use Rattle.amqp_base.specs.declared.error.Error.TheVariants.{OutOfMemory, Io}
-use Rattle.amqp_ser.specs.State.{State}
-use Rattle.amqp_ser.specs.Law.{Goes, fits, Kept, IsDevice}
+use Rattle.amqp_base.specs.Sizes.{Size}
+use Rattle.amqp_base.specs.Passes.{Plans, Measures}
+use Rattle.amqp_ser.specs.State.{State, Planned, Measured, contents_in, plan_in, measure_in}
+use Rattle.amqp_ser.specs.Law.{Goes, fits, is_next, plan_after, measure_after, Kept, IsDevice}
 use Rattle.amqp_ser.specs.Appending.{Appended}
 
 pub appends_more : (a b c : Option (List ℕ)) (xs ys : List ℕ) → Appends a b xs → Appends b c ys → Appends a c (xs ++ ys)
@@ -44,20 +46,73 @@ pub appends_none : (a : Option (List ℕ)) → Appends a a []
 appends_none None = tt
 appends_none (Some a) = grind (arith, common_steps)
 
+-- a step, and one more, are one
+plan_two : (p : Option Planned) (a b : List ℕ) → plan_after (plan_after p [] a) [] b ≡ plan_after p [] (a ++ b)
+plan_two None a b = refl
+plan_two (Some p) a b = ap (λ x. Some (record { bytes = x; sizes = p.sizes })) (append_assoc p.bytes a b)
+
+measure_two : (p : Option Measured) (n k : ℕ) → measure_after (measure_after p [] n) [] k ≡ measure_after p [] (n + k)
+measure_two None n k = refl
+measure_two (Some p) n k = let e : min (min (p.length + n) 18446744073709551615 + k) 18446744073709551615 ≡ min (p.length + (n + k)) 18446744073709551615 = omega arith in rw e (ap (λ y. Some (record { length = min (p.length + (n + k)) 18446744073709551615; sizes = y })) (append-nil (p.sizes ++ [])))
+
+plan_start : (p : Option Planned) → p ≡ plan_after p [] []
+plan_start None = refl
+plan_start (Some p) = ap (λ x. Some (record { bytes = x; sizes = p.sizes })) (sym (append-nil p.bytes))
+
+pub measure_start : (d : Bool) (p : Option Measured) → measure_in d p ≡ measure_after (measure_in d p) [] 0
+measure_start false p = refl
+measure_start true None = refl
+measure_start true (Some p) = let e : min (min p.length 18446744073709551615 + 0) 18446744073709551615 ≡ min p.length 18446744073709551615 = omega arith in rw (e, append-nil p.sizes) refl
+
+pub appends_in : (d : Bool) (a b : Option (List ℕ)) (xs : List ℕ) → Appends a b xs → Appends (contents_in d a) (contents_in d b) xs
+appends_in true a b xs h = tt
+appends_in false a b xs h = h
+
+pub keeps_in : (d : Bool) (a b : Option (List ℕ)) → Keeps a b → Keeps (contents_in d a) (contents_in d b)
+keeps_in true a b h = tt
+keeps_in false a b h = h
+
+pub plan_step : (d : Bool) (p q : Option Planned) (n : ℕ) (b : List ℕ) → Plans p q (Ok n) b → plan_in d q ≡ plan_after (plan_in d p) [] (take n b)
+plan_step false p q n b h = refl
+plan_step true None q n b h = h
+plan_step true (Some p) q n b h = h
+
+pub measure_step : (d : Bool) (p q : Option Measured) (n : ℕ) (b : List ℕ) → n ≤ length b → Measures p q (Ok n) → measure_in d q ≡ measure_after (measure_in d p) [] (length (take n b))
+measure_step false p q n b l h = refl
+measure_step true None q n b l h = rw h refl
+measure_step true (Some p) q n b l h =
+    let k : length (take n b) ≡ n = length-take-le n b l in
+    let e : min (min (p.length + n) 18446744073709551615) 18446744073709551615 ≡ min (min p.length 18446744073709551615 + n) 18446744073709551615 = omega arith in
+    rw (h, k, e, append-nil p.sizes) refl
+
 -- part of the bytes is appended, the rest is to come
 pub record Going (s : State) (bytes rest : List ℕ) (t : State) : Type 0 where
   pub done : List ℕ
   pub split : bytes ≡ done ++ rest
   pub appended : Appends s.contents t.contents done
-  pub same : t ≡ record s { contents = t.contents }
+  pub plan : t.plan ≡ plan_after s.plan [] done
+  pub measure : t.measure ≡ measure_after s.measure [] (length done)
+  pub same : t ≡ record s { contents = t.contents; plan = t.plan; measure = t.measure }
 
-pub going_more : (s t u : State) (bytes rest more after : List ℕ) → Going s bytes rest t → rest ≡ more ++ after → Appends t.contents u.contents more → u.faults ≡ t.faults → u.last_fault ≡ t.last_fault → u.grows ≡ t.grows
-    → u ≡ record t { contents = u.contents; faults = u.faults; last_fault = u.last_fault; grows = u.grows } → Going s bytes after u
-going_more s t u bytes rest more after g split appended faults last grows same = record {
+pub going_more : (s t u : State) (bytes rest more after : List ℕ) → Going s bytes rest t → rest ≡ more ++ after → Appends t.contents u.contents more → u.plan ≡ plan_after t.plan [] more → u.measure ≡ measure_after t.measure [] (length more) → u.faults ≡ t.faults → u.last_fault ≡ t.last_fault → u.grows ≡ t.grows
+    → u ≡ record t { contents = u.contents; plan = u.plan; measure = u.measure; faults = u.faults; last_fault = u.last_fault; grows = u.grows } → Going s bytes after u
+going_more s t u bytes rest more after g split appended plan measure faults last grows same = record {
   done = g.done ++ more;
   split = g.split ∙ (ap (λ xs. g.done ++ xs) split ∙ sym (append_assoc g.done more after));
   appended = appends_more _ _ _ _ _ g.appended appended;
-  same = same ∙ (let e : record t { contents = u.contents; faults = u.faults; last_fault = u.last_fault; grows = u.grows } ≡ record t { contents = u.contents } = rw (faults, last, grows) refl in e) ∙ ap (λ (x : State). record x { contents = u.contents }) g.same;
+  plan = plan ∙ (ap (λ p. plan_after p [] more) g.plan ∙ plan_two s.plan g.done more);
+  measure = measure ∙ (ap (λ p. measure_after p [] (length more)) g.measure ∙ (measure_two s.measure (length g.done) (length more) ∙ ap (λ n. measure_after s.measure [] n) (sym (length-append g.done more))));
+  same = same ∙ (let e : record t { contents = u.contents; plan = u.plan; measure = u.measure; faults = u.faults; last_fault = u.last_fault; grows = u.grows } ≡ record t { contents = u.contents; plan = u.plan; measure = u.measure } = rw (faults, last, grows) refl in e) ∙ ap (λ (x : State). record x { contents = u.contents; plan = u.plan; measure = u.measure }) g.same;
+}
+
+pub going_none : (s : State) (bytes : List ℕ) → s.measure ≡ measure_after s.measure [] 0 → Going s bytes bytes s
+going_none s bytes measure = record {
+  done = [];
+  split = grind (arith, common_steps);
+  appended = appends_none s.contents;
+  plan = plan_start s.plan;
+  measure = measure;
+  same = refl;
 }
 
 pub kept_going : (s t : State) (bytes rest : List ℕ) → Going s bytes rest t → Kept s t
@@ -67,26 +122,21 @@ kept_going s t bytes rest g = record {
   grows = ap (λ (x : State). x.grows) g.same;
 }
 
-pub fits_none : (s : State) (n : ℕ) → s.plan ≡ None → s.measure ≡ None → fits s [] n ≡ true
+next_nil : (p : Option Planned) → is_next p [] ≡ true
+next_nil None = refl
+next_nil (Some p) = refl
+
+fits_any : (s : State) (n : ℕ) → fits s [] n ≡ true
 unfolding fits
-fits_none s n p m = rw (p, m) refl
+fits_any s n = next_nil s.plan
 
-pub goes_plain : (s t : State) (bytes : List ℕ) → s.plan ≡ None → s.measure ≡ None → Appends s.contents t.contents bytes → t.plan ≡ s.plan → t.measure ≡ s.measure → t.setting ≡ s.setting → Goes s bytes [] t
-goes_plain s t bytes p m a tp tm setting = record {
-  fits = fits_none s (length bytes) p m;
-  appended = a;
-  plan = tp ∙ (rw p refl);
-  measure = tm ∙ (rw m refl);
-  setting = setting;
-}
-
-pub appended_all : {A : Type 0} (x : A) (s t : State) (bytes rest : List ℕ) → s.plan ≡ None → s.measure ≡ None → rest ≡ [] → Going s bytes rest t → Appended s bytes (Ok x) t
-appended_all x s t bytes rest p m nil g =
+pub appended_all : {A : Type 0} (x : A) (s t : State) (bytes rest : List ℕ) → rest ≡ [] → Going s bytes rest t → Appended s bytes (Ok x) t
+appended_all x s t bytes rest nil g =
     let all : bytes ≡ g.done = g.split ∙ (ap (λ xs. g.done ++ xs) nil ∙ append-nil g.done) in
     record {
       kept = kept_going s t bytes rest g;
       device = tt;
-      ok = (goes_plain s t bytes p m (rw all g.appended) (ap (λ (x : State). x.plan) g.same) (ap (λ (x : State). x.measure) g.same) (ap (λ (x : State). x.setting) g.same), ap (λ (x : State). x.mark) g.same, ap (λ (x : State). x.found) g.same, ap (λ (x : State). x.ended) g.same);
+      ok = (record { fits = fits_any s (length bytes); appended = rw all g.appended; plan = rw all g.plan; measure = rw all g.measure; setting = ap (λ (x : State). x.setting) g.same }, ap (λ (x : State). x.mark) g.same, ap (λ (x : State). x.found) g.same, ap (λ (x : State). x.ended) g.same);
       err = tt;
       refused = tt;
       spares = tt;

@@ -1,24 +1,34 @@
 -- The steps of a compound.
-use Rattle.std.proofs.Common.{◌≡◌, get_or, map, take, drop, suc, add-one, drop-cons, ℕ, ◌+◌, ◌<◌, ◌≤◌, ◌^◌, List, [], ◌∷◌, ◌++◌, length, refl, sym, ◌∙◌, ap, arith, Option, Some, None, true, false, Bool, if◌then◌else◌, Result, Ok, Err, OnOk, IfErr, inl, inr, subst, length-append, min, ◌==◌, ◌%◌}
-use Rattle.std.proofs.lemmas.List.{take-append-drop, take_all, take_more, map-append}
+use Rattle.std.proofs.Common.{◌≡◌, get_or, map, take, drop, suc, add-one, drop-cons, ℕ, ◌+◌, ◌<◌, ◌≤◌, ◌^◌, List, [], ◌∷◌, ◌++◌, length, refl, sym, ◌∙◌, ap, arith, Option, Some, None, true, false, Bool, if◌then◌else◌, Result, Ok, Err, OnOk, IfErr, inl, inr, subst, length-append, append_assoc, min, ◌==◌, ◌%◌, ◌&&◌, ◌⊎◌}
+use Rattle.std.proofs.lemmas.List.{take-append-drop, take_all, take_more, map-append, append-nil}
 use Rattle.std.proofs.lemmas.Bool.{eq-eqb, eqb-true}
 use Rattle.std.specs.Io.KnownBytes.{Appends}
 use Rattle.amqp_base.specs.Item.{Item, items_of, count}
 use Rattle.amqp_base.specs.Wire.{Constructor, under}
 use Rattle.amqp_base.specs.Canon.{◌>>=◌, when, canon, canons, body, array_body, kind_code, list_text}
-use Rattle.amqp_base.specs.Shapes.{whole, setting_inside}
+use Rattle.amqp_base.specs.Shapes.{whole, setting_inside, pairs_of}
 use Rattle.amqp_base.specs.Codes.{row}
-use Rattle.amqp_base.specs.Sizes.{Size, sizes}
+use Rattle.amqp_base.specs.Sizes.{Size, sizes, sizes_in, sizes_in_pairs, size_of}
 use Rattle.amqp_base.specs.declared.error.Error.{Error}
 use Rattle.amqp_base.specs.declared.shape.Setting.{Setting}
+use Rattle.amqp_base.specs.declared.error.Error.TheVariants.{OutOfMemory}
 use Rattle.amqp_base.specs.declared.shape.Setting.TheVariants.{Plain}
 use Rattle.amqp_base.specs.declared.shape.Shape.{Shape}
-use Rattle.amqp_ser.specs.State.{State, Mark, unmarked, first, other, answering}
-use Rattle.amqp_ser.specs.Law.{text_for, fits, marked, found_after, Goes, Wrote, Refused, Unwritten, Kept, unwritten}
+use Rattle.amqp_ser.specs.State.{State, Planned, Measured, Mark, unmarked, first, other, answering, size_in, contents_in}
+use Rattle.amqp_ser.specs.declared.pass.Opened.{Opened}
+use Rattle.amqp_base.specs.Faults.{Extends}
+use Rattle.amqp_ser.proofs.Counting.{goes_more, next_refused}
+use Rattle.amqp_ser.specs.Law.{text_for, fits, is_next, begins, same_size, marked, found_after, Goes, Wrote, Refused, Kept, IsDevice, Unwritten, unwritten}
 use Rattle.amqp_ser.specs.Appending.{Pays}
-use Rattle.amqp_ser.specs.Compound.{Open, Empty, Run, Holds, Complete, is_map, awaits_value, BeginsWith, whole_text, shape_code, parts_text, next_mark, other_of, turned}
+use Rattle.amqp_ser.specs.Compound.{Keeps, Open, Empty, Begun, Buffers, Lent, Run, Holds, Complete, is_map, awaits_value, BeginsWith, whole_text, shape_code, parts_text, next_mark, other_of, turned}
 use Rattle.amqp_ser.proofs.Bytes.{extends_same, appends_more, appends_none}
-use Rattle.amqp_ser.proofs.Steps.{Free, fits_free, wrote_pays, refused_pays}
+use Rattle.amqp_ser.proofs.Steps.{Free, fits_free, wrote_pays, refused_pays, kept_two}
+use Rattle.amqp_base.specs.Faults.{IsFault}
+use Rattle.amqp_base.specs.declared.fault.Size.{Size as CodeSize}
+use Rattle.amqp_ser.specs.declared.serializer.Serializer.{Serializer}
+use Rattle.std.specs.declared.vec.Vec.{Vec}
+use Rattle.std.specs.Global.{Global}
+use Rattle.amqp_ser.specs.Compound.{Back, back, inner_of, outer_of, part_in, outside_in}
 use Rattle.amqp_ser.proofs.TextOf.{pays_text}
 use Rattle.amqp_ser.proofs.PartTexts.{parts_more, parts_none, bind_some, pairs_text, pairs_count, odd_count, true_false}
 use Rattle.amqp_ser.proofs.WhyTexts.{part_why, body_why}
@@ -27,11 +37,27 @@ use Rattle.amqp_ser.proofs.Lengths.{parts_fit}
 kept_ended : (s : State) → Kept s (record s { ended = true })
 kept_ended s = record { bytes = extends_same s.contents; faults = omega arith; grows = refl }
 
+next_none : (p : Option Planned) (l : List Size) → p ≡ None → is_next p l ≡ false → ⊥
+next_none p l h k = let t : is_next p l ≡ true = rw h refl in true_false (sym t ∙ k)
+
+and_false : (b : Bool) → (b && false) ≡ false
+and_false true = refl
+and_false false = refl
+
+pub none_extends : (a b : Option (List ℕ)) → a ≡ None → Extends a b
+none_extends a b h = rw h tt
+
+pub none_appends : (a b : Option (List ℕ)) (xs : List ℕ) → a ≡ None → Appends a b xs
+none_appends a b xs h = rw h tt
+
+kept_lent : (s : State) (code : Option Constructor) (o : State) → Lent s code o → Kept s o
+kept_lent s code o l = record { bytes = none_extends _ _ l.was; faults = l.faults; grows = l.grows }
+
 count_items : (xs : List Item) → count (items_of xs) ≡ length xs
 count_items [] = refl
 count_items (x ∷ xs) = ap suc (count_items xs)
 
-free_of : (u : State) → Empty u → Free u
+pub free_of : (u : State) → Empty u → Free u
 free_of u e = record { plan = e.plan; measure = e.measure }
 
 free_goes : (u v : State) (b : List ℕ) (l : List Size) → Free u → Appends u.contents v.contents b → v.plan ≡ None → v.measure ≡ None → v.setting ≡ u.setting → Goes u b l v
@@ -81,22 +107,38 @@ no_parts (Shape.Tuple n) = refl
 no_parts Shape.Map = refl
 no_parts Shape.Fields = refl
 
-pub run_none : (shape : Shape) (u : State) → Empty u → u.mark ≡ next_mark shape [] → u.setting ≡ setting_inside shape → u.ended ≡ false → Run shape u [] u
-run_none shape u e mark inside answers = record { bytes = []; text = no_parts shape; goes = free_goes u u [] _ (free_of u e) (appends_none u.contents) e.plan e.measure refl; mark = mark; inside = inside; answers = answers }
+pub run_none : (shape : Shape) (u : State) → Goes u [] [] u → u.mark ≡ next_mark shape [] → u.setting ≡ setting_inside shape → u.ended ≡ false → Run shape u [] u
+unfolding sizes_in
+run_none shape u goes mark inside answers = record { bytes = []; text = no_parts shape; goes = goes; mark = mark; inside = inside; answers = answers }
+
+pub goes_buffer : (u : State) → Empty u → Goes u [] [] u
+goes_buffer u e = free_goes u u [] _ (free_of u e) (appends_none u.contents) e.plan e.measure refl
+
+-- the sizes of parts, one in their midst
+pub sizes_more : (xs rest : List Item) (x : Item) → sizes_in (items_of (xs ++ x ∷ rest)) ≡ sizes_in (items_of xs) ++ (sizes x ++ sizes_in (items_of rest))
+unfolding sizes_in
+sizes_more [] rest x = refl
+sizes_more (y ∷ ys) rest x = ap (λ l. sizes y ++ l) (sizes_more ys rest x) ∙ sym (append_assoc (sizes y) (sizes_in (items_of ys)) (sizes x ++ sizes_in (items_of rest)))
+
+pub no_sizes : sizes_in (items_of []) ≡ []
+unfolding sizes_in
+no_sizes = refl
+
+sizes_last : (xs : List Item) (x : Item) → sizes_in (items_of (xs ++ x ∷ [])) ≡ sizes_in (items_of xs) ++ sizes x
+sizes_last xs x = sizes_more xs [] x ∙ ap (λ l. sizes_in (items_of xs) ++ l) (ap (λ l. sizes x ++ l) no_sizes ∙ append-nil (sizes x))
 
 -- one part more
-pub run_more : (shape : Shape) (xs : List Item) (f : Setting → Item) (u v w : State) → Empty u → Run shape u xs v → Wrote v (f v.setting) w → Run shape u (xs ++ f (setting_inside shape) ∷ []) (record w { mark = turned w.mark w.found })
-run_more shape xs f u v w e r wrote =
+pub run_more : (shape : Shape) (xs : List Item) (f : Setting → Item) (u v w : State) → Run shape u xs v → Wrote v (f v.setting) w → Run shape u (xs ++ f (setting_inside shape) ∷ []) (record w { mark = turned w.mark w.found })
+run_more shape xs f u v w r wrote =
     let x = f (setting_inside shape) in
     let got : Wrote v x w = subst (λ setting. Wrote v (f setting) w) r.inside wrote in
     let t = got.took r.answers in
     let text : marked (next_mark shape xs) x ≡ Some t.bytes = rw (sym r.mark) t.text in
-    let free = free_of u e in
-    let still = goes_free v w _ _ (goes_free u v _ _ free r.goes) t.goes in
+    let goes : Goes u (r.bytes ++ t.bytes) (sizes_in (items_of (xs ++ x ∷ []))) w = subst (λ l. Goes u (r.bytes ++ t.bytes) l w) (sym (sizes_last xs x)) (goes_more u v w r.bytes t.bytes (sizes_in (items_of xs)) (sizes x) r.goes t.goes) in
     record {
       bytes = r.bytes ++ t.bytes;
       text = parts_more shape xs x r.bytes t.bytes r.text text;
-      goes = free_goes u _ _ _ free (appends_more _ _ _ _ _ r.goes.appended t.goes.appended) still.plan still.measure (t.goes.setting ∙ r.goes.setting);
+      goes = record { fits = goes.fits; appended = goes.appended; plan = goes.plan; measure = goes.measure; setting = goes.setting };
       mark = turn_more shape xs x r.bytes t.bytes w.mark w.found v.found r.text (t.mark ∙ r.mark) (rw t.mark t.found) (rw t.mark t.text);
       inside = t.goes.setting ∙ r.inside;
       answers = got.answers r.answers;
@@ -109,23 +151,19 @@ run_fits shape xs u v ys e r contents = r.text ∙ ap Some (from_none _ _ _ _ e.
     from_none : (a b : Option (List ℕ)) (more ys : List ℕ) → a ≡ Some [] → b ≡ Some ys → Appends a b more → more ≡ ys
     from_none a b more ys h k l = sym (rw (h, k) at l)
 
-pub element_more : (s : State) (shape : Shape) (xs : List Item) (f : Setting → Item) (q p : Open) (w : State) (ys : List ℕ) → Wrote q.inner (f q.inner.setting) w → w.contents ≡ Some ys → length ys < 2 ^ 64 → p.inner ≡ record w { mark = turned w.mark w.found } → p.outer ≡ q.outer → p.pairs ≡ q.pairs → p.shape ≡ q.shape → p.count ≡ min (q.count + 1) 18446744073709551615 → Holds s shape xs q → Holds s shape (xs ++ f (setting_inside shape) ∷ []) p
-element_more s shape xs f q p w ys wrote contents small inner outer pairs same count h =
-    let r = run_more shape xs f h.start q.inner w h.empty h.run wrote in
-    let text = run_fits shape (xs ++ f (setting_inside shape) ∷ []) h.start _ ys h.empty r contents in
-    let fewer = parts_fit shape (xs ++ f (setting_inside shape) ∷ []) ys text in
-    let len = length-append xs (f (setting_inside shape) ∷ []) in
+pub element_more : (s : State) (shape : Shape) (xs : List Item) (f : Setting → Item) (q p : Open) (w : State) → Wrote q.inner (f q.inner.setting) w → p.inner ≡ record w { mark = turned w.mark w.found } → p.outer ≡ q.outer → p.pairs ≡ q.pairs → p.shape ≡ q.shape → p.opened ≡ q.opened → p.count ≡ q.count + 1 → Holds s shape xs q → Holds s shape (xs ++ f (setting_inside shape) ∷ []) p
+element_more s shape xs f q p w wrote inner outer pairs same opened count h =
+    let x = f (setting_inside shape) in
+    let r = run_more shape xs f h.start q.inner w h.run wrote in
+    let len = length-append xs (x ∷ []) in
     record {
       pairs = pairs ∙ h.pairs;
       shape_is = same ∙ h.shape_is;
       start = h.start;
-      empty = h.empty;
-      run = subst (λ v. Run shape h.start (xs ++ f (setting_inside shape) ∷ []) v) (sym inner) r;
-      count = omega (arith, h.count, count, fewer, len, small);
-      outer = outer ∙ h.outer;
+      begun = subst (λ o. Begun shape s p.opened o h.start) (sym outer) (subst (λ k. Begun shape s k q.outer h.start) (sym opened) h.begun);
+      run = subst (λ v. Run shape h.start (xs ++ x ∷ []) v) (sym inner) r;
+      count = omega (arith, h.count, count, len);
       answered = h.answered;
-      plan = h.plan;
-      measure = h.measure;
     }
 
 -- what comes after a front and an element
@@ -148,7 +186,7 @@ if_none : (t : Bool) → (let n : Option (List ℕ) = None in if t then n else n
 if_none true = refl
 if_none false = refl
 
-whole_of_none : (shape : Shape) (m : Mark) (xs : List Item) → Complete (is_map shape) xs → parts_text shape (items_of xs) ≡ None → marked m (whole shape xs) ≡ None
+pub whole_of_none : (shape : Shape) (m : Mark) (xs : List Item) → Complete (is_map shape) xs → parts_text shape (items_of xs) ≡ None → marked m (whole shape xs) ≡ None
 unfolding whole marked canon body kind_code parts_text
 whole_of_none Shape.List unmarked xs c h = rw h refl
 whole_of_none Shape.List first xs c h = rw h refl
@@ -193,30 +231,95 @@ whole_code (Shape.Tuple n) xs = refl
 whole_code Shape.Map xs = refl
 whole_code Shape.Fields xs = refl
 
+-- sizes that aren't next behind a header aren't next with it
+plan_back : (shape : Shape) (s : State) (k : Opened) (o start : State) (z : Size) (l : List Size) → Begun shape s k o start → is_next start.plan l ≡ false → is_next s.plan (z ∷ l) ≡ false
+plan_back shape s Opened.Buffered o start z l b h = absurd (next_none start.plan l b.empty.plan h)
+plan_back shape s (Opened.Measured at before) o start z l b h = absurd (next_none start.plan l b.no_plan h)
+plan_back shape s (Opened.Written size from) o start z l b h =
+    let left : begins b.left l ≡ false = rw b.goes_on at h in
+    rw (b.plan, b.next, left) (and_false (same_size (size_in size) z))
+
+pub kept_begun : (shape : Shape) (s : State) (k : Opened) (o start : State) → Begun shape s k o start → Kept s o
+kept_begun shape s Opened.Buffered o start b = subst (λ t. Kept s t) (sym b.outer) (kept_ended s)
+kept_begun shape s (Opened.Measured at before) o start b = kept_lent s s.found o b.outer
+kept_begun shape s (Opened.Written size from) o start b = kept_lent s _ o b.outer
+
+text_none : (s : State) (i : Item) → text_for s i ≡ None → (marked s.mark i ≡ None) ⊎ (is_next s.plan (sizes i) ≡ false)
+unfolding text_for fits
+text_none s i h = go (marked s.mark i) (is_next s.plan (sizes i)) h
+  where
+    go : (o : Option (List ℕ)) (t : Bool) → (o >>= λ b. when t b) ≡ None → (o ≡ None) ⊎ (t ≡ false)
+    go None t h = inl refl
+    go (Some b) true h = cc
+    go (Some b) false h = inr refl
+
+pub none_text : (s : State) (i : Item) → (marked s.mark i ≡ None) ⊎ (is_next s.plan (sizes i) ≡ false) → text_for s i ≡ None
+unfolding text_for fits
+none_text s i h = elim h [ inl m ↦ rw m refl | inr n ↦ rw n (go (marked s.mark i)) ]
+  where
+    go : (o : Option (List ℕ)) → (o >>= λ b. when false b) ≡ None
+    go None = refl
+    go (Some b) = refl
+
+pairs_sizes : (xs : List Item) → Complete true xs → sizes_in_pairs (pairs_of xs) ≡ sizes_in (items_of xs)
+unfolding sizes_in_pairs sizes_in
+pairs_sizes [] c = refl
+pairs_sizes (k ∷ []) c = absurd (true_false c)
+pairs_sizes (k ∷ v ∷ xs) c = ap (λ l. sizes k ++ (sizes v ++ l)) (pairs_sizes xs c)
+
+-- the sizes of a whole: its own, and those of its parts
+pub whole_sizes : (shape : Shape) (xs : List Item) → Complete (is_map shape) xs → sizes (whole shape xs) ≡ size_of (parts_text shape (items_of xs)) (length xs) ∷ sizes_in (items_of xs)
+unfolding sizes whole parts_text
+whole_sizes Shape.List xs c = rw (count_items xs) refl
+whole_sizes Shape.Array xs c = rw (count_items xs) refl
+whole_sizes (Shape.Tuple n) xs c = rw (count_items xs) refl
+whole_sizes Shape.Map xs c = rw (pairs_text xs c, pairs_count xs c, pairs_sizes xs c) refl
+whole_sizes Shape.Fields xs c = rw (pairs_text xs c, pairs_count xs c, pairs_sizes xs c) refl
+
+-- a part without a text leaves the whole without one
+no_text_at : (s : State) (shape : Shape) (xs rest : List Item) (x : Item) (q : Open) → Holds s shape xs q → Complete q.pairs (xs ++ x ∷ rest) → text_for q.inner x ≡ None → text_for s (whole shape (xs ++ x ∷ rest)) ≡ None
+no_text_at s shape xs rest x q h complete empty =
+    let ys = xs ++ x ∷ rest in
+    let whole_complete : Complete (is_map shape) ys = rw h.pairs at complete in
+    none_text s (whole shape ys) (elim (text_none q.inner x empty) [
+      | inl none ↦ inl (whole_of_none shape s.mark ys whole_complete (parts_none shape xs rest x h.run.bytes h.run.text (subst (λ m. marked m x ≡ None) h.run.mark none)))
+      | inr next ↦ inr (subst (λ l. is_next s.plan l ≡ false) (sym (whole_sizes shape ys whole_complete ∙ ap (λ l. size_of (parts_text shape (items_of ys)) (length ys) ∷ l) (sizes_more xs rest x)))
+          (plan_back shape s q.opened q.outer h.start _ _ h.begun (next_refused h.start.plan (sizes_in (items_of xs)) (sizes x) (sizes_in (items_of rest)) h.run.bytes (subst (λ p. is_next p (sizes x) ≡ false) h.run.goes.plan next))))
+    ])
+
+next_text_none : (s : State) (i : Item) → text_for s i ≡ None → s.plan ≡ None → marked s.mark i ≡ None
+next_text_none s i empty plan = elim (text_none s i empty) [ inl none ↦ none | inr next ↦ absurd (next_none s.plan (sizes i) plan next) ]
+
+-- no sizes are planned inside where none are outside
+no_plan_inside : (shape : Shape) (s : State) (k : Opened) (o start : State) → Begun shape s k o start → s.plan ≡ None → start.plan ≡ None
+no_plan_inside shape s Opened.Buffered o start b h = b.empty.plan
+no_plan_inside shape s (Opened.Measured at before) o start b h = b.no_plan
+no_plan_inside shape s (Opened.Written size from) o start b h = absurd (let e = sym h ∙ b.plan in cc)
+
 -- a part that has no text where it stands
-part_unwritten : (s : State) (shape : Shape) (xs rest : List Item) (x : Item) (e : Error) (q : Open) → Holds s shape xs q → Free s → Free q.inner → Complete (is_map shape) (xs ++ x ∷ rest) → Unwritten q.inner x e → Unwritten s (whole shape (xs ++ x ∷ rest)) e
-part_unwritten s shape xs rest x e q h free inner complete w =
-    let none : marked (next_mark shape xs) x ≡ None = subst (λ m. marked m x ≡ None) h.run.mark (sym (text_free q.inner x inner) ∙ w.none) in
-    record {
-      none = text_free s (whole shape (xs ++ x ∷ rest)) free ∙ whole_of_none shape s.mark (xs ++ x ∷ rest) complete (parts_none shape xs rest x h.run.bytes h.run.text none);
-      named = λ plan measure. w.named inner.plan inner.measure ∙ sym (part_why shape xs rest x h.run.bytes h.run.text none complete);
-    }
+part_unwritten : (s : State) (shape : Shape) (xs rest : List Item) (x : Item) (e : Error) (q : Open) → Holds s shape xs q → Complete q.pairs (xs ++ x ∷ rest) → Unwritten q.inner x e → Unwritten s (whole shape (xs ++ x ∷ rest)) e
+part_unwritten s shape xs rest x e q h complete w = record {
+  none = no_text_at s shape xs rest x q h complete w.none;
+  named = λ plan.
+      let start : h.start.plan ≡ None = no_plan_inside shape s q.opened q.outer h.start h.begun plan in
+      let inner : q.inner.plan ≡ None = h.run.goes.plan ∙ (rw start refl) in
+      let none : marked (next_mark shape xs) x ≡ None = subst (λ m. marked m x ≡ None) h.run.mark (next_text_none q.inner x w.none inner) in
+      w.named inner ∙ sym (part_why shape xs rest x h.run.bytes h.run.text none (rw h.pairs at complete));
+}
 
 -- a refused part refuses the whole
 element_refused_at : (s : State) (shape : Shape) (xs rest : List Item) (f : Setting → Item) (e : Error) (q : Open) (b : State) → b.faults ≡ q.inner.faults → Refused q.inner (f q.inner.setting) e b → Holds s shape xs q → Complete q.pairs (xs ++ f (setting_inside shape) ∷ rest) → Refused s (whole shape (xs ++ f (setting_inside shape) ∷ rest)) e q.outer
 element_refused_at s shape xs rest g e q b same v h complete =
     let x = g (setting_inside shape) in
     let r : Refused q.inner x e b = subst (λ setting. Refused q.inner (g setting) e b) h.run.inside v in
-    let free : Free s = record { plan = h.plan; measure = h.measure } in
-    let inner = goes_free h.start q.inner _ _ (free_of h.start h.empty) h.run.goes in
     record {
-      kept = subst (λ t. Kept s t) (sym h.outer) (kept_ended s);
+      kept = kept_begun shape s q.opened q.outer h.start h.begun;
       device = λ d. absurd (omega (arith, same, r.device d));
       cause = λ a. elim (r.cause h.run.answers) [
         | inl m ↦ inl m
         | inr d ↦ elim d [
           | inl io ↦ absurd (omega (arith, same, io.1))
-          | inr w ↦ inr (inr (part_unwritten s shape xs rest x e q h free inner (rw h.pairs at complete) w))
+          | inr w ↦ inr (inr (part_unwritten s shape xs rest x e q h complete w))
         ]
       ];
     }
@@ -226,7 +329,174 @@ element_refused s shape xs all g e q b same v h split complete =
     let r = begins_rest xs all (g (setting_inside shape)) split in
     subst (λ ys. Refused s (whole shape ys) e q.outer) (sym r.1) (element_refused_at s shape xs r.0 g e q b same v h (subst (λ ys. Complete q.pairs ys) r.1 complete))
 
-answering_ended : (s t : State) → t ≡ record s { ended = true } → s.ended ≡ false → answering t ≡ s
+-- want of memory refuses the whole
+pub element_full : (s : State) (shape : Shape) (xs all : List Item) (q : Open) → Holds s shape xs q → (e : Error) → e ≡ OutOfMemory → Refused s (whole shape all) e q.outer
+element_full s shape xs all q h e is = record {
+  kept = kept_begun shape s q.opened q.outer h.start h.begun;
+  device = λ d. absurd (subst (λ x. IsDevice x) is d);
+  cause = λ a. inl is;
+}
+
+abbrev pub Lives : Opened → Type 0
+Lives k = k ≡ Opened.Buffered → ⊥
+
+pub full_refuses : (s t : State) (i : Item) (e : Error) → Kept s t → e ≡ OutOfMemory → Refused s i e t
+full_refuses s t i e kept is = record { kept = kept; device = λ d. absurd (subst (λ x. IsDevice x) is d); cause = λ a. inl is }
+
+pub kept_back : (k : Opened) (b : Back) (s o : State) → Kept s (outer_of k o b) → Kept s o
+kept_back Opened.Buffered b s o h = h
+kept_back (Opened.Measured at before) b s o h = record { bytes = h.bytes; faults = h.faults; grows = h.grows }
+kept_back (Opened.Written size from) b s o h = record { bytes = h.bytes; faults = h.faults; grows = h.grows }
+
+-- what a compound had at first is kept from its serializer
+pub kept_open : (s : State) (shape : Shape) (xs : List Item) (q : Open) (b : Back) (o : State) → q.outer ≡ outer_of q.opened o b → Holds s shape xs q → Kept s o
+kept_open s shape xs q b o same h = kept_back q.opened b s o (subst (λ x. Kept s x) same (kept_begun shape s q.opened q.outer h.start h.begun))
+
+pub keeps_two : (q p r : Open) → Keeps q p → Keeps p r → Keeps q r
+keeps_two q p r a b = record { kept = kept_two _ _ _ a.kept b.kept; ended = λ h. b.ended (a.ended h) }
+
+lent_moved : (s : State) (c : Option Constructor) (b : Back) (o t : State) → Kept o t → Lent s c (back b o) → Lent s c (back b t)
+lent_moved s c b o t k l = record { was = l.was; faults = omega (arith, l.faults, k.faults); grows = k.grows ∙ l.grows; setting = l.setting; mark = l.mark; found = l.found }
+
+pub begun_moved : (shape : Shape) (s : State) (k : Opened) (b : Back) (o t start : State) → Lives k → Kept o t → Begun shape s k (outer_of k o b) start → Begun shape s k (outer_of k t b) start
+begun_moved shape s Opened.Buffered b o t start live k h = absurd (live refl)
+begun_moved shape s (Opened.Measured at before) b o t start live k h = record { so_far = h.so_far; room = h.room; plan = h.plan; measure = h.measure; place = h.place; counted = h.counted; no_plan = h.no_plan; counts = h.counts; outer = lent_moved s _ b o t k h.outer }
+begun_moved shape s (Opened.Written size from) b o t start live k h = record { so_far = h.so_far; left = h.left; head = h.head; plan = h.plan; next = h.next; measure = h.measure; text = h.text; goes_on = h.goes_on; no_measure = h.no_measure; behind = h.behind; outer = lent_moved s _ b o t k h.outer }
+
+pub inner_lives : (k : Opened) (o : State) (b : Serializer (Vec ℕ Global)) → Lives k → inner_of k o b ≡ record o { ended = b.ended }
+inner_lives Opened.Buffered o b live = absurd (live refl)
+inner_lives (Opened.Measured at before) o b live = refl
+inner_lives (Opened.Written size from) o b live = refl
+
+pub outer_lives : (k : Opened) (o : State) (b : Back) → Lives k → outer_of k o b ≡ back b o
+outer_lives Opened.Buffered o b live = absurd (live refl)
+outer_lives (Opened.Measured at before) o b live = refl
+outer_lives (Opened.Written size from) o b live = refl
+
+pub lives_measured : (k : Opened) (at before : ℕ) → k ≡ Opened.Measured at before → Lives k
+lives_measured k at before e h = cc
+
+pub lives_written : (k : Opened) (size : CodeSize) (from : ℕ) → k ≡ Opened.Written size from → Lives k
+lives_written k size from e h = cc
+
+pub kept_from : (o v w t : State) → v ≡ record o { ended = false } → Kept v w → t.contents ≡ w.contents → t.faults ≡ w.faults → t.grows ≡ w.grows → Kept o t
+kept_from o v w t same k contents faults grows = record {
+  bytes = subst (λ x. Extends o.contents x) (sym contents) (subst (λ x. Extends x w.contents) (ap (λ (x : State). x.contents) same) k.bytes);
+  faults = omega (arith, k.faults, faults, ap (λ (x : State). x.faults) same);
+  grows = grows ∙ (k.grows ∙ ap (λ (x : State). x.grows) same);
+}
+
+kept_outers : (k : Opened) (b : Back) (o t : State) → Kept o t → Kept (outer_of k o b) (outer_of k t b)
+kept_outers Opened.Buffered b o t h = h
+kept_outers (Opened.Measured at before) b o t h = record { bytes = h.bytes; faults = h.faults; grows = h.grows }
+kept_outers (Opened.Written size from) b o t h = record { bytes = h.bytes; faults = h.faults; grows = h.grows }
+
+ended_outer : (k : Opened) (b : Back) (t : State) → t.ended ≡ true → (outer_of k t b).ended ≡ true
+ended_outer Opened.Buffered b t h = h
+ended_outer (Opened.Measured at before) b t h = h
+ended_outer (Opened.Written size from) b t h = h
+
+pub keeps_lives : (q p : Open) (k : Opened) (b : Back) (o t : State) → q.outer ≡ outer_of k o b → p.outer ≡ outer_of k t b → Kept o t → t.ended ≡ true → Keeps q p
+keeps_lives q p k b o t is after h ended = record {
+  kept = subst (λ x. Kept x p.outer) (sym is) (subst (λ x. Kept (outer_of k o b) x) (sym after) (kept_outers k b o t h));
+  ended = λ _. ap (λ (x : State). x.ended) after ∙ ended_outer k b t ended;
+}
+
+pub inner_answers : (k : Opened) (o : State) (b : Serializer (Vec ℕ Global)) → (inner_of k o b).ended ≡ b.ended
+inner_answers Opened.Buffered o b = refl
+inner_answers (Opened.Measured at before) o b = refl
+inner_answers (Opened.Written size from) o b = refl
+
+pub unbroken : (k : Opened) (o : State) (b : Serializer (Vec ℕ Global)) → Lives k → b.ended ≡ false → (inner_of k o b).ended ≡ true → ⊥
+unbroken k o b live h i = true_false (sym i ∙ (ap (λ (x : State). x.ended) (inner_lives k o b live) ∙ h))
+
+pub broken_lives : (k : Opened) (o : State) (b : Serializer (Vec ℕ Global)) → Lives k → b.ended ≡ true → (inner_of k o b).ended ≡ true
+broken_lives k o b live h = ap (λ (x : State). x.ended) (inner_lives k o b live) ∙ h
+
+-- one part more, which stands on the serializer itself
+pub element_more_lives : (s : State) (shape : Shape) (xs : List Item) (f : Setting → Item) (q p : Open) (b : Back) (o v w t : State) → Lives q.opened → v ≡ record o { ended = false } → q.inner ≡ v → q.outer ≡ outer_of q.opened o b → Wrote v (f v.setting) w → t ≡ record w { ended = true; mark = turned w.mark w.found } → p.inner ≡ record t { ended = false } → p.opened ≡ q.opened → p.outer ≡ outer_of q.opened t b → p.pairs ≡ q.pairs → p.shape ≡ q.shape → p.count ≡ q.count + 1 → Holds s shape xs q → Holds s shape (xs ++ f (setting_inside shape) ∷ []) p
+element_more_lives s shape xs f q p b o v w t live at_v inner outer wrote at_t after opened back_at pairs same count h =
+    let x = f (setting_inside shape) in
+    let here : Wrote q.inner (f q.inner.setting) w = subst (λ y. Wrote y (f y.setting) w) (sym inner) wrote in
+    let r = run_more shape xs f h.start q.inner w h.run here in
+    let answers : w.ended ≡ false = wrote.answers (ap (λ (y : State). y.ended) at_v) in
+    let moved : record t { ended = false } ≡ record w { mark = turned w.mark w.found } = ap (λ (y : State). record y { ended = false }) at_t ∙ (let e : record w { ended = false; mark = turned w.mark w.found } ≡ record w { mark = turned w.mark w.found } = ap (λ z. record w { ended = z; mark = turned w.mark w.found }) (sym answers) in e) in
+    let kept : Kept o t = kept_from o v w t at_v wrote.kept (ap (λ (y : State). y.contents) at_t) (ap (λ (y : State). y.faults) at_t) (ap (λ (y : State). y.grows) at_t) in
+    let begun : Begun shape s q.opened (outer_of q.opened t b) h.start = begun_moved shape s q.opened b o t h.start live kept (subst (λ y. Begun shape s q.opened y h.start) outer h.begun) in
+    let len = length-append xs (x ∷ []) in
+    record {
+      pairs = pairs ∙ h.pairs;
+      shape_is = same ∙ h.shape_is;
+      start = h.start;
+      begun = subst (λ k. Begun shape s k p.outer h.start) (sym opened) (subst (λ y. Begun shape s q.opened y h.start) (sym back_at) begun);
+      run = subst (λ y. Run shape h.start (xs ++ x ∷ []) y) (sym (after ∙ moved)) r;
+      count = omega (arith, h.count, count, len);
+      answered = h.answered;
+    }
+
+-- a refused part refuses the whole, and its serializer has ended
+refused_lives_at : (s : State) (shape : Shape) (xs rest : List Item) (f : Setting → Item) (e : Error) (q : Open) (b : Back) (o v w t : State) → v ≡ record o { ended = false } → q.inner ≡ v → q.outer ≡ outer_of q.opened o b → Refused v (f v.setting) e w → t ≡ record w { ended = true } → Holds s shape xs q → Complete q.pairs (xs ++ f (setting_inside shape) ∷ rest) → Refused s (whole shape (xs ++ f (setting_inside shape) ∷ rest)) e t
+refused_lives_at s shape xs rest f e q b o v w t at_v inner outer refused at_t h complete =
+    let x = f (setting_inside shape) in
+    let here : Refused q.inner x e w = subst (λ setting. Refused q.inner (f setting) e w) h.run.inside (subst (λ y. Refused y (f y.setting) e w) (sym inner) refused) in
+    let first = kept_open s shape xs q b o outer h in
+    let kept : Kept o t = kept_from o v w t at_v refused.kept (ap (λ (y : State). y.contents) at_t) (ap (λ (y : State). y.faults) at_t) (ap (λ (y : State). y.grows) at_t) in
+    let faults : t.faults ≡ w.faults = ap (λ (y : State). y.faults) at_t in
+    let was : q.inner.faults ≡ o.faults = ap (λ (y : State). y.faults) (inner ∙ at_v) in
+    record {
+      kept = kept_two s o t first kept;
+      device = λ d. omega (arith, here.device d, first.faults, faults, was);
+      cause = λ a. elim (here.cause h.run.answers) [
+        | inl m ↦ inl m
+        | inr d ↦ elim d [
+          | inl io ↦ inr (inl (subst (λ l. IsFault l e) (sym (ap (λ (y : State). y.last_fault) at_t)) io.0, omega (arith, io.1, first.faults, faults, was)))
+          | inr w ↦ inr (inr (part_unwritten s shape xs rest x e q h complete w))
+        ]
+      ];
+    }
+
+pub refused_lives : (s : State) (shape : Shape) (xs all : List Item) (f : Setting → Item) (e : Error) (q : Open) (b : Back) (o v w t : State) → v ≡ record o { ended = false } → q.inner ≡ v → q.outer ≡ outer_of q.opened o b → Refused v (f v.setting) e w → t ≡ record w { ended = true } → Holds s shape xs q → BeginsWith all (xs ++ f (setting_inside shape) ∷ []) → Complete q.pairs all → Refused s (whole shape all) e t
+refused_lives s shape xs all f e q b o v w t at_v inner outer refused at_t h split complete =
+    let r = begins_rest xs all (f (setting_inside shape)) split in
+    subst (λ ys. Refused s (whole shape ys) e t) (sym r.1) (refused_lives_at s shape xs r.0 f e q b o v w t at_v inner outer refused at_t h (subst (λ ys. Complete q.pairs ys) r.1 complete))
+
+outside_stands : (shape : Shape) (o : State) → o.mark ≡ unmarked → o.setting ≡ setting_inside shape → outside_in shape o ≡ record o { ended = false }
+outside_stands shape o m i =
+    let a : outside_in shape o ≡ record o { mark = unmarked; ended = false } = ap (λ z. record o { setting = z; mark = unmarked; ended = false }) (sym i) in
+    let b : record o { mark = unmarked; ended = false } ≡ record o { ended = false } = ap (λ z. record o { mark = z; ended = false }) (sym m) in
+    a ∙ b
+
+part_stands_as : (shape : Shape) (xs : List Item) (o : State) → o.mark ≡ next_mark shape xs → o.setting ≡ setting_inside shape → part_in shape o ≡ record o { ended = false }
+unfolding next_mark
+part_stands_as Shape.List xs o m i = outside_stands Shape.List o m i
+part_stands_as Shape.Array xs o m i = refl
+part_stands_as (Shape.Tuple n) xs o m i = outside_stands (Shape.Tuple n) o m i
+part_stands_as Shape.Map xs o m i = outside_stands Shape.Map o m i
+part_stands_as Shape.Fields xs o m i = outside_stands Shape.Fields o m i
+
+-- mark and setting are as the next part is to have them
+part_stands : (s : State) (shape : Shape) (xs : List Item) (q : Open) (o : State) → q.inner ≡ record o { ended = false } → Holds s shape xs q → part_in q.shape o ≡ record o { ended = false }
+part_stands s shape xs q o inner h =
+    let mark : o.mark ≡ next_mark shape xs = sym (ap (λ (x : State). x.mark) inner) ∙ h.run.mark in
+    let inside : o.setting ≡ setting_inside shape = sym (ap (λ (x : State). x.setting) inner) ∙ h.run.inside in
+    subst (λ k. part_in k o ≡ record o { ended = false }) (sym h.shape_is) (part_stands_as shape xs o mark inside)
+
+pub part_outside : (shape : Shape) (o : State) → (shape ≡ Shape.Array → ⊥) → outside_in shape o ≡ part_in shape o
+part_outside Shape.List o h = refl
+part_outside Shape.Array o h = absurd (h refl)
+part_outside (Shape.Tuple n) o h = refl
+part_outside Shape.Map o h = refl
+part_outside Shape.Fields o h = refl
+
+pub direct_more : (s : State) (shape : Shape) (xs : List Item) (f : Setting → Item) (q p : Open) (b : Back) (o w t : State) → Lives q.opened → q.inner ≡ record o { ended = false } → q.outer ≡ outer_of q.opened o b → Wrote (part_in q.shape o) (f (part_in q.shape o).setting) w → t ≡ record w { ended = true; mark = turned w.mark w.found } → p.inner ≡ record t { ended = false } → p.opened ≡ q.opened → p.outer ≡ outer_of q.opened t b → p.pairs ≡ q.pairs → p.shape ≡ q.shape → p.count ≡ q.count + 1 → Holds s shape xs q → Holds s shape (xs ++ f (setting_inside shape) ∷ []) p
+direct_more s shape xs f q p b o w t live inner outer wrote at_t after opened back_at pairs same count h =
+    element_more_lives s shape xs f q p b o (record o { ended = false }) w t live refl inner outer (subst (λ y. Wrote y (f y.setting) w) (part_stands s shape xs q o inner h) wrote) at_t after opened back_at pairs same count h
+
+pub direct_refused : (s : State) (shape : Shape) (xs all : List Item) (f : Setting → Item) (e : Error) (q : Open) (b : Back) (o w t : State) → q.inner ≡ record o { ended = false } → q.outer ≡ outer_of q.opened o b → Refused (part_in q.shape o) (f (part_in q.shape o).setting) e w → t ≡ record w { ended = true } → Holds s shape xs q → BeginsWith all (xs ++ f (setting_inside shape) ∷ []) → Complete q.pairs all → Refused s (whole shape all) e t
+direct_refused s shape xs all f e q b o w t inner outer refused at_t h split complete =
+    refused_lives s shape xs all f e q b o (record o { ended = false }) w t refl inner outer (subst (λ y. Refused y (f y.setting) e w) (part_stands s shape xs q o inner h) refused) at_t h split complete
+
+pub answering_ended : (s t : State) → t ≡ record s { ended = true } → s.ended ≡ false → answering t ≡ s
 answering_ended s t h k = ap answering h ∙ (let e : record s { ended = false } ≡ s = ap (λ b. record s { ended = b }) (sym k) in e)
 
 -- a serializer that counts nothing takes no account of sizes
@@ -241,24 +511,40 @@ pays_sizes s text found l why (Err e) t f p = record { kept = p.kept; device = p
 abbrev pub Ends : {A : Type 0} → Open → List ℕ → Result A Error → State → Type 0
 Ends q b r t = q.count ≤ length b → Pays (answering q.outer) (whole_text q.shape q.outer.mark q.count b) (found_after q.outer.mark (Some (under (shape_code q.shape))) q.outer.found) [] (unwritten (length b)) r t
 
-end_pays : {A : Type 0} (s : State) (shape : Shape) (xs : List Item) (q : Open) (b : List ℕ) (r : Result A Error) (t : State) → Holds s shape xs q → Complete q.pairs xs → q.inner.contents ≡ Some b → Ends q b r t → Pays s (marked s.mark (whole shape xs)) (found_after s.mark (kind_code (whole shape xs)) s.found) (sizes (whole shape xs)) (unwritten (length b)) r t
-end_pays s shape xs q b r t h complete contents p =
-    let text : parts_text shape (items_of xs) ≡ Some b = run_fits shape xs h.start q.inner b h.empty h.run contents in
+pub buffers : (s : State) (shape : Shape) (k : Opened) (o start : State) → k ≡ Opened.Buffered → Begun shape s k o start → Buffers s o start
+buffers s shape k o start e b = subst (λ x. Begun shape s x o start) e b
+
+-- bytes that are told where any are
+abbrev pub Told : Option (List ℕ) → List ℕ → Type 0
+Told o b = (o ≡ Some b) ⊎ (o ≡ None)
+
+tells : (a b : Option (List ℕ)) (more ys : List ℕ) → a ≡ Some [] → Appends a b more → Told b ys → b ≡ Some ys
+tells a b more ys h k t = elim t [ inl e ↦ e | inr e ↦ absurd (rw (h, e) at k) ]
+
+pub contents_told : (d : Bool) (xs b : List ℕ) → xs ≡ b → Told (contents_in d (Some xs)) b
+contents_told false xs b h = inl (ap Some h)
+contents_told true xs b h = inr refl
+
+end_pays : {A : Type 0} (s : State) (shape : Shape) (xs : List Item) (q : Open) (b : List ℕ) (r : Result A Error) (t : State) → q.opened ≡ Opened.Buffered → Holds s shape xs q → Complete q.pairs xs → Told q.inner.contents b → Ends q b r t → Pays s (marked s.mark (whole shape xs)) (found_after s.mark (kind_code (whole shape xs)) s.found) (sizes (whole shape xs)) (unwritten (length b)) r t
+end_pays s shape xs q b r t how h complete told p =
+    let g = buffers s shape q.opened q.outer h.start how h.begun in
+    let contents : q.inner.contents ≡ Some b = tells _ _ _ b g.empty.contents h.run.goes.appended told in
+    let text : parts_text shape (items_of xs) ≡ Some b = run_fits shape xs h.start q.inner b g.empty h.run contents in
     let fits : q.count ≤ length b = omega (arith, h.count, parts_fit shape xs b text) in
-    let mark : q.outer.mark ≡ s.mark = ap (λ (x : State). x.mark) h.outer in
-    let found : q.outer.found ≡ s.found = ap (λ (x : State). x.found) h.outer in
-    let at_s = subst (λ x. Pays x (whole_text q.shape q.outer.mark q.count b) (found_after q.outer.mark (Some (under (shape_code q.shape))) q.outer.found) [] (unwritten (length b)) r t) (answering_ended s q.outer h.outer h.answered) (p fits) in
+    let mark : q.outer.mark ≡ s.mark = ap (λ (x : State). x.mark) g.outer in
+    let found : q.outer.found ≡ s.found = ap (λ (x : State). x.found) g.outer in
+    let at_s = subst (λ x. Pays x (whole_text q.shape q.outer.mark q.count b) (found_after q.outer.mark (Some (under (shape_code q.shape))) q.outer.found) [] (unwritten (length b)) r t) (answering_ended s q.outer g.outer h.answered) (p fits) in
     let same : marked s.mark (whole shape xs) ≡ whole_text q.shape q.outer.mark q.count b = rw (mark, h.shape_is, h.count) (whole_of_some shape s.mark xs b (rw h.pairs at complete) text) in
     let code : found_after s.mark (kind_code (whole shape xs)) s.found ≡ found_after q.outer.mark (Some (under (shape_code q.shape))) q.outer.found = rw (mark, found, h.shape_is, whole_code shape xs) refl in
-    pays_sizes s _ _ (sizes (whole shape xs)) _ r t (record { plan = h.plan; measure = h.measure }) (pays_text s _ _ _ _ [] _ r t same code at_s)
+    pays_sizes s _ _ (sizes (whole shape xs)) _ r t (record { plan = g.plan; measure = g.measure }) (pays_text s _ _ _ _ [] _ r t same code at_s)
 
-pub end_wrote_each : {A : Type 0} (q : Open) (b : List ℕ) (r : Result A Error) (t : State) → q.inner.contents ≡ Some b → Ends q b r t → OnOk r ((s : State) (shape : Shape) (xs : List Item) → Holds s shape xs q → Complete q.pairs xs → Wrote s (whole shape xs) t)
-end_wrote_each q b (Ok a) t contents p = λ s shape xs h complete. wrote_pays s (whole shape xs) _ _ _ _ (Ok a) t refl refl refl (end_pays s shape xs q b (Ok a) t h complete contents p)
-end_wrote_each q b (Err e) t contents p = tt
+pub end_wrote_each : {A : Type 0} (q : Open) (b : List ℕ) (r : Result A Error) (t : State) → q.opened ≡ Opened.Buffered → Told q.inner.contents b → Ends q b r t → OnOk r ((s : State) (shape : Shape) (xs : List Item) → Holds s shape xs q → Complete q.pairs xs → Wrote s (whole shape xs) t)
+end_wrote_each q b (Ok a) t how contents p = λ s shape xs h complete. wrote_pays s (whole shape xs) _ _ _ _ (Ok a) t refl refl refl (end_pays s shape xs q b (Ok a) t how h complete contents p)
+end_wrote_each q b (Err e) t how contents p = tt
 
-pub end_refused_each : {A : Type 0} (q : Open) (b : List ℕ) (r : Result A Error) (t : State) → q.inner.contents ≡ Some b → Ends q b r t → IfErr r (λ e. (s : State) (shape : Shape) (xs : List Item) → Holds s shape xs q → Complete q.pairs xs → Refused s (whole shape xs) e t)
-end_refused_each q b (Ok a) t contents p = tt
-end_refused_each q b (Err e) t contents p = λ s shape xs h complete. refused_pays s (whole shape xs) _ _ _ _ (Err e) t refl refl refl (body_why shape xs b (run_fits shape xs h.start q.inner b h.empty h.run contents) (rw h.pairs at complete)) (end_pays s shape xs q b (Err e) t h complete contents p)
+pub end_refused_each : {A : Type 0} (q : Open) (b : List ℕ) (r : Result A Error) (t : State) → q.opened ≡ Opened.Buffered → Told q.inner.contents b → Ends q b r t → IfErr r (λ e. (s : State) (shape : Shape) (xs : List Item) → Holds s shape xs q → Complete q.pairs xs → Refused s (whole shape xs) e t)
+end_refused_each q b (Ok a) t how contents p = tt
+end_refused_each q b (Err e) t how contents p = λ s shape xs h complete. refused_pays s (whole shape xs) _ _ _ _ (Err e) t refl refl refl (body_why shape xs b (let g = buffers s shape q.opened q.outer h.start how h.begun in run_fits shape xs h.start q.inner b g.empty h.run (tells _ _ _ b g.empty.contents h.run.goes.appended contents)) (rw h.pairs at complete)) (end_pays s shape xs q b (Err e) t how h complete contents p)
 
 -- a list about one of its elements
 list_split : {X : Type 0} (xs : List X) (k : ℕ) (v : X) → k < length xs → v ≡ get_or xs k v → take k xs ++ v ∷ drop (k + 1) xs ≡ xs

@@ -89,6 +89,14 @@ list_else DescribedList h = refl
 list_else DescribedMap h = absurd (h refl)
 list_else DescribedBasic h = refl
 
+-- a struct is a list but under the described map setting
+pub list_unless : (setting : Setting) → (setting ≡ DescribedMap → ⊥) → struct_shape setting ≡ Shape.List
+list_unless Plain h = refl
+list_unless Symbol h = refl
+list_unless DescribedList h = refl
+list_unless DescribedMap h = absurd (h refl)
+list_unless DescribedBasic h = refl
+
 pub list_of : (s : State) (fs : List FieldItem) (q : Open) → HoldsFields s fs q → (q.shape ≡ Shape.Fields → ⊥) → struct_shape s.setting ≡ Shape.List
 unfolding HoldsFields
 list_of s fs q h other = list_else s.setting (λ e. other (h.shape_is ∙ e))

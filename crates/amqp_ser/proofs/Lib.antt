@@ -14,4 +14,9 @@ pub mod Finish
 pub mod Counting
 pub mod MapPairs
 pub mod ManyParts
+pub mod NumberTexts
+pub mod NumberParts
 pub mod WholeFields
+pub mod Heads
+pub mod Passes
+pub mod Lending

@@ -7,8 +7,9 @@ use Rattle.amqp_base.specs.Sizes.{Size, sizes}
 use Rattle.amqp_base.specs.declared.error.Error.{Error}
 use Rattle.amqp_base.specs.declared.error.Error.TheVariants.{OutOfMemory}
 use Rattle.amqp_base.specs.Faults.{IsFault}
-use Rattle.amqp_ser.specs.State.{State}
-use Rattle.amqp_ser.specs.Law.{marked, text_for, found_after, fits, Goes, Wrote, Refused, Kept, IsDevice, why_unwritten}
+use Rattle.amqp_ser.specs.State.{State, Planned}
+use Rattle.amqp_ser.proofs.Counting.{goes_more}
+use Rattle.amqp_ser.specs.Law.{marked, text_for, found_after, fits, is_next, Goes, Wrote, Refused, Kept, IsDevice, why_unwritten}
 use Rattle.amqp_ser.specs.Appending.{Appended, Pays}
 use Rattle.amqp_ser.proofs.Bytes.{appends_more, extends_more, extends_same}
 
@@ -29,28 +30,28 @@ pub record Free (s : State) : Type 0 where
 
 pub fits_free : (s : State) (n : ℕ) (l : List Size) → Free s → fits s l n ≡ true
 unfolding fits
-fits_free s n l f = rw (f.plan, f.measure) refl
+fits_free s n l f = rw f.plan refl
 
-pub goes_two : (s t u : State) (a b : List ℕ) → Free s → Goes s a [] t → Goes t b [] u → Goes s (a ++ b) [] u
-goes_two s t u a b f h k = record {
-  fits = fits_free s (length (a ++ b)) [] f;
-  appended = appends_more _ _ _ a b h.appended k.appended;
-  plan = k.plan ∙ (rw (h.plan, f.plan) refl);
-  measure = k.measure ∙ (rw (h.measure, f.measure) refl);
-  setting = k.setting ∙ h.setting;
-}
+-- a text without compounds stands under each plan
+pub fits_nil : (s : State) (n : ℕ) → fits s [] n ≡ true
+unfolding fits
+fits_nil s n = go s.plan
+  where
+    go : (p : Option Planned) → is_next p [] ≡ true
+    go None = refl
+    go (Some p) = refl
 
-pub appended_two : {A : Type 0} (s t u : State) (a b : List ℕ) (x : A) (r : Result A Error) → Free s → Appended s a (Ok x) t → Appended t b r u → Appended s (a ++ b) r u
-appended_two s t u a b x (Ok y) f h k = record {
+pub appended_two : {A : Type 0} (s t u : State) (a b : List ℕ) (x : A) (r : Result A Error) → Appended s a (Ok x) t → Appended t b r u → Appended s (a ++ b) r u
+appended_two s t u a b x (Ok y) h k = record {
   kept = kept_two s t u h.kept k.kept;
   device = tt;
-  ok = (goes_two s t u a b f h.ok.0 k.ok.0, k.ok.1 ∙ h.ok.1, k.ok.2 ∙ h.ok.2, k.ok.3 ∙ h.ok.3);
+  ok = (goes_more s t u a b [] [] h.ok.0 k.ok.0, k.ok.1 ∙ h.ok.1, k.ok.2 ∙ h.ok.2, k.ok.3 ∙ h.ok.3);
   err = tt;
   refused = tt;
   spares = tt;
 }
-appended_two s t u a b x (Err e) f h k =
-    let free : fits t [] (length b) ≡ true = fits_free t (length b) [] (record { plan = h.ok.0.plan ∙ (rw f.plan refl); measure = h.ok.0.measure ∙ (rw f.measure refl) }) in
+appended_two s t u a b x (Err e) h k =
+    let free : fits t [] (length b) ≡ true = fits_nil t (length b) in
     record {
       kept = kept_two s t u h.kept k.kept;
       device = λ d. omega (arith, h.kept.faults, k.device d);
@@ -61,17 +62,17 @@ appended_two s t u a b x (Err e) f h k =
     }
 
 -- what was ended by the first part is ended
-pub appended_ended : {A B : Type 0} (s t : State) (a b : List ℕ) (e : Error) (q : Result A Error) (r : Result B Error) → Free s → q ≡ Err e → r ≡ Err e → Appended s a q t → Appended s b r t
-appended_ended s t a b e (Ok x) r f is same h = cc
-appended_ended s t a b e (Err d) (Ok x) f is same h = cc
-appended_ended s t a b e (Err d) (Err g) f is same h =
+pub appended_ended : {A B : Type 0} (s t : State) (a b : List ℕ) (e : Error) (q : Result A Error) (r : Result B Error) → q ≡ Err e → r ≡ Err e → Appended s a q t → Appended s b r t
+appended_ended s t a b e (Ok x) r is same h = cc
+appended_ended s t a b e (Err d) (Ok x) is same h = cc
+appended_ended s t a b e (Err d) (Err g) is same h =
     let eq : d ≡ g = cc in
     record {
       kept = h.kept;
       device = subst (λ x. IsDevice x → s.faults < t.faults) eq h.device;
       ok = tt;
       err = h.err;
-      refused = elim h.refused [ inl m ↦ inl (sym eq ∙ m) | inr d ↦ elim d [ inl io ↦ inr (inl (subst (λ x. IsFault t.last_fault x) eq io.0, io.1)) | inr full ↦ absurd (apart (sym (fits_free s (length a) [] f) ∙ full)) ] ];
+      refused = elim h.refused [ inl m ↦ inl (sym eq ∙ m) | inr d ↦ elim d [ inl io ↦ inr (inl (subst (λ x. IsFault t.last_fault x) eq io.0, io.1)) | inr full ↦ absurd (apart (sym (fits_nil s (length a)) ∙ full)) ] ];
       spares = subst (λ x. x ≡ OutOfMemory → (s.grows ≡ true) ⊎ (s.faults < t.faults)) eq h.spares;
     }
 
@@ -103,7 +104,7 @@ pays_appended s v text found bytes why r t same is answers a = pays_found s text
           | inl f ↦ inr (inl f)
           | inr full ↦ inr (inr (record {
             none = rw is (when_false _ bytes full);
-            named = λ plan measure. absurd (apart (sym (fits_free s (length bytes) [] (record { plan = plan; measure = measure })) ∙ full));
+            named = λ plan. absurd (apart (sym (fits_nil s (length bytes)) ∙ full));
           }))
         ]
       ];
@@ -119,7 +120,7 @@ ended_pays (Err f) s text found l e same none memory device =
       device = λ d. absurd (device (subst (λ x. IsDevice x) eq d));
       ok = tt;
       err = refl;
-      refused = inr (inr (record { none = rw none refl; named = λ plan measure. eq }));
+      refused = inr (inr (record { none = rw none refl; named = λ plan. eq }));
       spares = λ m. absurd (memory (sym eq ∙ m));
     }
 
@@ -141,5 +142,5 @@ refused_pays s i text found l why (Ok x) t is same z name p = tt
 refused_pays s i text found l why (Err e) t is same z name p = record {
   kept = p.kept;
   device = p.device;
-  cause = λ h. elim p.refused [ inl m ↦ inl m | inr d ↦ inr (elim d [ inl f ↦ inl f | inr w ↦ inr (record { none = rw (is, z) w.none; named = λ plan measure. w.named plan measure ∙ sym name }) ]) ];
+  cause = λ h. elim p.refused [ inl m ↦ inl m | inr d ↦ inr (elim d [ inl f ↦ inl f | inr w ↦ inr (record { none = rw (is, z) w.none; named = λ plan. w.named plan ∙ sym name }) ]) ];
 }

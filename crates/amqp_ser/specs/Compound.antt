@@ -1,5 +1,6 @@
 -- What contracts see of an open compound.
-use Rattle.std.specs.Prelude.{◌≡◌, ℕ, ◌==◌, ◌&&◌, Bool, true, false, if◌then◌else◌, List, [], ◌∷◌, length, Option, Some, None, Result, Err, IfErr, OnErr}
+use Rattle.std.specs.Prelude.{◌≡◌, ◌⊎◌, ◌-◌, ◌<◌, Ok, ℕ, ◌==◌, ◌&&◌, ◌≤◌, ◌+◌, ◌%◌, ◌++◌, min, set, nat_le, Bool, true, false, if◌then◌else◌, List, [], ◌∷◌, length, Option, Some, None, Result, Err, IfErr, OnErr, OnOk}
+use Rattle.std.specs.Int.{bytes_high_first}
 use Rattle.std.specs.declared.io.Write as Write
 use Rattle.std.specs.declared.vec.Vec.{Vec}
 use Rattle.std.specs.Global.{Global}
@@ -10,15 +11,21 @@ use Rattle.amqp_base.specs.declared.format_code.EncodingCodes.TheVariants.{List3
 use Rattle.amqp_base.specs.declared.error.Error.TheVariants.{InvalidValue}
 use Rattle.amqp_base.specs.Item.{Item, Items, items_of}
 use Rattle.amqp_base.specs.Wire.{Constructor, under}
-use Rattle.amqp_base.specs.Canon.{canons, array_body, kind_code, compound_text, wide_body}
+use Rattle.amqp_base.specs.Canon.{limit, canons, array_body, kind_code, compound_text, wide_body}
 use Rattle.amqp_base.specs.Shapes.{whole, setting_inside}
 use Rattle.amqp_base.specs.Structs.{FieldItem, struct_shape, fields_parts, is_described_name}
 use Rattle.amqp_base.specs.Codes.{row}
-use Rattle.amqp_base.specs.Sizes.{sizes_in}
-use Rattle.amqp_ser.specs.State.{State, Mark, unmarked, first, other, state, mark_of, found_of}
+use Rattle.amqp_base.specs.Sizes.{Size, sizes_in}
+use Rattle.amqp_ser.specs.State.{State, answering, Planned, Measured, size_in, Mark, unmarked, first, other, state, mark_of, found_of, contents_in, plan_in, measure_in}
+use Rattle.amqp_ser.specs.declared.pass.Opened.{Opened}
 pub use Rattle.amqp_ser.specs.Texts.{other_of}
-use Rattle.amqp_ser.specs.Law.{Goes, placed, Refused, Kept, Stops}
+use Rattle.amqp_ser.specs.Law.{Goes, placed, found_after, Wrote, Refused, Kept, Stops, unwritten}
 use Rattle.amqp_ser.specs.declared.compound.Parts.{Parts}
+use Rattle.amqp_ser.specs.declared.compound.Outer.{Outer as CodeOuter}
+use Rattle.amqp_base.specs.declared.fault.Size.{Size as CodeSize}
+use Rattle.amqp_base.specs.declared.shape.Setting.{Setting}
+use Rattle.amqp_base.specs.declared.error.Error.TheVariants.{OutOfMemory}
+use Rattle.amqp_ser.specs.Appending.{Pays}
 use Rattle.amqp_ser.specs.declared.seq.SeqSerializer.{SeqSerializer}
 use Rattle.amqp_ser.specs.declared.tuples.TupleSerializer.{TupleSerializer}
 use Rattle.amqp_ser.specs.declared.map.MapSerializer.{MapSerializer}
@@ -26,6 +33,12 @@ use Rattle.amqp_ser.specs.declared.tuple_structs.TupleStructSerializer.{TupleStr
 use Rattle.amqp_ser.specs.declared.structs.StructSerializer.{StructSerializer}
 use Rattle.amqp_ser.specs.declared.serializer.Serializer.{Serializer}
 use Rattle.amqp_base.specs.declared.shape.Shape.{Shape}
+
+-- what a serializer is to have again
+pub record Back : Type 0 where
+  pub setting : Setting
+  pub mark : Mark
+  pub found : Option Constructor
 
 -- a compound: its serializer, what its parts are written to, how many there are
 pub record Open : Type 0 where
@@ -35,6 +48,7 @@ pub record Open : Type 0 where
   pub outer : State
   pub inner : State
   pub count : ℕ
+  pub opened : Opened
 
 -- what is written of the parts
 unfoldable pub parts_text : Shape → Items → Option (List ℕ)
@@ -100,11 +114,30 @@ pub record Run (shape : Shape) (u : State) (xs : List Item) (v : State) : Type 0
   pub answers : v.ended ≡ false
 
 abbrev pub the_buffer : Serializer (Vec ℕ Global) → State
-the_buffer b = record { contents = Some b.writer.items; faults = 0; last_fault = None; grows = true; setting = b.setting; mark = mark_of b.mark; found = found_of b.found; plan = None; measure = None; ended = b.ended }
+the_buffer b = record { contents = contents_in b.direct (Some b.writer.items); faults = 0; last_fault = None; grows = true; setting = b.setting; mark = mark_of b.mark; found = found_of b.found; plan = plan_in b.direct None; measure = measure_in b.direct None; ended = b.ended }
 
 -- parts on a serializer
+abbrev pub outer_in : CodeOuter → Back
+outer_in (CodeOuter.Had setting mark found) = record { setting = setting; mark = mark_of mark; found = found_of found }
+
+-- the state with that again
+abbrev pub back : Back → State → State
+back b o = record o { setting = b.setting; mark = b.mark; found = b.found }
+
+-- what its parts are written to: a buffer, or the serializer itself
+abbrev pub inner_of : Opened → State → Serializer (Vec ℕ Global) → State
+inner_of Opened.Buffered o b = the_buffer b
+inner_of (Opened.Measured at before) o b = record o { ended = b.ended }
+inner_of (Opened.Written size from) o b = record o { ended = b.ended }
+
+-- the serializer as it is to be when the compound has ended
+abbrev pub outer_of : Opened → State → Back → State
+outer_of Opened.Buffered o b = o
+outer_of (Opened.Measured at before) o b = back b o
+outer_of (Opened.Written size from) o b = back b o
+
 abbrev pub open_parts : Bool → State → Parts → Open
-open_parts pairs outer p = record { pairs = pairs; shape = p.shape; outer = outer; inner = the_buffer p.buffer; count = p.count }
+open_parts pairs o p = record { pairs = pairs; shape = p.shape; outer = outer_of p.opened o (outer_in p.outer); inner = inner_of p.opened o p.buffer; count = p.count; opened = p.opened }
 
 unfoldable pub open_state : {W : Type 0} → Write.Ghosts W → FaultCount.Ghosts W → SeqSerializer W Parts → Open
 open_state w f q = open_parts false (state w f q.ser.now) q.parts
@@ -145,18 +178,91 @@ pub record Empty (u : State) : Type 0 where
   pub plan : u.plan ≡ None
   pub measure : u.measure ≡ None
 
+-- the header of a compound of this size
+unfoldable pub head_text : Shape → Mark → Size → Option (List ℕ)
+head_text shape unmarked z =
+    if empty_list shape z.length then Some (0x45 ∷ [])
+    else if nat_le z.length 254 then Some (narrow_of shape ∷ (z.length + 1) ∷ (z.count % 256) ∷ [])
+    else if nat_le z.length limit then Some ((row (shape_code shape)).byte ∷ (bytes_high_first 4 (z.length + 4) ++ bytes_high_first 4 (z.count % 4294967296)))
+    else None
+head_text shape first z = placed first (Some (under (shape_code shape))) (if nat_le z.length limit then Some (bytes_high_first 4 (z.length + 4) ++ bytes_high_first 4 (z.count % 4294967296)) else None)
+head_text shape (other d) z = placed (other d) (Some (under (shape_code shape))) (if nat_le z.length limit then Some (bytes_high_first 4 (z.length + 4) ++ bytes_high_first 4 (z.count % 4294967296)) else None)
+
+-- a serializer that a compound of a pass holds, as it is to be when the compound has ended
+pub record Lent (s : State) (code : Option Constructor) (o : State) : Type 0 where
+  pub was : s.contents ≡ None
+  pub faults : s.faults ≤ o.faults
+  pub grows : o.grows ≡ s.grows
+  pub setting : o.setting ≡ s.setting
+  pub mark : o.mark ≡ s.mark
+  pub found : o.found ≡ code
+
+-- the parts go to a buffer
+pub record Buffers (s : State) (o start : State) : Type 0 where
+  pub empty : Empty start
+  pub outer : o ≡ record s { ended = true }
+  pub plan : s.plan ≡ None
+  pub measure : s.measure ≡ None
+
+-- the parts are measured behind a place for the compound's size
+pub record Measures (s : State) (at before : ℕ) (o start : State) : Type 0 where
+  pub so_far : Measured
+  pub room : Size
+  pub plan : s.plan ≡ None
+  pub measure : s.measure ≡ Some so_far
+  pub place : at ≡ length so_far.sizes
+  pub counted : before ≡ so_far.length
+  pub no_plan : start.plan ≡ None
+  pub counts : start.measure ≡ Some (record { length = so_far.length; sizes = so_far.sizes ++ room ∷ [] })
+  pub outer : Lent s s.found o
+
+-- the parts are written behind the header of the size that is next in the plan
+pub record Writes (shape : Shape) (s : State) (size : Size) (from : ℕ) (o start : State) : Type 0 where
+  pub so_far : Planned
+  pub left : List Size
+  pub head : List ℕ
+  pub plan : s.plan ≡ Some so_far
+  pub next : so_far.sizes ≡ size ∷ left
+  pub measure : s.measure ≡ None
+  pub text : head_text shape s.mark size ≡ Some head
+  pub goes_on : start.plan ≡ Some (record { bytes = so_far.bytes ++ head; sizes = left })
+  pub no_measure : start.measure ≡ None
+  pub behind : from ≡ length (so_far.bytes ++ head)
+  pub outer : Lent s (found_after s.mark (Some (under (shape_code shape))) s.found) o
+
+abbrev pub Begun : Shape → State → Opened → State → State → Type 0
+Begun shape s Opened.Buffered o start = Buffers s o start
+Begun shape s (Opened.Measured at before) o start = Measures s at before o start
+Begun shape s (Opened.Written size from) o start = Writes shape s (size_in size) from o start
+
+-- the state after a compound that was measured, before its header counts
+abbrev pub back_measured : State → ℕ → ℕ → ℕ → Measured → State
+back_measured o at before count m = record o { measure = Some (record { length = m.length; sizes = set m.sizes at (record { length = m.length - before; count = count }) }); ended = false }
+
+abbrev pub IsOutOfMemory : {A : Type 0} → Result A Error → Type 0
+IsOutOfMemory (Ok x) = ⊥
+IsOutOfMemory (Err e) = e ≡ OutOfMemory
+
+-- the end of a compound that was measured: want of memory, or its header counts behind what is known
+abbrev pub EndsMeasured : {A : Type 0} → Shape → ℕ → ℕ → ℕ → Measured → State → Result A Error → State → Type 0
+EndsMeasured shape at before count m o r t =
+    IsOutOfMemory r
+    ⊎ ((before ≤ m.length) × (m.length < 18446744073709551615) × Pays (back_measured o at before count m) (head_text shape o.mark (record { length = m.length - before; count = count })) (found_after o.mark (Some (under (shape_code shape))) o.found) [] (unwritten (m.length - before)) r t)
+
+-- the end of a compound that was written: it is as its header says, or refused
+abbrev pub EndsWritten : {A : Type 0} → ℕ → CodeSize → ℕ → Planned → State → Result A Error → State → Type 0
+EndsWritten count size from p o (Ok x) t = (length p.bytes ≡ from + size.length) × (count ≡ size.count) × (t ≡ record o { ended = false })
+EndsWritten count size from p o (Err e) t = (e ≡ OutOfMemory) ⊎ (((length p.bytes ≡ from + size.length) × (count ≡ size.count) → ⊥) × (e ≡ InvalidValue))
+
 -- the compound was opened on a serializer in the state s, and has the parts xs
 pub record Holds (s : State) (shape : Shape) (xs : List Item) (q : Open) : Type 0 where
   pub pairs : q.pairs ≡ is_map shape
   pub shape_is : q.shape ≡ shape
   pub start : State
-  pub empty : Empty start
+  pub begun : Begun shape s q.opened q.outer start
   pub run : Run shape start xs q.inner
   pub count : q.count ≡ length xs
-  pub outer : q.outer ≡ record s { ended = true }
   pub answered : s.ended ≡ false
-  pub plan : s.plan ≡ None
-  pub measure : s.measure ≡ None
 
 -- a struct was opened on a serializer in the state s, and has the fields fs
 unfoldable pub HoldsFields : State → List FieldItem → Open → Type 0
@@ -191,3 +297,29 @@ IsEnded q = q.inner.ended ≡ true
 pub record EndsCompound {A : Type 0} (q : Open) (r : Result A Error) (p : Open) : Type 0 where
   pub err : OnErr r (IsEnded p)
   pub ended : IsEnded q → (r ≡ Err InvalidValue) × (p ≡ q)
+
+-- where a part outside arrays is written on the serializer that its compound holds
+abbrev pub outside_in : Shape → State → State
+outside_in shape o = record o { setting = setting_inside shape; mark = unmarked; ended = false }
+
+-- where a part is written on the serializer that its compound holds
+abbrev pub part_in : Shape → State → State
+part_in Shape.List o = outside_in Shape.List o
+part_in Shape.Array o = answering o
+part_in (Shape.Tuple n) o = outside_in (Shape.Tuple n) o
+part_in Shape.Map o = outside_in Shape.Map o
+part_in Shape.Fields o = outside_in Shape.Fields o
+
+-- a part was written on the serializer o that its compound holds, or refused
+pub record WritesPart {A : Type 0} (o v : State) (f : Setting → Item) (r : Result A Error) (t : State) : Type 0 where
+  pub kept : Kept o t
+  pub held : t.ended ≡ true
+  pub ok : OnOk r ((w : State) × Wrote v (f v.setting) w × (t ≡ record w { ended = true; mark = turned w.mark w.found }))
+  pub err : IfErr r (λ e. (w : State) × Refused v (f v.setting) e w × (t ≡ record w { ended = true }))
+
+-- these items were written behind the parts of the compound q, which is p then, or refused with its serializer in the state t
+pub record WritesEach {A : Type 0} (is : List Item) (q : Open) (r : Result A Error) (t : State) (p : Open) : Type 0 where
+  pub ok : OnOk r ((s : State) (shape : Shape) (xs : List Item) → Holds s shape xs q → Holds s shape (xs ++ is) p)
+  pub err : IfErr r (λ e. (s : State) (shape : Shape) (xs all : List Item) → Holds s shape xs q → BeginsWith all (xs ++ is) → Refused s (whole shape all) e t)
+  pub kept : Keeps q p
+  pub stops : EndsCompound q r p

@@ -1,5 +1,5 @@
 -- The law of writing.
-use Rattle.std.specs.Prelude.{◌≡◌, ◌⊎◌, ℕ, ◌+◌, ◌^◌, ◌<◌, ◌≤◌, nat_lt, ◌==◌, ◌&&◌, Bool, true, false, List, [], ◌∷◌, ◌++◌, length, drop, Option, None, Some, Result, Err, OnErr, IfErr}
+use Rattle.std.specs.Prelude.{◌≡◌, ◌⊎◌, ℕ, ◌+◌, ◌^◌, ◌<◌, ◌≤◌, ◌==◌, ◌&&◌, Bool, true, false, List, [], ◌∷◌, ◌++◌, length, drop, min, Option, None, Some, Result, Err, OnErr, IfErr}
 use Rattle.std.specs.Io.KnownBytes.{Appends}
 use Rattle.amqp_base.specs.Item.{Item}
 use Rattle.amqp_base.specs.Wire.{Constructor}
@@ -9,7 +9,7 @@ use Rattle.amqp_base.specs.Faults.{Extends, IsFault}
 use Rattle.amqp_base.specs.declared.error.Error.{Error}
 use Rattle.amqp_base.specs.declared.error.Error.TheVariants.{OutOfMemory, InvalidValue}
 pub use Rattle.amqp_base.specs.Refusals.{IsDevice}
-use Rattle.amqp_ser.specs.State.{State, Mark, unmarked, first, other, Counted}
+use Rattle.amqp_ser.specs.State.{State, Mark, unmarked, first, other, Planned, Measured}
 unfoldable pub use Rattle.amqp_ser.specs.Texts.{placed, marked, unwritten, why_unwritten}
 
 abbrev pub found_after : Mark → Option Constructor → Option Constructor → Option Constructor
@@ -25,35 +25,32 @@ begins p [] = true
 begins [] (x ∷ xs) = false
 begins (y ∷ ys) (x ∷ xs) = same_size y x && begins ys xs
 
--- so many more bytes can be counted
-abbrev pub has_room : Option Counted → ℕ → Bool
-has_room None n = true
-has_room (Some c) n = nat_lt (c.length + n) (2 ^ 64)
-
-abbrev pub is_next : Option Counted → List Size → Bool
+abbrev pub is_next : Option Planned → List Size → Bool
 is_next None l = true
 is_next (Some p) l = begins p.sizes l
 
+-- these sizes are next in the plan
 unfoldable pub fits : State → List Size → ℕ → Bool
-fits s l n = is_next s.plan l && (has_room s.plan n && has_room s.measure n)
+fits s l n = is_next s.plan l
 
 -- what is appended for an item, where there is something
 unfoldable pub text_for : State → Item → Option (List ℕ)
 text_for s i = marked s.mark i >>= λ b. when (fits s (sizes i) (length b)) b
 
-abbrev pub plan_after : Option Counted → List Size → ℕ → Option Counted
-plan_after None l n = None
-plan_after (Some p) l n = Some (record { length = p.length + n; sizes = drop (length l) p.sizes })
+abbrev pub plan_after : Option Planned → List Size → List ℕ → Option Planned
+plan_after None l b = None
+plan_after (Some p) l b = Some (record { bytes = p.bytes ++ b; sizes = drop (length l) p.sizes })
 
-abbrev pub measure_after : Option Counted → List Size → ℕ → Option Counted
+-- beyond what a usize holds nothing is counted
+abbrev pub measure_after : Option Measured → List Size → ℕ → Option Measured
 measure_after None l n = None
-measure_after (Some m) l n = Some (record { length = m.length + n; sizes = m.sizes ++ l })
+measure_after (Some m) l n = Some (record { length = min (m.length + n) 18446744073709551615; sizes = m.sizes ++ l })
 
 -- from s to t by so many bytes
 pub record Goes (s : State) (bytes : List ℕ) (l : List Size) (t : State) : Type 0 where
   pub fits : fits s l (length bytes) ≡ true
   pub appended : Appends s.contents t.contents bytes
-  pub plan : t.plan ≡ plan_after s.plan l (length bytes)
+  pub plan : t.plan ≡ plan_after s.plan l bytes
   pub measure : t.measure ≡ measure_after s.measure l (length bytes)
   pub setting : t.setting ≡ s.setting
 
@@ -65,10 +62,10 @@ pub record Took (s : State) (i : Item) (t : State) : Type 0 where
   pub mark : t.mark ≡ s.mark
   pub found : t.found ≡ found_after s.mark (kind_code i) s.found
 
--- the item has no text here; outside passes it is refused by name
+-- the item has no text here; where no sizes are planned it is refused by name
 pub record Unwritten (s : State) (i : Item) (e : Error) : Type 0 where
   pub none : text_for s i ≡ None
-  pub named : s.plan ≡ None → s.measure ≡ None → e ≡ why_unwritten i
+  pub named : s.plan ≡ None → e ≡ why_unwritten i
 
 -- why an item may be refused
 abbrev pub MayRefuse : State → Item → Error → State → Type 0

@@ -5,7 +5,7 @@ ghost use Rattle.amqp_base.specs.Item.{scalar, decimal32, decimal64, decimal128}
 ghost use Rattle.amqp_ser.specs.State.{state};
 ghost use Rattle.amqp_ser.specs.Law.{Wrote, Refused, Stops, Spares};
 
-use crate::serializer::refused;
+use crate::serializer::{Refusal, refused};
 use crate::{Serialize, Serializer};
 use amqp_base::{EncodingCodes, Error, Sink};
 use amqp_types::{Dec32, Dec64, Dec128};
@@ -29,7 +29,7 @@ impl<W: Sink> Serializer<W> {
     {
         let _ = alloc;
         if self.ended {
-            return Err(Error::InvalidValue);
+            return Err(refused(Refusal::InvalidValue));
         }
         match self.four_bytes(EncodingCodes::Decimal32, *v.as_inner()) {
             Ok(()) => Ok(()),
@@ -54,7 +54,7 @@ impl<W: Sink> Serializer<W> {
     {
         let _ = alloc;
         if self.ended {
-            return Err(Error::InvalidValue);
+            return Err(refused(Refusal::InvalidValue));
         }
         match self.eight_bytes(EncodingCodes::Decimal64, *v.as_inner()) {
             Ok(()) => Ok(()),
@@ -79,7 +79,7 @@ impl<W: Sink> Serializer<W> {
     {
         let _ = alloc;
         if self.ended {
-            return Err(Error::InvalidValue);
+            return Err(refused(Refusal::InvalidValue));
         }
         match self.sixteen_bytes(EncodingCodes::Decimal128, *v.as_inner()) {
             Ok(()) => Ok(()),

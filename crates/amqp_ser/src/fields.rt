@@ -3,13 +3,15 @@
 ghost use Rattle.std.specs.Prelude.{◌≡◌, ◌++◌, ◌∷◌, [], true, false, not, ◌&&◌, IsTrue, IfErr};
 ghost use Rattle.std.specs.Prelude.{OnOk, List};
 ghost use Rattle.amqp_base.specs.Structs.{FieldItem, named, struct_item, is_described_name};
-ghost use Rattle.amqp_base.specs.Structs.{is_descriptor_name};
+ghost use Rattle.amqp_base.specs.Structs.{is_descriptor_name, struct_shape};
 ghost use Rattle.amqp_ser.specs.State.{State, state};
 ghost use Rattle.amqp_ser.specs.Law.{Wrote, Refused};
 ghost use Rattle.amqp_ser.specs.Compound.{struct_state, HoldsFields, BeginsWith};
 
+use crate::compound::write_part;
+use crate::structs::is_name;
 use crate::{Serialize, Serializer, StructSerializer};
-use amqp_base::{Error, Sink, Typed};
+use amqp_base::{DESCRIPTOR, Error, Setting, Shape, Sink, Typed};
 use std::alloc::Global;
 
 /// Fields under their names, in order.
@@ -22,6 +24,29 @@ pub trait StructFields: Drop {
 
     /// No field has the name of a descriptor.
     ghost usual: { Self → Bool };
+
+    /// Whether one of them has the name of a descriptor.
+    #[doc(hidden)]
+    fn has_descriptor(&self) -> bool
+        ensures { result ≡ not (Self.usual self.now) };
+
+    /// Writes their values, in order, to a struct that is a list.
+    #[doc(hidden)]
+    fn write_values<W: Sink>(
+        &self,
+        alloc: Global,
+        out: &mut StructSerializer<'_, W>,
+    ) -> Result<(), Error>
+        ensures same_reference { out.new.ser.ghost_name ≡ out.old.ser.ghost_name }
+        ensures ok { OnOk result ((s : State) (fs : List FieldItem) →
+            struct_shape s.setting ≡ Shape.List →
+            HoldsFields s fs (struct_state W.Write W.FaultCount out.old) →
+            HoldsFields s (fs ++ Self.items self.now) (struct_state W.Write W.FaultCount out.new)) }
+        ensures err { IfErr result (λ e. (s : State) (fs all : List FieldItem) →
+            struct_shape s.setting ≡ Shape.List →
+            HoldsFields s fs (struct_state W.Write W.FaultCount out.old) →
+            BeginsWith all (fs ++ Self.items self.now) → Refused s (struct_item s.setting all) e
+            (state W.Write W.FaultCount out.new.ser.now)) };
 
     /// Writes them, in order.
     fn write<W: Sink>(&self, alloc: Global, out: &mut StructSerializer<'_, W>) -> Result<(), Error>
@@ -41,6 +66,23 @@ impl StructFields for () {
 
     ghost usual = { λ _. true };
 
+    #[inline(always)]
+    fn has_descriptor(&self) -> bool {
+        false
+    }
+
+    #[inline(always)]
+    fn write_values<W: Sink>(
+        &self,
+        alloc: Global,
+        out: &mut StructSerializer<'_, W>,
+    ) -> Result<(), Error> {
+        let _ = alloc;
+        let _ = out;
+        Ok(())
+    }
+
+    #[inline(always)]
     fn write<W: Sink>(
         &self,
         alloc: Global,
@@ -68,6 +110,27 @@ impl<T: Serialize, Rest: StructFields> StructFields for Written<'_, T, Rest> {
 
     ghost usual = { λ w. not (is_descriptor_name w.name.now) && Rest.usual w.rest };
 
+    #[inline(always)]
+    fn has_descriptor(&self) -> bool {
+        is_name(self.name, DESCRIPTOR) || self.rest.has_descriptor()
+    }
+
+    #[inline(always)]
+    fn write_values<W: Sink>(
+        &self,
+        alloc: Global,
+        out: &mut StructSerializer<'_, W>,
+    ) -> Result<(), Error> {
+        match write_part(&mut *out.ser, &mut out.parts, alloc, self.value) {
+            Ok(()) => match self.rest.write_values(alloc, out) {
+                Ok(()) => Ok(()),
+                Err(e) => Err(e),
+            },
+            Err(e) => Err(e),
+        }
+    }
+
+    #[inline(always)]
     fn write<W: Sink>(
         &self,
         alloc: Global,
@@ -91,7 +154,42 @@ pub struct Struct<'n, F> {
 
 impl<W: Sink> Serializer<W> {
     /// Writes a struct, all its fields at once.
+    #[inline(always)]
     pub fn serialize_fields<F: StructFields>(
+        &mut self,
+        alloc: Global,
+        whole: &Struct<'_, F>,
+    ) -> Result<(), Error>
+        ensures ok { OnOk result (Wrote (state W.Write W.FaultCount self.old)
+            (struct_item (state W.Write W.FaultCount self.old).setting (F.items whole.now.fields))
+            (state W.Write W.FaultCount self.new)) }
+        ensures err { is_described_name whole.now.name.now ≡ false →
+            IsTrue (F.usual whole.now.fields) →
+            IfErr result (λ e. Refused (state W.Write W.FaultCount self.old)
+            (struct_item (state W.Write W.FaultCount self.old).setting
+            (F.items whole.now.fields)) e (state W.Write W.FaultCount self.new)) }
+    {
+        match self.setting {
+            Setting::DescribedMap => self.fields_one_by_one(alloc, whole),
+            _ => {
+                if whole.fields.has_descriptor() {
+                    return self.fields_one_by_one(alloc, whole);
+                }
+                let mut out = match self.serialize_struct(alloc, whole.name, 0) {
+                    Ok(out) => out,
+                    Err(e) => return Err(e),
+                };
+                match whole.fields.write_values(alloc, &mut out) {
+                    Ok(()) => out.end(),
+                    Err(e) => Err(e),
+                }
+            }
+        }
+    }
+
+    /// Writes a struct, each field by a call of its own.
+    #[inline(always)]
+    fn fields_one_by_one<F: StructFields>(
         &mut self,
         alloc: Global,
         whole: &Struct<'_, F>,

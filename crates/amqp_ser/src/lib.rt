@@ -1,6 +1,7 @@
 //! Writing values in the AMQP 1.0 encoding (OASIS AMQP 1.0 part 1, sections 1.2 to 1.6).
 #![tactic(auto, unfolding(crate::specs::State::state, crate::specs::Compound::open_state, crate::specs::Compound::tuple_state, crate::specs::Compound::map_state, crate::specs::Compound::tuple_struct_state, crate::specs::Compound::struct_state))]
 
+mod blocks;
 mod compound;
 mod decimals;
 mod each;
@@ -9,14 +10,17 @@ mod fixed;
 mod floats;
 mod map;
 mod maps;
+mod measured;
 mod newtypes;
 mod option;
+mod pass;
 mod payloads;
 mod scalars;
 mod seq;
 mod serialize;
 mod serializer;
 mod signed;
+mod sizes;
 mod structs;
 mod tuple_structs;
 mod tuples;
@@ -25,9 +29,11 @@ mod unsigned;
 pub use compound::Parts;
 pub use fields::{Struct, StructFields, Written};
 pub use map::MapSerializer;
+pub use measured::{measure, measured_size, measured_vec, write_measured};
+pub use pass::Measure;
 pub use seq::SeqSerializer;
-pub use serialize::Serialize;
+pub use serialize::{Numbers, Serialize};
 pub use serializer::Serializer;
 pub use structs::StructSerializer;
 pub use tuple_structs::TupleStructSerializer;
-pub use tuples::TupleSerializer;
+pub use tuples::{Part, TupleParts, TupleSerializer};

@@ -5,6 +5,7 @@ ghost use Rattle.amqp_base.specs.Item.{scalar, null};
 ghost use Rattle.amqp_ser.specs.State.{state};
 ghost use Rattle.amqp_ser.specs.Law.{Wrote, Refused, Stops, Spares};
 
+use crate::serializer::{Refusal, refused};
 use crate::{Serialize, Serializer};
 use amqp_base::{Error, Sink};
 use std::alloc::Global;
@@ -29,6 +30,7 @@ impl<W: Sink> Serializer<W> {
 
     /// Writes the value itself, as an option that holds it. It is refused as the value's own
     /// `serialize`.
+    #[inline(always)]
     pub fn serialize_some<T: Serialize>(&mut self, alloc: Global, value: &T) -> Result<(), Error>
         ensures ok { OnOk result (Wrote (state W.Write W.FaultCount self.old)
             (T.meaning.item value.now (state W.Write W.FaultCount self.old).setting)
@@ -40,7 +42,7 @@ impl<W: Sink> Serializer<W> {
             (state W.Write W.FaultCount self.new) }
     {
         if self.ended {
-            return Err(Error::InvalidValue);
+            return Err(refused(Refusal::InvalidValue));
         }
         match value.serialize(alloc, self) {
             Ok(()) => Ok(()),

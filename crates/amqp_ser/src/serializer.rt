@@ -27,15 +27,42 @@ pub(crate) enum Refusal {
     InvalidValue,
 }
 
-/// The error that a public call answers.
+/// The refusal, told the compiler to be rare.
 #[cold]
+#[inline(never)]
+fn rare(refusal: Refusal) -> Refusal
+    ensures { result ≡ refusal }
+{
+    refusal
+}
+
+/// The error that a public call answers.
+#[inline(always)]
 pub(crate) fn refused(refusal: Refusal) -> Error
     ensures { result ≡ error_of refusal }
 {
-    match refusal {
+    match rare(refusal) {
         Refusal::Io(kind) => Error::from(kind),
         Refusal::InvalidValue => Error::InvalidValue,
     }
+}
+
+/// The error where memory is wanting.
+#[inline(always)]
+pub(crate) fn no_memory() -> Error
+    ensures { result ≡ Error.OutOfMemory }
+{
+    match rare(Refusal::InvalidValue) {
+        _ => Error::OutOfMemory,
+    }
+}
+
+/// The error of a part, handed on.
+#[inline(always)]
+pub(crate) fn handed_on(e: Error) -> Error
+    ensures { result ≡ e }
+{
+    e
 }
 
 /// Where the next item stands.
@@ -74,6 +101,8 @@ pub struct Serializer<W> {
     pub(crate) found: Option<EncodingCodes>,
     /// Whether every call answers `InvalidValue`.
     pub(crate) ended: bool,
+    /// Whether its writer counts the parts of compounds, or takes them, as they come.
+    pub(crate) direct: bool,
 }
 
 impl<W: Sink> Serializer<W> {
@@ -87,6 +116,7 @@ impl<W: Sink> Serializer<W> {
             mark: Mark::Unmarked,
             found: None,
             ended: false,
+            direct: false,
         }
     }
 
@@ -101,6 +131,7 @@ impl<W: Sink> Serializer<W> {
             mark: Mark::Unmarked,
             found: None,
             ended: false,
+            direct: false,
         }
     }
 
@@ -115,6 +146,7 @@ impl<W: Sink> Serializer<W> {
             mark: Mark::Unmarked,
             found: None,
             ended: false,
+            direct: false,
         }
     }
 
@@ -129,6 +161,7 @@ impl<W: Sink> Serializer<W> {
             mark: Mark::Unmarked,
             found: None,
             ended: false,
+            direct: false,
         }
     }
 
@@ -143,6 +176,7 @@ impl<W: Sink> Serializer<W> {
             mark: Mark::Unmarked,
             found: None,
             ended: false,
+            direct: false,
         }
     }
 
@@ -163,6 +197,7 @@ impl<W: Sink> Serializer<W> {
             mark: _,
             found: _,
             ended: _,
+            direct: _,
         } = self;
         writer
     }

@@ -11,6 +11,8 @@ ghost use Rattle.amqp_ser.specs.Compound.{tuple_state, parts_text, RefusesOpen, 
 ghost use Rattle.amqp_ser.specs.Compound.{BeginsWith, EndsCompound, IsEnded};
 ghost use Rattle.amqp_ser.specs.contracts.serializer.Serializer.{the_row};
 
+use crate::compound::write_part;
+use crate::serializer::{Refusal, refused};
 use crate::{Parts, Serialize, Serializer};
 use amqp_base::{Error, Setting, Shape, Sink};
 use std::alloc::Global;
@@ -77,7 +79,7 @@ impl<'a, W: Sink> TupleSerializer<'a, W> {
         ensures stops { EndsCompound (tuple_state W.Write W.FaultCount self.old) result
             (tuple_state W.Write W.FaultCount self.new) }
     {
-        match self.parts.write(alloc, value) {
+        match write_part(&mut *self.ser, &mut self.parts, alloc, value) {
             Ok(()) => Ok(()),
             Err(e) => Err(e),
         }
@@ -90,6 +92,7 @@ impl<'a, W: Sink> TupleSerializer<'a, W> {
     /// is written. `Io(Other)`: the parts have more than 4,294,967,291 bytes. `InvalidValue`: a
     /// part was refused, or the array that the whole is to stand in has elements under another
     /// constructor.
+    #[inline(always)]
     pub fn end(self) -> Result<(), Error>
         ensures ok { OnOk result ((s : State) (n : ℕ) (xs : List Item) →
             Holds s (Shape.Tuple n) xs (tuple_state W.Write W.FaultCount self.entry) →
@@ -112,53 +115,197 @@ impl<'a, W: Sink> TupleSerializer<'a, W> {
     {
         let TupleSerializer { ser, parts } = self;
         if parts.buffer.ended {
-            return Err(Error::InvalidValue);
+            return Err(refused(Refusal::InvalidValue));
         }
-        if parts.is_full() {
-            return ser.close(parts);
+        if !parts.is_full() {
+            return Err(Error::SequenceLengthMismatch);
         }
-        Err(Error::SequenceLengthMismatch)
+        ser.close(parts)
     }
+}
+
+/// Parts of a tuple, in order.
+pub trait TupleParts: Drop {
+    ghost use Rattle.std.specs.Prelude.{List};
+    ghost use Rattle.amqp_base.specs.Item.{Item};
+
+    /// The parts.
+    ghost items: { Self → List Item };
+
+    /// Writes them, in order.
+    fn write<W: Sink>(&self, alloc: Global, out: &mut TupleSerializer<'_, W>) -> Result<(), Error>
+        ensures same_reference { out.new.ser.ghost_name ≡ out.old.ser.ghost_name }
+        ensures ok { OnOk result ((s : State) (shape : Shape) (xs : List Item) →
+            Holds s shape xs (tuple_state W.Write W.FaultCount out.old) →
+            Holds s shape (xs ++ items self.now) (tuple_state W.Write W.FaultCount out.new)) }
+        ensures err { IfErr result (λ e. (s : State) (shape : Shape) (xs all : List Item) →
+            Holds s shape xs (tuple_state W.Write W.FaultCount out.old) →
+            BeginsWith all (xs ++ items self.now) →
+            Refused s (whole shape all) e (state W.Write W.FaultCount out.new.ser.now)) };
+}
+
+impl TupleParts for () {
+    ghost items = { λ _. [] };
+
+    #[inline(always)]
+    fn write<W: Sink>(&self, alloc: Global, out: &mut TupleSerializer<'_, W>) -> Result<(), Error> {
+        let _ = alloc;
+        let _ = out;
+        Ok(())
+    }
+}
+
+/// A part, and the parts behind it.
+#[derive(Drop)]
+pub struct Part<'a, T, Rest> {
+    /// Its value.
+    pub value: &'a T,
+    /// The parts behind it.
+    pub rest: Rest,
+}
+
+impl<T: Serialize, Rest: TupleParts> TupleParts for Part<'_, T, Rest> {
+    ghost use Rattle.amqp_base.specs.declared.shape.Setting.TheVariants.{Plain};
+
+    ghost items = { λ p. T.meaning.item p.value.now Plain ∷ Rest.items p.rest };
+
+    #[inline(always)]
+    fn write<W: Sink>(&self, alloc: Global, out: &mut TupleSerializer<'_, W>) -> Result<(), Error> {
+        match out.serialize_element(alloc, self.value) {
+            Ok(()) => match self.rest.write(alloc, out) {
+                Ok(()) => Ok(()),
+                Err(e) => Err(e),
+            },
+            Err(e) => Err(e),
+        }
+    }
+}
+
+impl<W: Sink> Serializer<W> {
+    /// Writes a tuple, all its parts at once: a list of just so many as are announced.
+    ///
+    /// `SequenceLengthMismatch`: they are another number.
+    #[inline(always)]
+    pub fn serialize_parts<P: TupleParts>(
+        &mut self,
+        alloc: Global,
+        len: usize,
+        parts: &P,
+    ) -> Result<(), Error>
+        ensures ok { OnOk result (Wrote (state W.Write W.FaultCount self.old)
+            (whole (Shape.Tuple len) (P.items parts.now)) (state W.Write W.FaultCount self.new)) }
+        ensures err { length (P.items parts.now) ≡ len →
+            IfErr result (λ e. Refused (state W.Write W.FaultCount self.old)
+            (whole (Shape.Tuple len) (P.items parts.now)) e
+            (state W.Write W.FaultCount self.new)) }
+    {
+        let mut out = match self.serialize_tuple(alloc, len) {
+            Ok(out) => out,
+            Err(e) => return Err(e),
+        };
+        match parts.write(alloc, &mut out) {
+            Ok(()) => out.end(),
+            Err(e) => Err(e),
+        }
+    }
+}
+
+/// Writes a tuple or a tuple struct by its parts: `write_parts!(ser, alloc, self, Colour { 0, 1, 2
+/// })` calls `Serializer::serialize_parts` with these parts of `self`, in this order.
+#[macro_export]
+macro_rules! write_parts {
+    ($ser:expr, $alloc:expr, $of:expr, $name:ident { $($part:tt),+ $(,)? }) => {
+        $ser.serialize_parts(
+            $alloc,
+            $crate::write_parts!(@count $($part),+),
+            &$crate::write_parts!(@parts $of; $($part),+),
+        )
+    };
+    (@count) => { 0 };
+    (@count $part:tt $(, $rest:tt)*) => { 1 + $crate::write_parts!(@count $($rest),*) };
+    (@parts $of:expr;) => { () };
+    (@parts $of:expr; $part:tt $(, $rest:tt)*) => {
+        $crate::Part {
+            value: &$of.$part,
+            rest: $crate::write_parts!(@parts $of; $($rest),*),
+        }
+    };
 }
 
 /// The one value, as a list of it.
 impl<A: Serialize> Serialize for (A,) {
+    #[inline(always)]
     fn serialize<W: Sink>(&self, alloc: Global, ser: &mut Serializer<W>) -> Result<(), Error> {
-        let mut tuple = ser.serialize_tuple(alloc, 1)?;
-        tuple.serialize_element(alloc, &self.0)?;
-        tuple.end()
+        let parts = Part {
+            value: &self.0,
+            rest: (),
+        };
+        match ser.serialize_parts(alloc, 1, &parts) {
+            Ok(()) => Ok(()),
+            Err(e) => Err(e),
+        }
     }
 }
 
 /// Two values, as a list of them.
 impl<A: Serialize, B: Serialize> Serialize for (A, B) {
+    #[inline(always)]
     fn serialize<W: Sink>(&self, alloc: Global, ser: &mut Serializer<W>) -> Result<(), Error> {
-        let mut tuple = ser.serialize_tuple(alloc, 2)?;
-        tuple.serialize_element(alloc, &self.0)?;
-        tuple.serialize_element(alloc, &self.1)?;
-        tuple.end()
+        let parts = Part {
+            value: &self.0,
+            rest: Part {
+                value: &self.1,
+                rest: (),
+            },
+        };
+        match ser.serialize_parts(alloc, 2, &parts) {
+            Ok(()) => Ok(()),
+            Err(e) => Err(e),
+        }
     }
 }
 
 /// Three values, as a list of them.
 impl<A: Serialize, B: Serialize, C: Serialize> Serialize for (A, B, C) {
+    #[inline(always)]
     fn serialize<W: Sink>(&self, alloc: Global, ser: &mut Serializer<W>) -> Result<(), Error> {
-        let mut tuple = ser.serialize_tuple(alloc, 3)?;
-        tuple.serialize_element(alloc, &self.0)?;
-        tuple.serialize_element(alloc, &self.1)?;
-        tuple.serialize_element(alloc, &self.2)?;
-        tuple.end()
+        let parts = Part {
+            value: &self.0,
+            rest: Part {
+                value: &self.1,
+                rest: Part {
+                    value: &self.2,
+                    rest: (),
+                },
+            },
+        };
+        match ser.serialize_parts(alloc, 3, &parts) {
+            Ok(()) => Ok(()),
+            Err(e) => Err(e),
+        }
     }
 }
 
 /// Four values, as a list of them.
 impl<A: Serialize, B: Serialize, C: Serialize, D: Serialize> Serialize for (A, B, C, D) {
+    #[inline(always)]
     fn serialize<W: Sink>(&self, alloc: Global, ser: &mut Serializer<W>) -> Result<(), Error> {
-        let mut tuple = ser.serialize_tuple(alloc, 4)?;
-        tuple.serialize_element(alloc, &self.0)?;
-        tuple.serialize_element(alloc, &self.1)?;
-        tuple.serialize_element(alloc, &self.2)?;
-        tuple.serialize_element(alloc, &self.3)?;
-        tuple.end()
+        let parts = Part {
+            value: &self.0,
+            rest: Part {
+                value: &self.1,
+                rest: Part {
+                    value: &self.2,
+                    rest: Part {
+                        value: &self.3,
+                        rest: (),
+                    },
+                },
+            },
+        };
+        match ser.serialize_parts(alloc, 4, &parts) {
+            Ok(()) => Ok(()),
+            Err(e) => Err(e),
+        }
     }
 }

@@ -30,7 +30,7 @@ impl<W: Sink> Serializer<W> {
     {
         let _ = alloc;
         if self.ended {
-            return Err(Error::InvalidValue);
+            return Err(refused(Refusal::InvalidValue));
         }
         match self.one_byte(EncodingCodes::Ubyte, v) {
             Ok(()) => Ok(()),
@@ -55,7 +55,7 @@ impl<W: Sink> Serializer<W> {
     {
         let _ = alloc;
         if self.ended {
-            return Err(Error::InvalidValue);
+            return Err(refused(Refusal::InvalidValue));
         }
         match self.two_bytes(EncodingCodes::Ushort, v.to_be_bytes()) {
             Ok(()) => Ok(()),
@@ -80,7 +80,7 @@ impl<W: Sink> Serializer<W> {
     {
         let _ = alloc;
         if self.ended {
-            return Err(Error::InvalidValue);
+            return Err(refused(Refusal::InvalidValue));
         }
         match self.uint(v) {
             Ok(()) => Ok(()),
@@ -123,7 +123,7 @@ impl<W: Sink> Serializer<W> {
     {
         let _ = alloc;
         if self.ended {
-            return Err(Error::InvalidValue);
+            return Err(refused(Refusal::InvalidValue));
         }
         match self.ulong(v) {
             Ok(()) => Ok(()),

@@ -1,9 +1,11 @@
-//! A file a family of types or calls, written and read; `answer`, `bytes` and `printed` hold what
-//! the tests of all families call.
+//! A file a family of types or calls, written and read; `answer`, `bytes`, `calls`, `printed` and
+//! `puts` hold what the tests of all families call. A row of `calls` or `puts` is one call of the
+//! codec, which stands there once: its contract is dear in each function that calls it.
 
 mod answer;
 mod arrays;
 mod bytes;
+mod calls;
 mod constants;
 mod deserializer;
 mod error;
@@ -13,12 +15,14 @@ mod lists;
 mod looks;
 mod map_calls;
 mod maps;
+mod measured;
 mod numbers;
 mod options;
 mod ordered_map;
 mod payloads;
 mod primitive_types;
 mod printed;
+mod puts;
 mod scalars;
 mod serializer;
 mod sink;

@@ -1,11 +1,11 @@
 //! A tuple struct.
 
 ghost use Rattle.std.specs.Prelude.{◌∷◌, [], refl};
-ghost use Rattle.amqp_base.specs.Meaning.{tuple_struct_of, row_of, part};
+ghost use Rattle.amqp_base.specs.Meaning.{tuple_of, row_of, part};
 
 use serde_amqp::{
     Deserialize, Deserializer, Error, NeverNull, Read, RoundTrip, Serialize, Serializer, Sink,
-    Typed,
+    Typed, write_parts,
 };
 use std::alloc::Global;
 
@@ -14,7 +14,7 @@ use std::alloc::Global;
 pub struct Colour(pub u8, pub u8, pub u8);
 
 impl Typed for Colour {
-    ghost meaning = { tuple_struct_of (row_of (
+    ghost meaning = { tuple_of 3 (row_of (
         part ⟦<u8 as Typed>⟧.meaning (λ v. v.0) ∷
         part ⟦<u8 as Typed>⟧.meaning (λ v. v.1) ∷
         part ⟦<u8 as Typed>⟧.meaning (λ v. v.2) ∷ [])) };
@@ -30,11 +30,7 @@ impl NeverNull for Colour {
 
 impl Serialize for Colour {
     fn serialize<W: Sink>(&self, alloc: Global, ser: &mut Serializer<W>) -> Result<(), Error> {
-        let mut colour = ser.serialize_tuple_struct(alloc, "Colour", 3)?;
-        colour.serialize_field(alloc, &self.0)?;
-        colour.serialize_field(alloc, &self.1)?;
-        colour.serialize_field(alloc, &self.2)?;
-        colour.end()
+        write_parts!(ser, alloc, self, Colour { 0, 1, 2 })
     }
 }
 

@@ -6,7 +6,7 @@ ghost use Rattle.amqp_base.specs.ReadBack.{both};
 
 use serde_amqp::{
     Deserialize, Deserializer, Error, NeverNull, Read, RoundTrip, Serialize, Serializer, Sink,
-    Typed, read_parts,
+    Typed, read_parts, write_parts,
 };
 use std::alloc::Global;
 
@@ -36,10 +36,7 @@ impl<A: Typed, B: Typed> NeverNull for Pair<A, B> {
 
 impl<A: Serialize, B: Serialize> Serialize for Pair<A, B> {
     fn serialize<W: Sink>(&self, alloc: Global, ser: &mut Serializer<W>) -> Result<(), Error> {
-        let mut parts = ser.serialize_tuple(alloc, 2)?;
-        parts.serialize_element(alloc, &self.first)?;
-        parts.serialize_element(alloc, &self.second)?;
-        parts.end()
+        write_parts!(ser, alloc, self, Pair { first, second })
     }
 }
 

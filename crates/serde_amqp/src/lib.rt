@@ -6,6 +6,7 @@ ghost use Rattle.std.specs.Prelude.{◌≡◌, ◌⊎◌, Some, IfOk, IfErr, IsT
 ghost use Rattle.amqp_base.specs.Canon.{canon};
 ghost use Rattle.amqp_base.specs.declared.error.Error.TheVariants.{OutOfMemory};
 ghost use Rattle.amqp_ser.specs.Texts.{HasNoText};
+ghost use Rattle.amqp_ser.specs.Passes.{HasLength, NoSize};
 ghost use Rattle.serde_amqp.specs.Headline.{ReadFrom, ReadsAll, NamedFrom};
 ghost use Rattle.amqp_base.specs.declared.shape.Setting.{Setting};
 
@@ -29,9 +30,11 @@ pub use amqp_de::{
     StructAccess, read_fields, read_parts,
 };
 pub use amqp_read::{Read, SliceReader, read_const_bytes};
+use amqp_ser::{measured_size, measured_vec};
 pub use amqp_ser::{
-    MapSerializer, SeqSerializer, Serialize, Serializer, Struct, StructFields, StructSerializer,
-    TupleSerializer, TupleStructSerializer, Written, write_fields,
+    MapSerializer, Part, SeqSerializer, Serialize, Serializer, Struct, StructFields,
+    StructSerializer, TupleParts, TupleSerializer, TupleStructSerializer, Written, write_fields,
+    write_parts,
 };
 pub use amqp_types::{
     Binary, BinaryRef, Boolean, Byte, Char, Dec32, Dec64, Dec128, Decimal, Double, Float, Int,
@@ -47,9 +50,17 @@ pub fn to_vec<T: Serialize>(alloc: Global, value: &T) -> Result<Vec<u8>, Error>
     ensures err { IfErr result (λ e.
         (e ≡ Error.OutOfMemory) ⊎ HasNoText (T.meaning.item value.now Setting.Plain) e) }
 {
-    let mut ser = Serializer::new(Vec::new(alloc));
-    value.serialize(alloc, &mut ser)?;
-    Ok(ser.into_inner())
+    measured_vec(alloc, value)
+}
+
+/// The number of bytes that `to_vec` writes of a value. Refused as `to_vec` is, and as `Io(Other)`
+/// where the text has 18,446,744,073,709,551,615 bytes or more.
+pub fn serialized_size<T: Serialize>(alloc: Global, value: &T) -> Result<usize, Error>
+    ensures ok { IfOk result (λ n. HasLength (canon (T.meaning.item value.now Setting.Plain)) n) }
+    ensures err { IfErr result (λ e.
+        (e ≡ Error.OutOfMemory) ⊎ NoSize (T.meaning.item value.now Setting.Plain) e) }
+{
+    measured_size(alloc, value)
 }
 
 /// The value at the front of the bytes; bytes behind it are ignored. Refused where no item stands

@@ -47,3 +47,25 @@ pub(crate) fn gave<T: PartialEq>(outcome: &Result<T, Error>, want: &T) -> bool {
         Err(_) => false,
     }
 }
+
+/// The call gave the value, or the refusal of this name.
+pub(crate) fn is<T: Copy + PartialEq>(outcome: Result<T, Error>, want: Result<T, Answer>) -> bool {
+    match outcome {
+        Ok(value) => match want {
+            Ok(other) => value == other,
+            Err(_) => false,
+        },
+        Err(e) => match want {
+            Ok(_) => false,
+            Err(name) => name_of(&e) == name,
+        },
+    }
+}
+
+/// The call gave the bytes; or where none are wanted, it misses bytes.
+pub(crate) fn gave_bytes(outcome: Result<Vec<u8>, Error>, want: Option<&[u8]>) -> bool {
+    match outcome {
+        Ok(bytes) => want == Some(bytes.as_slice()),
+        Err(e) => want.is_none() && name_of(&e) == UNEXPECTED_EOF,
+    }
+}

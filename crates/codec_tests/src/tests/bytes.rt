@@ -3,15 +3,26 @@
 //! contract of a call.
 
 use super::answer::{Answer, UNEXPECTED_EOF, name_of};
-use serde_amqp::{Deserialize, Deserializer, Read, Serialize, SliceReader, from_slice, to_vec};
+use serde_amqp::{
+    Deserialize, Deserializer, Read, Serialize, Serializer, SliceReader, from_slice,
+    serialized_size, to_vec,
+};
 use std::alloc::Global;
 
-/// The value is written as the bytes.
+/// The value is written as the bytes, measured first and by a serializer over a vector, and its
+/// size is their number.
 pub(crate) fn is_written_as<T: Serialize>(alloc: Global, value: &T, bytes: &[u8]) -> bool {
-    match to_vec(alloc, value) {
+    let is_sized = match serialized_size(alloc, value) {
+        Ok(size) => size == bytes.len(),
+        Err(_) => false,
+    };
+    let is_measured = match to_vec(alloc, value) {
         Ok(text) => text.as_slice() == bytes,
         Err(_) => false,
-    }
+    };
+    let mut ser = Serializer::new(Vec::new(alloc));
+    let is_appended = value.serialize(alloc, &mut ser).is_ok();
+    is_sized && is_measured && is_appended && ser.writer.as_slice() == bytes
 }
 
 /// What the type answers to the bytes.
@@ -73,6 +84,18 @@ pub(crate) fn is_text<'s, T: Serialize + Deserialize<SliceReader<'s>> + PartialE
     is_written_as(alloc, value, bytes) && is_read_as(alloc, bytes, value)
 }
 
+/// Each value is written as its bytes, which are read as the value.
+pub(crate) fn are_texts<'s, T>(alloc: Global, rows: &[(T, &'s [u8])]) -> bool
+where
+    T: Serialize + Deserialize<SliceReader<'s>> + PartialEq,
+{
+    let mut is_so = true;
+    for (value, bytes) in rows {
+        is_so = is_text(alloc, value, bytes) && is_so;
+    }
+    is_so
+}
+
 /// The bytes, all of them, are read as the value, and one byte less is too few.
 pub(crate) fn is_form<'s, T: Deserialize<SliceReader<'s>> + PartialEq>(
     alloc: Global,
@@ -96,17 +119,6 @@ pub(crate) fn is_canonical<'s, T: Serialize + Deserialize<SliceReader<'s>> + Par
     is_written_as(alloc, value, bytes) && is_form(alloc, bytes, value)
 }
 
-/// Refused as a code of another kind; as no code, where 0x57 stands there; and where no byte does,
-/// as too few.
-pub(crate) fn takes_its_codes<'s, T: Deserialize<SliceReader<'s>>>(
-    alloc: Global,
-    other: &'s [u8],
-) -> bool {
-    read::<T>(alloc, other) == Answer::InvalidFormatCode
-        && read::<T>(alloc, b"\x57") == Answer::InvalidFormatCode
-        && read::<T>(alloc, b"") == UNEXPECTED_EOF
-}
-
 /// The list of these elements is written as the bytes, which are read as the list.
 pub(crate) fn is_list<'s, T>(alloc: Global, elements: &[T], bytes: &'s [u8]) -> bool
 where
@@ -119,14 +131,55 @@ where
 }
 
 /// Each value is written as its bytes, which are a form of it.
-pub(crate) fn are_canonical<'s, T>(alloc: Global, rows: &[(T, &'s [u8])]) -> bool
+fn are_canonical<'s, T>(alloc: Global, rows: &[(T, &'s [u8])]) -> bool
 where
     T: Serialize + Deserialize<SliceReader<'s>> + PartialEq,
 {
+    let mut is_so = true;
     for (value, bytes) in rows {
-        if !is_canonical(alloc, value, bytes) {
-            return false;
-        }
+        is_so = is_canonical(alloc, value, bytes) && is_so;
     }
-    true
+    is_so
+}
+
+/// The bytes are forms of the values.
+fn are_forms<'s, T>(alloc: Global, rows: &[(T, &'s [u8])]) -> bool
+where
+    T: Deserialize<SliceReader<'s>> + PartialEq,
+{
+    let mut is_so = true;
+    for (value, bytes) in rows {
+        is_so = is_form(alloc, bytes, value) && is_so;
+    }
+    is_so
+}
+
+/// The type answers these refusals to the bytes.
+pub(crate) fn refuses_each<'s, T: Deserialize<SliceReader<'s>>>(
+    alloc: Global,
+    rows: &[(&'s [u8], Answer)],
+) -> bool {
+    let mut is_so = true;
+    for (bytes, name) in rows {
+        is_so = refuses::<T>(alloc, bytes, *name) && is_so;
+    }
+    is_so
+}
+
+/// Each value is written as its shortest bytes, which are a form of it, as the wider ones are that
+/// are not written. The others are refused so, 0x57 as no code, and no byte as too few.
+pub(crate) fn has_forms<'s, T>(
+    alloc: Global,
+    shortest: &[(T, &'s [u8])],
+    wider: &[(T, &'s [u8])],
+    others: &[(&'s [u8], Answer)],
+) -> bool
+where
+    T: Serialize + Deserialize<SliceReader<'s>> + PartialEq,
+{
+    are_canonical(alloc, shortest)
+        && are_forms(alloc, wider)
+        && refuses_each::<T>(alloc, others)
+        && refuses::<T>(alloc, b"\x57", Answer::InvalidFormatCode)
+        && refuses::<T>(alloc, b"", UNEXPECTED_EOF)
 }

@@ -3,10 +3,19 @@
 
 use super::answer::{Answer, UNEXPECTED_EOF};
 use super::bytes::{is_front, is_list, is_text, refuses};
-use amqp_de::{Deserialize, Deserializer, SeqAccess};
-use amqp_read::{Read, SliceReader};
-use amqp_ser::{Serialize, Serializer};
+use super::calls::{Call, End, Part, goes};
+use super::puts::{Element, Put, writes};
+use Call::List;
+use Part::{Int, Uint};
 use std::alloc::Global;
+
+/// The list of the int 5 stands at the front of the bytes, and takes so many of them.
+fn is_five(alloc: Global, bytes: &[u8], taken: usize) -> bool {
+    match vec![in alloc; 5i32] {
+        Ok(list) => is_front(alloc, bytes, &list, taken),
+        Err(_) => false,
+    }
+}
 
 #[test]
 fn a_list_is_written_in_its_shortest_form_and_read_by_its_count(rt: HostRuntime) {
@@ -14,44 +23,35 @@ fn a_list_is_written_in_its_shortest_form_and_read_by_its_count(rt: HostRuntime)
     assert!(rt; is_list::<i32>(alloc, &[], b"\x45"));
     assert!(rt; is_list(alloc, &[1i32, 2], b"\xc0\x05\x02\x54\x01\x54\x02"));
     // bytes behind the count stay
-    let bytes = b"\xc0\x02\x01\x71\x00\x00\x00\x05\x00\x43";
-    let mut de = Deserializer::new(SliceReader::new(bytes));
-    let list = match Vec::<i32>::deserialize(alloc, &mut de) {
-        Ok(list) => list.as_slice() == [5i32].as_slice(),
-        Err(_) => false,
-    };
-    assert!(rt; list && matches!(de.into_reader().next(), Ok(Some(0))));
+    assert!(rt; is_five(alloc, b"\xc0\x02\x01\x71\x00\x00\x00\x05\x00\x43", 8));
 }
 
-/// [[[0, 1], []], []], and [["a", ""], []]
-fn is_nested(alloc: Global) -> bool {
+/// [[[0, 1], []], []]
+fn are_nested_numbers(alloc: Global) -> bool {
     let Ok(numbers) = vec![in alloc; 0u32, 1] else {
         return false;
     };
     let Ok(first) = vec![in alloc; numbers, Vec::new(alloc)] else {
         return false;
     };
-    let Ok(lists) = vec![in alloc; first, Vec::new(alloc)] else {
-        return false;
-    };
+    let bytes = b"\xc0\x0c\x02\xc0\x08\x02\xc0\x04\x02\x43\x52\x01\x45\x45";
+    match vec![in alloc; first, Vec::new(alloc)] {
+        Ok(lists) => is_text(alloc, &lists, bytes),
+        Err(_) => false,
+    }
+}
+
+/// [["a", ""], []]
+fn are_nested_texts(alloc: Global) -> bool {
     let Ok(letter) = String::from_str(alloc, "a") else {
         return false;
     };
     let Ok(strings) = vec![in alloc; letter, String::new(alloc)] else {
         return false;
     };
+    let bytes = b"\xc0\x0a\x02\xc0\x06\x02\xa1\x01a\xa1\x00\x45";
     match vec![in alloc; strings, Vec::new(alloc)] {
-        Ok(texts) => {
-            is_text(
-                alloc,
-                &lists,
-                b"\xc0\x0c\x02\xc0\x08\x02\xc0\x04\x02\x43\x52\x01\x45\x45",
-            ) && is_text(
-                alloc,
-                &texts,
-                b"\xc0\x0a\x02\xc0\x06\x02\xa1\x01a\xa1\x00\x45",
-            )
-        }
+        Ok(texts) => is_text(alloc, &texts, bytes),
         Err(_) => false,
     }
 }
@@ -76,7 +76,8 @@ fn is_read_nested(alloc: Global) -> bool {
 #[test]
 fn lists_of_lists(rt: HostRuntime) {
     let alloc = rt.alloc();
-    assert!(rt; is_nested(alloc));
+    assert!(rt; are_nested_numbers(alloc));
+    assert!(rt; are_nested_texts(alloc));
     assert!(rt; is_read_nested(alloc));
     // however many bytes are missing at the end, they are missed
     for n in 0..NESTED.len() {
@@ -126,64 +127,40 @@ fn a_list_has_at_most_65536_elements(rt: HostRuntime) {
     assert!(rt; refuses::<Vec<Vec<u32>>>(alloc, ONE_OF_MANY, Answer::InvalidFormatCode));
 }
 
-/// The next part of the sequence is the string.
-fn is_string_part(access: &mut SeqAccess<'_, SliceReader<'_>>, alloc: Global, want: &str) -> bool {
-    match access.next_element::<String>(alloc) {
-        Ok(Some(text)) => text.as_str() == want,
-        Ok(None) => false,
-        Err(_) => false,
-    }
-}
+const NONE: Part = Uint(Ok(None));
 
-/// Three parts of three types, twice none, and then the deserializer answers again.
-fn reads_parts(alloc: Global) -> bool {
-    let mut de = Deserializer::new(SliceReader::new(b"\xc0\x08\x03\x43\x54\xfe\xa1\x02hi\x43"));
-    let Ok(mut access) = de.deserialize_seq(alloc) else {
-        return false;
-    };
-    let first = matches!(access.next_element::<u32>(alloc), Ok(Some(0)));
-    let second = matches!(access.next_element::<i32>(alloc), Ok(Some(-2)));
-    let third = is_string_part(&mut access, alloc, "hi");
-    let behind = matches!(access.next_element::<u32>(alloc), Ok(None));
-    let again = matches!(access.next_element::<u32>(alloc), Ok(None));
-    let ended = access.end().is_ok();
-    let next = matches!(de.deserialize_u32(), Ok(0));
-    let parts = first && second && third && behind && again && ended;
-    parts && next && de.into_reader().bytes_consumed() == 11
-}
+const THREE_AND_NONE: &[Part] = &[
+    Uint(Ok(Some(0))),
+    Int(Ok(Some(-2))),
+    Part::Text("hi"),
+    NONE,
+    NONE,
+];
 
-/// The same of one element.
-fn reads_elements(alloc: Global) -> bool {
-    let mut de = Deserializer::new(SliceReader::new(b"\xc0\x03\x01\x52\x09\x43"));
-    let Ok(access) = de.deserialize_seq(alloc) else {
-        return false;
-    };
-    let mut elements = access.into_elements();
-    let only = matches!(elements.next_element::<u32>(alloc), Ok(Some(9)));
-    let behind = matches!(elements.next_element::<u32>(alloc), Ok(None));
-    let ended = elements.end().is_ok();
-    let next = matches!(de.deserialize_u32(), Ok(0));
-    only && behind && ended && next && de.into_reader().bytes_consumed() == 6
-}
-
-/// Slices of two types, and an empty one, in one list.
-fn writes_many(alloc: Global) -> bool {
-    let mut ser = Serializer::new(Vec::new(alloc));
-    let Ok(mut list) = ser.serialize_seq(alloc, None) else {
-        return false;
-    };
-    let ints = i32::serialize_each(&[1, 300], alloc, &mut list).is_ok();
-    let none = u32::serialize_each(&[], alloc, &mut list).is_ok();
-    let uints = u32::serialize_each(&[0, 2], alloc, &mut list).is_ok();
-    let ended = list.end().is_ok();
-    let bytes = b"\xc0\x0b\x04\x54\x01\x71\x00\x00\x01\x2c\x43\x52\x02";
-    ints && none && uints && ended && ser.writer.as_slice() == bytes.as_slice()
-}
+/// Slices of two types, and an empty one.
+const SLICES: &[(Element<'static>, Answer)] = &[
+    (Element::Ints(&[1, 300]), Answer::Taken),
+    (Element::Uints(&[]), Answer::Taken),
+    (Element::Uints(&[0, 2]), Answer::Taken),
+];
 
 #[test]
 fn a_list_is_read_part_by_part_and_written_many_at_once(rt: HostRuntime) {
     let alloc = rt.alloc();
-    assert!(rt; reads_parts(alloc));
-    assert!(rt; reads_elements(alloc));
-    assert!(rt; writes_many(alloc));
+    let zero = Call::Uint(Ok(0));
+    // parts of three types, twice none, and then the deserializer answers again
+    let parts = List(THREE_AND_NONE, End::Ended(Answer::Taken));
+    let bytes = b"\xc0\x08\x03\x43\x54\xfe\xa1\x02hi\x43";
+    assert!(rt; goes(alloc, bytes, &[parts, zero], 11));
+    // the same of one element
+    let elements = List(&[Uint(Ok(Some(9))), NONE], End::Elements(Answer::Taken));
+    assert!(rt; goes(alloc, b"\xc0\x03\x01\x52\x09\x43", &[elements, zero], 6));
+    let bytes = b"\xc0\x0b\x04\x54\x01\x71\x00\x00\x01\x2c\x43\x52\x02";
+    assert!(rt;
+        writes(
+            alloc,
+            &[Put::List(None, SLICES, Some(Answer::Taken))],
+            bytes
+        )
+    );
 }

@@ -1,6 +1,6 @@
 //! Looks further ahead than the next byte, and bytes that are passed over.
 
-use super::answer::{UNEXPECTED_EOF, name_of};
+use super::answer::{Answer, UNEXPECTED_EOF, answer_of, gave_bytes, is};
 use amqp_read::{Read, SliceReader};
 use std::alloc::Global;
 
@@ -18,15 +18,17 @@ use Call::{At, Copied, Skip};
 /// The call answers so, and the reader is at the position behind it.
 fn answers<R: Read>(reader: &mut R, alloc: Global, call: Call, position: usize) -> bool {
     let is_so = match call {
-        At(i, byte) => matches!(&reader.peek_at(i), Ok(found) if *found == byte),
-        Copied(from, n, bytes) => match reader.peek_copied(alloc, from, n) {
-            Ok(found) => Some(found.as_slice()) == bytes,
-            Err(e) => bytes.is_none() && name_of(&e) == UNEXPECTED_EOF,
-        },
-        Skip(n, passes) => match reader.skip(n) {
-            Ok(()) => passes,
-            Err(e) => !passes && name_of(&e) == UNEXPECTED_EOF,
-        },
+        At(i, byte) => is(reader.peek_at(i), Ok(byte)),
+        Copied(from, n, bytes) => gave_bytes(reader.peek_copied(alloc, from, n), bytes),
+        Skip(n, passes) => {
+            let answer = answer_of(&reader.skip(n));
+            answer
+                == if passes {
+                    Answer::Taken
+                } else {
+                    UNEXPECTED_EOF
+                }
+        }
     };
     is_so && reader.bytes_consumed() == position
 }

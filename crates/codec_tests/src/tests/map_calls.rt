@@ -1,89 +1,42 @@
 //! Maps key by key and value by value: `MapAccess` and `MapSerializer`.
 
-use super::answer::{Answer, answer_of};
-use amqp_de::Deserializer;
-use amqp_read::SliceReader;
+use super::answer::Answer;
+use super::calls::{Call, Pair, goes};
+use super::puts;
+use super::puts::{Entry, Put, is_pair, writes};
+use Call::{Map, Truth};
+use Pair::{Key, Value};
 use amqp_ser::Serializer;
 use std::alloc::Global;
 
 /// {0: true}
 const ONE_PAIR: &[u8] = b"\xc1\x03\x02\x43\x41";
 
-fn reads_in_turn(alloc: Global) -> bool {
-    let mut de = Deserializer::new(SliceReader::new(ONE_PAIR));
-    let Ok(mut pairs) = de.deserialize_map() else {
-        return false;
-    };
-    let key = matches!(pairs.next_key::<u32>(alloc), Ok(Some(0)));
-    let value = matches!(pairs.next_value::<bool>(alloc), Ok(true));
-    let behind = matches!(pairs.next_key::<u32>(alloc), Ok(None));
-    let ended = pairs.end().is_ok();
-    key && value && behind && ended
-}
+const FIRST: Pair = Key(Ok(Some(0)));
 
-/// A value is asked for before its key.
-fn refuses_a_value_first(alloc: Global) -> bool {
-    let mut de = Deserializer::new(SliceReader::new(ONE_PAIR));
-    let Ok(mut pairs) = de.deserialize_map() else {
-        return false;
-    };
-    let value = answer_of(&pairs.next_value::<bool>(alloc));
-    let key = answer_of(&pairs.next_key::<u32>(alloc));
-    let ended = answer_of(&pairs.end());
-    value == Answer::InvalidValue && key == Answer::InvalidValue && ended == Answer::InvalidValue
-}
-
-/// A second key is asked for before the value of the first.
-fn refuses_a_second_key(alloc: Global) -> bool {
-    let mut de = Deserializer::new(SliceReader::new(ONE_PAIR));
-    let Ok(mut pairs) = de.deserialize_map() else {
-        return false;
-    };
-    let first = matches!(pairs.next_key::<u32>(alloc), Ok(Some(0)));
-    let second = answer_of(&pairs.next_key::<u32>(alloc));
-    let ended = answer_of(&pairs.end());
-    first && second == Answer::InvalidValue && ended == Answer::InvalidValue
-}
-
-/// The map is ended before a value was read, and nothing is read behind it.
-fn refuses_an_unread_value(alloc: Global) -> bool {
-    let mut de = Deserializer::new(SliceReader::new(ONE_PAIR));
-    let Ok(mut pairs) = de.deserialize_map() else {
-        return false;
-    };
-    let key = matches!(pairs.next_key::<u32>(alloc), Ok(Some(0)));
-    let ended = answer_of(&pairs.end());
-    let behind = answer_of(&de.deserialize_bool());
-    key && ended == Answer::SequenceLengthMismatch && behind == Answer::InvalidValue
-}
+const REFUSED: Answer = Answer::InvalidValue;
 
 #[test]
 fn keys_and_values_are_read_in_turn(rt: HostRuntime) {
     let alloc = rt.alloc();
-    assert!(rt; reads_in_turn(alloc));
-    assert!(rt; refuses_a_value_first(alloc));
-    assert!(rt; refuses_a_second_key(alloc));
-    assert!(rt; refuses_an_unread_value(alloc));
+    let in_turn = Map(&[FIRST, Value(Ok(true)), Key(Ok(None))], Answer::Taken);
+    assert!(rt; goes(alloc, ONE_PAIR, &[in_turn], 5));
+    // a value is asked for before its key, a second key before the value of the first
+    let value_first = Map(&[Value(Err(REFUSED)), Key(Err(REFUSED))], REFUSED);
+    assert!(rt; goes(alloc, ONE_PAIR, &[value_first], 3));
+    let two_keys = Map(&[FIRST, Key(Err(REFUSED))], REFUSED);
+    assert!(rt; goes(alloc, ONE_PAIR, &[two_keys], 4));
+    // the map is ended before a value was read, and nothing is read behind it
+    let unread = Map(&[FIRST], Answer::SequenceLengthMismatch);
+    assert!(rt; goes(alloc, ONE_PAIR, &[unread, Truth(Err(REFUSED))], 4));
 }
 
-/// {}, and {1: true, 2: (-1, null)}, the second pair by one call.
-fn writes_in_turn(alloc: Global) -> bool {
-    let mut ser = Serializer::new(Vec::new(alloc));
-    let Ok(empty) = ser.serialize_map(alloc, None) else {
-        return false;
-    };
-    let no_pairs = empty.end().is_ok() && ser.writer.as_slice() == b"\xc1\x01\x00".as_slice();
-    let mut ser = Serializer::new(Vec::new(alloc));
-    let Ok(mut map) = ser.serialize_map(alloc, Some(2)) else {
-        return false;
-    };
-    let key = map.serialize_key(alloc, &1u32).is_ok();
-    let value = map.serialize_value(alloc, &true).is_ok();
-    let entry = map.serialize_entry(alloc, &2u32, &(-1i32, ())).is_ok();
-    let ended = map.end().is_ok();
-    let bytes = b"\xc1\x0c\x04\x52\x01\x41\x52\x02\xc0\x04\x02\x54\xff\x40";
-    no_pairs && key && value && entry && ended && ser.writer.as_slice() == bytes.as_slice()
-}
+/// {1: true, 2: (-1, null)}, the second pair by one call.
+const TWO_PAIRS: &[(Entry, Answer)] = &[
+    (Entry::Key(1), Answer::Taken),
+    (Entry::Truth(true), Answer::Taken),
+    (Entry::PairAndNull(2, -1), Answer::Taken),
+];
 
 /// 51 pairs of six bytes.
 fn writes_map32(alloc: Global) -> bool {
@@ -91,61 +44,47 @@ fn writes_map32(alloc: Global) -> bool {
     let Ok(mut map) = ser.serialize_map(alloc, None) else {
         return false;
     };
+    let mut are_put = true;
     for n in 256..307u32 {
-        if map.serialize_entry(alloc, &n, &()).is_err() {
-            return false;
-        }
+        are_put = is_pair(&mut map, alloc, n, &(), Answer::Taken) && are_put;
     }
     let ended = map.end().is_ok();
     let front = b"\xd1\x00\x00\x01\x36\x00\x00\x00\x66\x70\x00\x00\x01\x00\x40";
-    ended && ser.writer.len() == 9 + 51 * 6 && ser.writer.as_slice().starts_with(front)
+    are_put && ended && ser.writer.len() == 9 + 51 * 6 && ser.writer.as_slice().starts_with(front)
 }
 
 /// A value comes first: it is refused, and all that follows.
-fn refuses_a_first_value(alloc: Global) -> bool {
-    let mut ser = Serializer::new(Vec::new(alloc));
-    let Ok(mut map) = ser.serialize_map(alloc, None) else {
-        return false;
-    };
-    let value = answer_of(&map.serialize_value(alloc, &1u32));
-    let key = answer_of(&map.serialize_key(alloc, &1u32));
-    let ended = answer_of(&map.end());
-    let behind = answer_of(&ser.serialize_u32(alloc, 1));
-    value == Answer::InvalidValue
-        && key == Answer::InvalidValue
-        && ended == Answer::InvalidValue
-        && behind == Answer::InvalidValue
-}
+const VALUE_FIRST: Put<'static> = Put::Map(
+    None,
+    &[(Entry::Number(1), REFUSED), (Entry::Key(1), REFUSED)],
+    Some(REFUSED),
+);
 
-/// A pair comes behind a key; a map is ended behind a key.
-fn refuses_a_key_without_a_value(alloc: Global) -> bool {
-    let mut ser = Serializer::new(Vec::new(alloc));
-    let Ok(mut map) = ser.serialize_map(alloc, None) else {
-        return false;
-    };
-    let first = map.serialize_key(alloc, &1u32).is_ok();
-    let entry = answer_of(&map.serialize_entry(alloc, &2u32, &3u32));
-    drop(map);
-    let is_pair_refused = first && entry == Answer::InvalidValue;
-    let mut ser = Serializer::new(Vec::new(alloc));
-    let Ok(mut map) = ser.serialize_map(alloc, None) else {
-        return false;
-    };
-    let key = map.serialize_key(alloc, &1u32).is_ok();
-    let ended = answer_of(&map.end());
-    let behind = answer_of(&ser.serialize_u32(alloc, 1));
-    is_pair_refused
-        && key
-        && ended == Answer::InvalidLength
-        && behind == Answer::InvalidValue
-        && ser.writer.is_empty()
-}
+/// A pair comes behind a key.
+const PAIR_BEHIND_A_KEY: Put<'static> = Put::Map(
+    None,
+    &[(Entry::Key(1), Answer::Taken), (Entry::Pair(2, 3), REFUSED)],
+    None,
+);
+
+/// A map is ended behind a key.
+const NO_VALUE: Put<'static> = Put::Map(
+    None,
+    &[(Entry::Key(1), Answer::Taken)],
+    Some(Answer::InvalidLength),
+);
 
 #[test]
 fn keys_and_values_are_written_in_turn(rt: HostRuntime) {
     let alloc = rt.alloc();
-    assert!(rt; writes_in_turn(alloc));
+    let no_pairs = Put::Map(None, &[], Some(Answer::Taken));
+    assert!(rt; writes(alloc, &[no_pairs], b"\xc1\x01\x00"));
+    let pairs = Put::Map(Some(2), TWO_PAIRS, Some(Answer::Taken));
+    let bytes = b"\xc1\x0c\x04\x52\x01\x41\x52\x02\xc0\x04\x02\x54\xff\x40";
+    assert!(rt; writes(alloc, &[pairs], bytes));
     assert!(rt; writes_map32(alloc));
-    assert!(rt; refuses_a_first_value(alloc));
-    assert!(rt; refuses_a_key_without_a_value(alloc));
+    let behind = (Put::Uint(1), REFUSED);
+    assert!(rt; puts::goes(alloc, &[(VALUE_FIRST, Answer::Taken), behind], b""));
+    assert!(rt; puts::goes(alloc, &[(PAIR_BEHIND_A_KEY, Answer::Taken)], b""));
+    assert!(rt; puts::goes(alloc, &[(NO_VALUE, Answer::Taken), behind], b""));
 }

@@ -9,6 +9,12 @@ use amqp_types::{OrderedMap, Timestamp};
 use serde_amqp::from_slice;
 use std::alloc::Global;
 use std::collections::BTreeMap;
+use std::hash::Hash;
+
+/// The value is taken under the key, in the place of none.
+fn inserts<K: Eq + Hash + Drop, V: Drop>(map: &mut OrderedMap<K, V>, key: K, value: V) -> bool {
+    matches!(&map.insert(key, value), Ok(None))
+}
 
 /// {a timestamp of 0: "x"}
 fn is_one_pair(alloc: Global) -> bool {
@@ -16,19 +22,16 @@ fn is_one_pair(alloc: Global) -> bool {
         return false;
     };
     let mut map = OrderedMap::new(alloc);
-    matches!(&map.insert(Timestamp::from_milliseconds(0), text), Ok(None))
-        && is_text(
-            alloc,
-            &map,
-            b"\xc1\x0d\x02\x83\x00\x00\x00\x00\x00\x00\x00\x00\xa1\x01x",
-        )
+    let is_in = inserts(&mut map, Timestamp::from_milliseconds(0), text);
+    let bytes = b"\xc1\x0d\x02\x83\x00\x00\x00\x00\x00\x00\x00\x00\xa1\x01x";
+    is_in && is_text(alloc, &map, bytes)
 }
 
 /// A key that is inserted again stays in its first place; a `BTreeMap` is written by its keys.
 fn is_in_its_places(alloc: Global) -> bool {
     let mut map = OrderedMap::new(alloc);
-    let ordered = matches!(&map.insert(2u8, true), Ok(None))
-        && matches!(&map.insert(1u8, true), Ok(None))
+    let ordered = inserts(&mut map, 2u8, true)
+        && inserts(&mut map, 1u8, true)
         && matches!(&map.insert(2u8, false), Ok(Some(true)))
         && is_written_as(alloc, &map, b"\xc1\x07\x04\x50\x02\x42\x50\x01\x41");
     let mut map = BTreeMap::new(alloc);
@@ -83,24 +86,26 @@ fn bytes_that_are_no_map(rt: HostRuntime) {
     }
 }
 
+/// The pair stands there.
+fn is_at(pairs: &[(u32, u32)], place: usize, key: u32, value: u32) -> bool {
+    match pairs.get(place) {
+        Some(pair) => pair.0 == key && pair.1 == value,
+        None => false,
+    }
+}
+
 /// An `OrderedMap` that is read from the bytes gives these pairs in order.
 fn is_ordered(alloc: Global, bytes: &[u8], want: &[(u32, u32)]) -> bool {
     let Ok(map) = from_slice::<OrderedMap<u32, u32>>(alloc, bytes) else {
         return false;
     };
     let mut place = 0usize;
+    let mut is_so = true;
     for (key, value) in map.iter() {
-        match want.get(place) {
-            Some(pair) => {
-                if pair.0 != *key || pair.1 != *value {
-                    return false;
-                }
-            }
-            None => return false,
-        }
+        is_so = is_at(want, place, *key, *value) && is_so;
         place = place.saturating_add(1);
     }
-    place == want.len()
+    is_so && place == want.len()
 }
 
 /// The same of a `BTreeMap`.
@@ -109,18 +114,12 @@ fn is_sorted(alloc: Global, bytes: &[u8], want: &[(u32, u32)]) -> bool {
         return false;
     };
     let mut place = 0usize;
+    let mut is_so = true;
     for (key, value) in map.iter() {
-        match want.get(place) {
-            Some(pair) => {
-                if pair.0 != *key || pair.1 != *value {
-                    return false;
-                }
-            }
-            None => return false,
-        }
+        is_so = is_at(want, place, *key, *value) && is_so;
         place = place.saturating_add(1);
     }
-    place == want.len()
+    is_so && place == want.len()
 }
 
 #[test]
@@ -140,23 +139,18 @@ fn a_repeated_key_has_its_first_place_and_its_last_value(rt: HostRuntime) {
 
 /// A map32 of so many pairs, from each number to null.
 fn wide(alloc: Global, pairs: u32) -> Option<Vec<u8>> {
-    let Ok(mut bytes) = b"\xd1".to_vec(alloc) else {
-        return None;
-    };
+    let mut bytes = Vec::new(alloc);
     let size = 6u32.wrapping_mul(pairs).wrapping_add(4).to_be_bytes();
     let count = 2u32.wrapping_mul(pairs).to_be_bytes();
-    if bytes.extend_from_slice(&size).is_err() || bytes.extend_from_slice(&count).is_err() {
-        return None;
-    }
+    let code = bytes.push(0xd1).is_ok();
+    let size = bytes.extend_from_slice(&size).is_ok();
+    let count = bytes.extend_from_slice(&count).is_ok();
+    let mut is_so = code && size && count;
     for key in 0..pairs {
-        if bytes.push(0x70).is_err()
-            || bytes.extend_from_slice(&key.to_be_bytes()).is_err()
-            || bytes.push(0x40).is_err()
-        {
-            return None;
-        }
+        let [a, b, c, d] = key.to_be_bytes();
+        is_so = bytes.extend_from_slice(&[0x70, a, b, c, d, 0x40]).is_ok() && is_so;
     }
-    Some(bytes)
+    if is_so { Some(bytes) } else { None }
 }
 
 /// 32,768 pairs are read, all of them; one pair more is refused. Both hold of each kind of map.

@@ -3,13 +3,18 @@
 use amqp_types::OrderedMap;
 use std::alloc::Global;
 
+/// The value is taken under the key, in the place of that other one or of none.
+fn inserts(map: &mut OrderedMap<u32, u32>, key: u32, value: u32, had: Option<u32>) -> bool {
+    map.insert(key, value).ok() == Some(had)
+}
+
 /// The pairs `(2, 22)` and `(1, 10)`, of which the first had another value before.
 fn two_and_one(alloc: Global) -> Option<OrderedMap<u32, u32>> {
     let mut map = OrderedMap::new(alloc);
     let was_empty = map.is_empty();
-    let first = map.insert(2, 20).ok() == Some(None);
-    let second = map.insert(1, 10).ok() == Some(None);
-    let again = map.insert(2, 22).ok() == Some(Some(20));
+    let first = inserts(&mut map, 2, 20, None);
+    let second = inserts(&mut map, 1, 10, None);
+    let again = inserts(&mut map, 2, 22, Some(20));
     let is_so = was_empty && first && second && again;
     if is_so { Some(map) } else { None }
 }
@@ -34,8 +39,8 @@ fn differs_in_another_order(alloc: Global) -> bool {
         return false;
     };
     let mut other = OrderedMap::new(alloc);
-    let first = other.insert(1, 10).ok() == Some(None);
-    let second = other.insert(2, 22).ok() == Some(None);
+    let first = inserts(&mut other, 1, 10, None);
+    let second = inserts(&mut other, 2, 22, None);
     first && second && map == map && other == other && map != other
 }
 

@@ -1,10 +1,10 @@
 //! Binaries, strings and symbols. Every form and refusal of a string and a symbol is a line of the
 //! probe's run.
 
-use super::bytes::{is_form, is_read_as, is_text, is_written_as, takes_its_codes};
-use amqp_de::Deserializer;
-use amqp_read::{Read, SliceReader};
-use amqp_ser::Serializer;
+use super::answer::{Answer, UNEXPECTED_EOF};
+use super::bytes::{is_form, is_read_as, is_text, is_written_as, refuses_each};
+use super::calls::{Call, goes};
+use super::puts::{Put, writes};
 use amqp_types::{Binary, BinaryRef, Symbol, SymbolRef};
 use serde_amqp::to_vec;
 use std::alloc::Global;
@@ -50,7 +50,12 @@ fn binary_has_two_constructors(rt: HostRuntime) {
     assert!(rt; is_long_binary(alloc, 254, 256, b"\xa0\xfe\x07"));
     assert!(rt; is_long_binary(alloc, 255, 260, b"\xb0\x00\x00\x00\xff\x07"));
     assert!(rt; is_long_binary(alloc, 256, 261, b"\xb0\x00\x00\x01\x00\x07"));
-    assert!(rt; takes_its_codes::<Binary>(alloc, b"\xa1\x01\x61"));
+    let others: &[(&[u8], Answer)] = &[
+        (b"\xa1\x01\x61", Answer::InvalidFormatCode),
+        (b"\x57", Answer::InvalidFormatCode),
+        (b"", UNEXPECTED_EOF),
+    ];
+    assert!(rt; refuses_each::<Binary>(alloc, others));
 }
 
 /// The text stands so as a string, and so as a symbol.
@@ -74,34 +79,21 @@ fn strings_and_symbols_are_texts(rt: HostRuntime) {
     assert!(rt; is_written_as(alloc, &SymbolRef("ab"), b"\xa3\x02ab"));
 }
 
+const WRITTEN: &[Put<'static>] = &[Put::Bytes(b"\x00\xff"), Put::Str("amqp"), Put::Symbol("ab")];
+
 #[test]
 fn payloads_are_written_by_name(rt: HostRuntime) {
-    let alloc = rt.alloc();
-    let mut ser = Serializer::new(Vec::new(alloc));
-    let is_written = ser.serialize_bytes(alloc, b"\x00\xff").is_ok()
-        && ser.serialize_str(alloc, "amqp").is_ok()
-        && ser.serialize_symbol(alloc, "ab").is_ok();
-    let written = b"\xa0\x02\x00\xff\xa1\x04amqp\xa3\x02ab";
-    assert!(rt; is_written && ser.writer.as_slice() == written.as_slice());
+    let bytes = b"\xa0\x02\x00\xff\xa1\x04amqp\xa3\x02ab";
+    assert!(rt; writes(rt.alloc(), WRITTEN, bytes));
 }
 
 #[test]
 fn payloads_are_read_by_name(rt: HostRuntime) {
-    let alloc = rt.alloc();
+    let items = [
+        Call::Bytes(b"\x00\xff"),
+        Call::Text(Ok("hi")),
+        Call::Symbol("amqp"),
+    ];
     let bytes = b"\xa0\x02\x00\xff\xa1\x02hi\xa3\x04amqp";
-    let mut de = Deserializer::new(SliceReader::new(bytes));
-    let binary = match de.deserialize_byte_buf(alloc) {
-        Ok(value) => value.as_slice() == b"\x00\xff".as_slice(),
-        Err(_) => false,
-    };
-    let string = match de.deserialize_string(alloc) {
-        Ok(text) => text.as_str() == "hi",
-        Err(_) => false,
-    };
-    let symbol = match de.deserialize_symbol(alloc) {
-        Ok(text) => text.as_str() == "amqp",
-        Err(_) => false,
-    };
-    assert!(rt; binary && string && symbol);
-    assert!(rt; de.into_reader().bytes_consumed() == 14);
+    assert!(rt; goes(rt.alloc(), bytes, &items, 14));
 }

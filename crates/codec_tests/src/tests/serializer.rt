@@ -1,6 +1,7 @@
 //! A serializer's settings, and what follows where a compound is dropped or the writer breaks off.
 
 use super::answer::{Answer, answer_of};
+use super::puts::{Element, Put, goes, puts_value, writes};
 use amqp_base::Counted;
 use amqp_ser::{Serialize, Serializer};
 use std::alloc::Global;
@@ -9,16 +10,13 @@ use std::io::{ErrorKind, Write};
 
 #[test]
 fn values_are_written_one_after_the_other(rt: HostRuntime) {
-    let alloc = rt.alloc();
-    let mut ser = Serializer::from(Vec::new(alloc));
-    let is_human_readable = ser.is_human_readable();
-    let numbers = ser.serialize_u32(alloc, 1).is_ok() && ser.serialize_i32(alloc, -1).is_ok();
-    let some = ser.serialize_some(alloc, &2u32).is_ok();
-    let newtype = ser
-        .serialize_newtype_struct(alloc, "Celsius", &-2i32)
-        .is_ok();
-    assert!(rt; !is_human_readable && numbers && some && newtype);
-    assert!(rt; ser.writer.as_slice() == b"\x52\x01\x54\xff\x52\x02\x54\xfe".as_slice());
+    let items = [
+        Put::Uint(1),
+        Put::Int(-1),
+        Put::SomeUint(2),
+        Put::Newtype(-2),
+    ];
+    assert!(rt; writes(rt.alloc(), &items, b"\x52\x01\x54\xff\x52\x02\x54\xfe"));
 }
 
 /// Three strings are written as these bytes, by the call and by the type's own.
@@ -28,9 +26,10 @@ fn writes_strings_as(alloc: Global, ser: Serializer<Vec<u8>>, bytes: &[u8]) -> b
     };
     let mut ser = ser;
     let first = ser.serialize_str(alloc, "a").is_ok();
-    let second = text.serialize(alloc, &mut ser).is_ok();
-    let third = text.serialize(alloc, &mut ser).is_ok();
-    first && second && third && ser.writer.as_slice() == bytes
+    let second = puts_value(&mut ser, alloc, &text);
+    let third = puts_value(&mut ser, alloc, &text);
+    let are_taken = second == Answer::Taken && third == Answer::Taken;
+    first && are_taken && ser.writer.as_slice() == bytes
 }
 
 /// The symbol setting stays; strings stay strings under the settings of described values.
@@ -48,49 +47,28 @@ fn strings_are_written_by_the_setting(rt: HostRuntime) {
     assert!(rt; writes_strings_as(alloc, basic, strings));
 }
 
-fn refuses_values(alloc: Global, ser: &mut Serializer<Vec<u8>>) -> bool {
-    let Ok(list) = vec![in alloc; 0i32] else {
-        return false;
-    };
-    let uint = answer_of(&ser.serialize_u32(alloc, 1));
-    let int = answer_of(&ser.serialize_i32(alloc, 1));
-    let text = answer_of(&ser.serialize_str(alloc, "a"));
-    let some = answer_of(&ser.serialize_some(alloc, &1u32));
-    let newtype = answer_of(&ser.serialize_newtype_struct(alloc, "Celsius", &1u32));
-    let seq = answer_of(&ser.serialize_seq(alloc, None));
-    let array = answer_of(&ser.serialize_array(alloc, None));
-    let value = answer_of(&list.serialize(alloc, ser));
-    uint == Answer::InvalidValue
-        && int == Answer::InvalidValue
-        && text == Answer::InvalidValue
-        && some == Answer::InvalidValue
-        && newtype == Answer::InvalidValue
-        && seq == Answer::InvalidValue
-        && array == Answer::InvalidValue
-        && value == Answer::InvalidValue
-}
+const REFUSED: Answer = Answer::InvalidValue;
 
-/// A list is opened behind a number, gets an element, and is dropped.
-fn refuses_after_a_dropped_list(alloc: Global) -> bool {
-    let mut ser = Serializer::new(Vec::new(alloc));
-    let number = ser.serialize_u32(alloc, 7).is_ok();
-    let Ok(mut list) = ser.serialize_seq(alloc, Some(1)) else {
-        return false;
-    };
-    let first = list.serialize_element(alloc, &1u32).is_ok();
-    drop(list);
-    let refused = refuses_values(alloc, &mut ser);
-    let is_human_readable = ser.is_human_readable();
-    number
-        && first
-        && refused
-        && !is_human_readable
-        && ser.writer.as_slice() == b"\x52\x07".as_slice()
-}
+/// A list is opened behind a number, gets an element, and is dropped: all that follows is refused.
+const BEHIND_A_DROPPED_LIST: &[(Put<'static>, Answer)] = &[
+    (Put::Uint(7), Answer::Taken),
+    (
+        Put::List(Some(1), &[(Element::Uint(1), Answer::Taken)], None),
+        Answer::Taken,
+    ),
+    (Put::Uint(1), REFUSED),
+    (Put::Int(1), REFUSED),
+    (Put::Str("a"), REFUSED),
+    (Put::SomeUint(1), REFUSED),
+    (Put::Newtype(1), REFUSED),
+    (Put::List(None, &[], None), REFUSED),
+    (Put::Array(None, &[], None), REFUSED),
+    (Put::Ints(&[0]), REFUSED),
+];
 
 #[test]
 fn nothing_is_written_behind_a_compound_that_was_dropped(rt: HostRuntime) {
-    assert!(rt; refuses_after_a_dropped_list(rt.alloc()));
+    assert!(rt; goes(rt.alloc(), BEHIND_A_DROPPED_LIST, b"\x52\x07"));
 }
 
 /// Takes so many bytes, one a call, then is broken off.

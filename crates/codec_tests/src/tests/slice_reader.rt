@@ -1,6 +1,6 @@
 //! The reader over a slice.
 
-use super::answer::{UNEXPECTED_EOF, answer_of, name_of};
+use super::answer::{Answer, UNEXPECTED_EOF, answer_of, gave_bytes, is};
 use amqp_read::{Read, SliceReader, read_const_bytes};
 use std::alloc::Global;
 
@@ -22,26 +22,18 @@ use Call::{GetByteSlice, Next, Peek, PeekBytes, ReadBytes, ReadNothing, ReadTwo}
 /// is no refusal, and a refusal leaves the buffer.
 fn answers(reader: &mut SliceReader<'_>, alloc: Global, call: Call, position: usize) -> bool {
     let is_so = match call {
-        Peek(byte) => matches!(&reader.peek(), Ok(found) if *found == byte),
-        Next(byte) => matches!(&reader.next(), Ok(found) if *found == byte),
-        PeekBytes(n, bytes) => match reader.peek_bytes(n) {
-            Ok(found) => found == bytes,
-            Err(_) => false,
-        },
-        GetByteSlice(n, bytes) => match reader.get_byte_slice(n) {
-            Ok(found) => Some(found) == bytes,
-            Err(e) => bytes.is_none() && name_of(&e) == UNEXPECTED_EOF,
-        },
-        ReadBytes(n, bytes) => match reader.read_bytes(alloc, n) {
-            Ok(found) => Some(found.as_slice()) == bytes,
-            Err(e) => bytes.is_none() && name_of(&e) == UNEXPECTED_EOF,
-        },
+        Peek(byte) => is(reader.peek(), Ok(byte)),
+        Next(byte) => is(reader.next(), Ok(byte)),
+        PeekBytes(n, bytes) => is(reader.peek_bytes(n), Ok(bytes)),
+        GetByteSlice(n, bytes) => is(reader.get_byte_slice(n), bytes.ok_or(UNEXPECTED_EOF)),
+        ReadBytes(n, bytes) => gave_bytes(reader.read_bytes(alloc, n), bytes),
         ReadNothing => reader.read_exact(&mut []).is_ok(),
         ReadTwo(bytes) => {
             let mut buf = [1, 2];
-            match reader.read_exact(&mut buf) {
-                Ok(()) => Some(buf) == bytes,
-                Err(e) => bytes.is_none() && name_of(&e) == UNEXPECTED_EOF && buf == [1, 2],
+            let answer = answer_of(&reader.read_exact(&mut buf));
+            match bytes {
+                Some(want) => answer == Answer::Taken && buf == want,
+                None => answer == UNEXPECTED_EOF && buf == [1, 2],
             }
         }
     };
@@ -150,23 +142,26 @@ fn a_lent_slice_lives_as_long_as_the_bytes(rt: HostRuntime) {
 const TWENTY_ONE: &[u8] =
     b"\x00\x01\x02\x03\x04\x05\x06\x07\x08\x09\x0a\x0b\x0c\x0d\x0e\x0f\x10\x11\x12\x13\x14";
 
+/// The array is filled so, or refused.
+fn is_array<const N: usize>(reader: &mut SliceReader<'_>, want: Result<[u8; N], Answer>) -> bool {
+    is(read_const_bytes::<_, N>(reader), want)
+}
+
 #[test]
 fn an_array_is_filled_whole_or_refused(rt: HostRuntime) {
     let alloc = rt.alloc();
     let mut reader = SliceReader::new(TWENTY_ONE);
     assert!(rt; answers(&mut reader, alloc, PeekBytes(2, Some(b"\x00\x01")), 0));
     assert!(rt; answers(&mut reader, alloc, PeekBytes(2, Some(b"\x00\x01")), 0));
-    let first = read_const_bytes::<_, 10>(&mut reader).ok();
-    assert!(rt; first == Some([0, 1, 2, 3, 4, 5, 6, 7, 8, 9]));
+    assert!(rt; is_array(&mut reader, Ok([0, 1, 2, 3, 4, 5, 6, 7, 8, 9])));
     assert!(rt; reader.bytes_consumed() == 10);
-    let second = read_const_bytes::<_, 10>(&mut reader).ok();
-    assert!(rt; second == Some([10, 11, 12, 13, 14, 15, 16, 17, 18, 19]));
-    assert!(rt; read_const_bytes::<_, 0>(&mut reader).is_ok());
+    assert!(rt; is_array(&mut reader, Ok([10, 11, 12, 13, 14, 15, 16, 17, 18, 19])));
+    assert!(rt; is_array::<0>(&mut reader, Ok([])));
     assert!(rt; reader.bytes_consumed() == 20);
-    assert!(rt; answer_of(&read_const_bytes::<_, 10>(&mut reader)) == UNEXPECTED_EOF);
+    assert!(rt; is_array::<10>(&mut reader, Err(UNEXPECTED_EOF)));
     assert!(rt; answers(&mut reader, alloc, Peek(Some(0x14)), 20));
     // no byte at all is to come
     let mut reader = SliceReader::new(&[]);
-    assert!(rt; answer_of(&read_const_bytes::<_, 1>(&mut reader)) == UNEXPECTED_EOF);
+    assert!(rt; is_array::<1>(&mut reader, Err(UNEXPECTED_EOF)));
     assert!(rt; reader.bytes_consumed() == 0);
 }

@@ -1,10 +1,10 @@
 //! Structs and tuple structs by hand, opened by their form and written field by field.
 
-use super::answer::{Answer, UNEXPECTED_EOF, answer_of, name_of};
-use amqp_base::{DESCRIBED_LIST, DESCRIBED_MAP, DESCRIPTOR};
-use amqp_de::{Deserializer, StructAccess};
+use super::answer::{Answer, UNEXPECTED_EOF, answer_of, is, name_of};
+use amqp_base::{DESCRIBED_LIST, DESCRIBED_MAP, DESCRIPTOR, Error};
+use amqp_de::{Deserialize, Deserializer, StructAccess};
 use amqp_read::SliceReader;
-use amqp_ser::{Serializer, StructSerializer};
+use amqp_ser::{Serialize, Serializer, StructSerializer, TupleStructSerializer};
 use std::alloc::Global;
 
 /// A list of 13 and true.
@@ -16,34 +16,56 @@ const NAMED: &[u8] = b"\xc1\x08\x02\xa1\x03bar\x52\x0d";
 /// What is asked of an open struct, and the answer.
 #[derive(Clone, Copy)]
 enum Step {
-    Number(u32),
-    Truth(Option<bool>),
-    NumberRefused,
+    Number(Result<Option<u32>, Answer>),
+    Truth(Result<Option<bool>, Answer>),
     Key(Option<&'static str>),
-    KeyRefused,
+    KeyRefused(Answer),
     Value(u32),
     Entry(&'static str, u32),
 }
 
-use Step::{Entry, Key, KeyRefused, Number, NumberRefused, Truth, Value};
+use Step::{Entry, Key, KeyRefused, Number, Truth, Value};
+
+/// The next field in order is this.
+fn is_field<'s, T: Deserialize<SliceReader<'s>> + Copy + PartialEq>(
+    foo: &mut StructAccess<'_, SliceReader<'s>>,
+    alloc: Global,
+    want: Result<Option<T>, Answer>,
+) -> bool {
+    is(foo.next_element::<T>(alloc), want)
+}
+
+/// The name is this, or none.
+fn is_name(outcome: &Result<Option<String>, Error>, want: Option<&str>) -> bool {
+    match outcome {
+        Ok(found) => match found {
+            Some(name) => want == Some(name.as_str()),
+            None => want.is_none(),
+        },
+        Err(_) => false,
+    }
+}
+
+/// The field is of this name, and is this number.
+fn is_entry(outcome: &Result<Option<(String, u32)>, Error>, key: &str, value: u32) -> bool {
+    match outcome {
+        Ok(found) => match found {
+            Some(entry) => entry.0.as_str() == key && entry.1 == value,
+            None => false,
+        },
+        Err(_) => false,
+    }
+}
 
 /// The step is answered so.
 fn answers(foo: &mut StructAccess<'_, SliceReader<'_>>, alloc: Global, step: Step) -> bool {
     match step {
-        Number(want) => matches!(&foo.next_element::<u32>(alloc), Ok(Some(n)) if *n == want),
-        Truth(want) => matches!(&foo.next_element::<bool>(alloc), Ok(found) if *found == want),
-        NumberRefused => answer_of(&foo.next_element::<u32>(alloc)) == Answer::InvalidValue,
-        Key(want) => match foo.next_key::<String>(alloc) {
-            Ok(Some(name)) => Some(name.as_str()) == want,
-            Ok(None) => want.is_none(),
-            Err(_) => false,
-        },
-        KeyRefused => answer_of(&foo.next_key::<u32>(alloc)) == Answer::InvalidValue,
-        Value(want) => matches!(&foo.next_value::<u32>(alloc), Ok(n) if *n == want),
-        Entry(key, value) => match foo.next_entry::<String, u32>(alloc) {
-            Ok(Some((name, number))) => name.as_str() == key && number == value,
-            _ => false,
-        },
+        Number(want) => is_field(foo, alloc, want),
+        Truth(want) => is_field(foo, alloc, want),
+        Key(want) => is_name(&foo.next_key::<String>(alloc), want),
+        KeyRefused(want) => answer_of(&foo.next_key::<u32>(alloc)) == want,
+        Value(want) => is(foo.next_value::<u32>(alloc), Ok(want)),
+        Entry(key, value) => is_entry(&foo.next_entry::<String, u32>(alloc), key, value),
     }
 }
 
@@ -73,16 +95,23 @@ fn goes(alloc: Global, name: &'static str, bytes: &[u8], steps: &[Step], answer:
     }
 }
 
+/// The number is the first of two fields of a tuple struct, whose end answers so.
+fn ends_row(
+    de: &mut Deserializer<SliceReader<'_>>,
+    alloc: Global,
+    first: u32,
+    end: Answer,
+) -> bool {
+    match de.deserialize_tuple_struct(alloc, "Foo", 2) {
+        Ok(foo) => ends(foo, alloc, &[Number(Ok(Some(first)))], end),
+        Err(_) => false,
+    }
+}
+
 /// A tuple struct with a field left unread is refused at its end, and so is what follows it.
 fn row_ends_behind_its_fields(alloc: Global) -> bool {
     let mut de = Deserializer::new(SliceReader::new(ROW));
-    let Ok(mut foo) = de.deserialize_tuple_struct(alloc, "Foo", 2) else {
-        return false;
-    };
-    let first = matches!(&foo.next_element::<u32>(alloc), Ok(Some(13)));
-    let ended = answer_of(&foo.end());
-    first
-        && ended == Answer::SequenceLengthMismatch
+    ends_row(&mut de, alloc, 13, Answer::SequenceLengthMismatch)
         && answer_of(&de.deserialize_bool()) == Answer::InvalidValue
 }
 
@@ -90,16 +119,17 @@ fn row_ends_behind_its_fields(alloc: Global) -> bool {
 fn a_struct_is_read_as_a_list_in_order_or_a_map_by_its_names(rt: HostRuntime) {
     let alloc = rt.alloc();
     // a list has the fields in order, and no names
-    let row = [Number(13), Truth(Some(true)), Truth(None)];
+    let row = [Number(Ok(Some(13))), Truth(Ok(Some(true))), Truth(Ok(None))];
     assert!(rt; goes(alloc, "Foo", ROW, &row, Answer::Taken));
-    let by_name = [KeyRefused, NumberRefused];
-    assert!(rt; goes(alloc, "Foo", ROW, &by_name, Answer::InvalidValue));
+    let refused = Answer::InvalidValue;
+    let by_name = [KeyRefused(refused), Number(Err(refused))];
+    assert!(rt; goes(alloc, "Foo", ROW, &by_name, refused));
     assert!(rt; row_ends_behind_its_fields(alloc));
     // a map has the fields under their names, and no order
     let named = [Key(Some("bar")), Value(13), Key(None)];
     assert!(rt; goes(alloc, "Foo", NAMED, &named, Answer::Taken));
     assert!(rt; goes(alloc, "Foo", NAMED, &[Entry("bar", 13)], Answer::Taken));
-    assert!(rt; goes(alloc, "Foo", NAMED, &[NumberRefused], Answer::InvalidValue));
+    assert!(rt; goes(alloc, "Foo", NAMED, &[Number(Err(refused))], refused));
 }
 
 #[test]
@@ -117,16 +147,35 @@ fn a_struct_opens_a_list_of_its_fields_or_a_map(rt: HostRuntime) {
     }
 }
 
+/// What comes of the field.
+fn put<T: Serialize>(
+    foo: &mut StructSerializer<'_, Vec<u8>>,
+    alloc: Global,
+    key: &'static str,
+    value: &T,
+) -> Answer {
+    answer_of(&foo.serialize_field(alloc, key, value))
+}
+
 /// What the serializer appends for the struct `{ bar: 13, is_fool: true }`.
 fn struct_is(alloc: Global, ser: Serializer<Vec<u8>>, bytes: &[u8]) -> bool {
     let mut ser = ser;
     let Ok(mut foo) = ser.serialize_struct(alloc, "Foo", 2) else {
         return false;
     };
-    let bar = foo.serialize_field(alloc, "bar", &13u32).is_ok();
-    let is_fool = foo.serialize_field(alloc, "is_fool", &true).is_ok();
+    let bar = put(&mut foo, alloc, "bar", &13u32) == Answer::Taken;
+    let is_fool = put(&mut foo, alloc, "is_fool", &true) == Answer::Taken;
     let ended = foo.end().is_ok();
     bar && is_fool && ended && ser.writer.as_slice() == bytes
+}
+
+/// The field of a tuple struct is taken.
+fn is_put<T: Serialize>(
+    pair: &mut TupleStructSerializer<'_, Vec<u8>>,
+    alloc: Global,
+    value: &T,
+) -> bool {
+    pair.serialize_field(alloc, value).is_ok()
 }
 
 /// What the serializer appends for a tuple struct of 13 and true.
@@ -135,8 +184,8 @@ fn tuple_struct_is(alloc: Global, ser: Serializer<Vec<u8>>, bytes: &[u8]) -> boo
     let Ok(mut pair) = ser.serialize_tuple_struct(alloc, "Pair", 0) else {
         return false;
     };
-    let first = pair.serialize_field(alloc, &13u32).is_ok();
-    let second = pair.serialize_field(alloc, &true).is_ok();
+    let first = is_put(&mut pair, alloc, &13u32);
+    let second = is_put(&mut pair, alloc, &true);
     let ended = pair.end().is_ok();
     first && second && ended && ser.writer.as_slice() == bytes
 }
@@ -153,9 +202,11 @@ fn named(alloc: Global, name: &'static str, key: &'static str) -> Answer {
 /// What comes of writing a field of this name, and the end behind it.
 fn put_one(foo: StructSerializer<'_, Vec<u8>>, alloc: Global, key: &'static str) -> Answer {
     let mut foo = foo;
-    match foo.serialize_field(alloc, key, &13u32) {
-        Ok(()) => answer_of(&foo.end()),
-        Err(e) => name_of(&e),
+    let outcome = put(&mut foo, alloc, key, &13u32);
+    if outcome == Answer::Taken {
+        answer_of(&foo.end())
+    } else {
+        outcome
     }
 }
 

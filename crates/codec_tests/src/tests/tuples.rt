@@ -1,10 +1,12 @@
 //! Tuples, which stand as lists of as many elements as they have parts.
 
-use super::answer::{Answer, answer_of};
-use super::bytes::{is_front, is_text, is_written_as};
-use amqp_de::Deserializer;
-use amqp_read::{Read, SliceReader};
-use amqp_ser::Serializer;
+use super::answer::Answer;
+use super::bytes::{are_texts, is_front, is_text, is_written_as};
+use super::calls::{Call, Part, goes};
+use super::puts;
+use super::puts::{Put, writes};
+use Call::Tuple;
+use Part::{Truth, Uint};
 use std::alloc::Global;
 
 /// (true, 13, "amqp")
@@ -25,8 +27,11 @@ fn a_tuple_is_a_list_of_its_parts(rt: HostRuntime) {
     assert!(rt; is_text(alloc, &(1i32,), b"\xc0\x03\x01\x54\x01"));
     assert!(rt; is_text(alloc, &(7u32,), b"\xc0\x03\x01\x52\x07"));
     assert!(rt; is_front(alloc, b"\xc0\x02\x01\x43\x40", &(0u32,), 4));
-    assert!(rt; is_text(alloc, &(13u32, true), b"\xc0\x04\x02\x52\x0d\x41"));
-    assert!(rt; is_text(alloc, &(1u32, true), b"\xc0\x04\x02\x52\x01\x41"));
+    let pairs: &[((u32, bool), &[u8])] = &[
+        ((13, true), b"\xc0\x04\x02\x52\x0d\x41"),
+        ((1, true), b"\xc0\x04\x02\x52\x01\x41"),
+    ];
+    assert!(rt; are_texts(alloc, pairs));
 }
 
 #[test]
@@ -46,54 +51,28 @@ fn tuples_of_three_and_four_parts(rt: HostRuntime) {
     assert!(rt; is_written_as(alloc, &(1u8, 2u16, 0u64, 'a'), four));
 }
 
-/// Opens a tuple of so many parts, writes these, and ends it.
-fn ended(alloc: Global, ser: &mut Serializer<Vec<u8>>, len: usize, parts: &[u32]) -> Answer {
-    let Ok(mut tuple) = ser.serialize_tuple(alloc, len) else {
-        return Answer::Message;
-    };
-    for value in parts {
-        if tuple.serialize_element(alloc, value).is_err() {
-            return Answer::Message;
-        }
-    }
-    answer_of(&tuple.end())
-}
-
 #[test]
 fn a_tuple_is_written_with_as_many_parts_as_it_was_opened_for(rt: HostRuntime) {
     let alloc = rt.alloc();
-    let mut ser = Serializer::new(Vec::new(alloc));
-    let empty = ended(alloc, &mut ser, 0, &[]);
-    let null = ser.serialize_none(alloc).is_ok();
-    assert!(rt; empty == Answer::Taken && null);
-    assert!(rt; ser.writer.as_slice() == b"\x45\x40".as_slice());
-    let mut ser = Serializer::new(Vec::new(alloc));
-    let too_many = ended(alloc, &mut ser, 1, &[1, 2]);
-    assert!(rt; too_many == Answer::SequenceLengthMismatch && ser.writer.is_empty());
+    let empty = Put::Tuple(0, &[], Answer::Taken);
+    assert!(rt; writes(alloc, &[empty, Put::None], b"\x45\x40"));
+    let too_many = Put::Tuple(1, &[1, 2], Answer::SequenceLengthMismatch);
+    assert!(rt; writes(alloc, &[too_many], b""));
     // too few are refused at the end, and all that follows
-    let mut ser = Serializer::new(Vec::new(alloc));
-    let first = ser.serialize_u32(alloc, 0).is_ok();
-    let too_few = ended(alloc, &mut ser, 2, &[1]);
-    let number = answer_of(&ser.serialize_u32(alloc, 1));
-    let null = answer_of(&ser.serialize_none(alloc));
-    let tuple = answer_of(&ser.serialize_tuple(alloc, 0));
-    assert!(rt; first && too_few == Answer::SequenceLengthMismatch);
-    assert!(rt; number == Answer::InvalidValue && null == Answer::InvalidValue);
-    assert!(rt; tuple == Answer::InvalidValue && ser.writer.as_slice() == b"\x43".as_slice());
-}
-
-fn reads_parts(alloc: Global) -> bool {
-    let mut de = Deserializer::new(SliceReader::new(b"\xc0\x04\x02\x52\x0d\x41\x40"));
-    let Ok(mut pair) = de.deserialize_tuple(2) else {
-        return false;
-    };
-    let first = matches!(pair.next_element::<u32>(alloc), Ok(Some(13)));
-    let second = matches!(pair.next_element::<bool>(alloc), Ok(Some(true)));
-    let ended = pair.end().is_ok();
-    first && second && ended && de.into_reader().bytes_consumed() == 6
+    let too_few = Put::Tuple(2, &[1], Answer::SequenceLengthMismatch);
+    let calls = [
+        (Put::Uint(0), Answer::Taken),
+        (too_few, Answer::Taken),
+        (Put::Uint(1), Answer::InvalidValue),
+        (Put::None, Answer::InvalidValue),
+        (empty, Answer::InvalidValue),
+    ];
+    assert!(rt; puts::goes(alloc, &calls, b"\x43"));
 }
 
 #[test]
 fn parts_of_a_tuple_are_read_in_turn(rt: HostRuntime) {
-    assert!(rt; reads_parts(rt.alloc()));
+    let parts = Tuple(2, &[Uint(Ok(Some(13))), Truth(true)], Answer::Taken);
+    let bytes = b"\xc0\x04\x02\x52\x0d\x41\x40";
+    assert!(rt; goes(rt.alloc(), bytes, &[parts], 6));
 }

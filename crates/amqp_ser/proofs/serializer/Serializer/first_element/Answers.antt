@@ -8,8 +8,8 @@ use Rattle.amqp_ser.proofs.serializer.Serializer.first_element.Goals as goal
 
 pub returns-in-Ok : goal.returns-in-Ok
 unfolding state open_state
-returns-in-Ok g c = record { law = first_pays _ _ c.args.code c.byte.result (c.args.head.now ++ c.args.body.now) _ _ c.requires.marked refl c.byte.ensures c.requires.answers (appended_two _ _ _ _ _ _ _ (record { plan = refl; measure = refl }) (rw c.in-Ok.is at c.append.ensures) c.append_two.ensures) }
+returns-in-Ok g c = record { law = first_pays _ _ c.args.code c.byte.result (c.args.head.now ++ c.args.body.now) _ _ c.requires.marked refl c.byte.ensures c.requires.answers (appended_two _ _ _ _ _ _ _ (rw c.in-Ok.is at c.append.ensures) c.append_two.ensures) }
 
 pub returns-in-Err : goal.returns-in-Err
 unfolding state open_state
-returns-in-Err g c = record { law = first_pays _ _ c.args.code c.byte.result (c.args.head.now ++ c.args.body.now) _ _ c.requires.marked refl c.byte.ensures c.requires.answers (appended_ended _ _ _ _ _ _ _ (record { plan = refl; measure = refl }) (ap as_error c.in-Err.is) refl c.append.ensures) }
+returns-in-Err g c = record { law = first_pays _ _ c.args.code c.byte.result (c.args.head.now ++ c.args.body.now) _ _ c.requires.marked refl c.byte.ensures c.requires.answers (appended_ended _ _ _ _ _ _ _ (ap as_error c.in-Err.is) refl c.append.ensures) }

@@ -1,0 +1,76 @@
+-- The numbers outside arrays, which are counted behind the last.
+use Rattle.std.proofs.Common.{◌≡◌, refl, map, length, sym, ap, ◌∙◌, subst, arith, true}
+use Rattle.std.proofs.lemmas.List.{length-map}
+use Rattle.amqp_base.specs.declared.shape.Setting.TheVariants.{Plain}
+use Rattle.amqp_base.specs.Shapes.{whole}
+use Rattle.amqp_ser.specs.State.{State, state}
+use Rattle.amqp_ser.specs.Law.{Refused}
+use Rattle.amqp_ser.specs.Compound.{open_state, outer_in}
+use Rattle.amqp_ser.proofs.PartTexts.{true_false}
+use Rattle.amqp_ser.proofs.Steps.{kept_two}
+use Rattle.amqp_ser.proofs.Compounds.{keeps_lives, kept_open, full_refuses, inner_lives, inner_answers, broken_lives}
+use Rattle.amqp_ser.proofs.NumberParts.{kept_numbers, kept_refused, numbers_more, numbers_refused}
+use Rattle.amqp_ser.proofs.blocks.SeqSerializer+W.each_number.Goals as goal
+
+pub returns-in-Err-clause-law : goal.returns-in-Err-clause-law
+unfolding state open_state
+returns-in-Err-clause-law g c =
+    let item = λ (x : g.row.T.Denot). g.T.Typed.meaning.item x Plain in
+    let is = map item c.args.values.now in
+    let live = c.requires.direct in
+    let q = c.args.self.now in
+    let o = state g.W.Write g.W.FaultCount q.ser.now in
+    let t = state g.W.Write g.W.FaultCount c.append_numbers.new.self in
+    let law = c.in-Err.ensures.law in
+    record {
+      ok = tt;
+      err = λ s shape xs all h begins. subst (λ e. Refused s (whole shape all) e t) (sym c.refused.ensures) (numbers_refused s shape xs is all _ (open_state g.W.Write g.W.FaultCount q) (outer_in q.parts.outer) o t refl law h);
+      kept = keeps_lives _ _ q.parts.opened (outer_in q.parts.outer) o t refl refl (kept_refused is o t _ law) law.appended.err;
+      stops = record {
+        err = broken_lives _ t _ live refl;
+        ended = λ h. absurd (true_false (sym h ∙ (inner_answers _ _ _ ∙ c.requires.answers)));
+      };
+    }
+
+pub returns-in-Some-clause-law : goal.returns-in-Some-clause-law
+unfolding state open_state
+returns-in-Some-clause-law g c =
+    let item = λ (x : g.row.T.Denot). g.T.Typed.meaning.item x Plain in
+    let vs = c.args.values.now in
+    let live = c.requires.direct in
+    let q = c.args.self.now in
+    let o = state g.W.Write g.W.FaultCount q.ser.now in
+    let w = state g.W.Write g.W.FaultCount c.append_numbers.new.self in
+    let t : State = record w { ended = true } in
+    let law = c.in-Ok.ensures.law in
+    let len : length (map item vs) ≡ length vs = length-map vs item in
+    record {
+      ok = λ s shape xs h. numbers_more s shape xs (map item vs) (open_state g.W.Write g.W.FaultCount q) _ (outer_in q.parts.outer) o w t _ live c.requires.outside (inner_lives _ o _ live ∙ ap (λ z. record o { ended = z }) c.requires.answers) refl law refl (inner_lives _ t _ live ∙ ap (λ z. record t { ended = z }) c.requires.answers) refl refl refl refl (omega (arith, c.in-Some.ensures.1, len)) h;
+      err = tt;
+      kept = keeps_lives _ _ q.parts.opened (outer_in q.parts.outer) o t refl refl (kept_numbers (map item vs) o w t _ law refl) refl;
+      stops = record {
+        err = tt;
+        ended = λ h. absurd (true_false (sym h ∙ (inner_answers _ _ _ ∙ c.requires.answers)));
+      };
+    }
+
+pub returns-in-None-clause-law : goal.returns-in-None-clause-law
+unfolding state open_state
+returns-in-None-clause-law g c =
+    let item = λ (x : g.row.T.Denot). g.T.Typed.meaning.item x Plain in
+    let is = map item c.args.values.now in
+    let live = c.requires.direct in
+    let q = c.args.self.now in
+    let o = state g.W.Write g.W.FaultCount q.ser.now in
+    let w = state g.W.Write g.W.FaultCount c.append_numbers.new.self in
+    let t : State = record w { ended = true } in
+    let kept = kept_numbers is o w t _ c.in-Ok.ensures.law refl in
+    record {
+      ok = tt;
+      err = λ s shape xs all h begins. full_refuses s t (whole shape all) _ (kept_two s o t (kept_open s shape xs (open_state g.W.Write g.W.FaultCount q) (outer_in q.parts.outer) o refl h) kept) c.no_memory.ensures;
+      kept = keeps_lives _ _ q.parts.opened (outer_in q.parts.outer) o t refl refl kept refl;
+      stops = record {
+        err = broken_lives _ t _ live refl;
+        ended = λ h. absurd (true_false (sym h ∙ (inner_answers _ _ _ ∙ c.requires.answers)));
+      };
+    }

@@ -1,0 +1,14 @@
+use Rattle.std.proofs.Common.{◌≡◌, ◌++◌, List, length, map}
+use Rattle.amqp_base.specs.declared.shape.Setting.TheVariants.{Plain}
+use Rattle.amqp_ser.specs.State.{state}
+use Rattle.amqp_ser.proofs.NumberTexts.{Written}
+use Rattle.amqp_ser.proofs.serializer.Serializer.append_blocks.Given as goal
+
+abbrev pub invariant-loop-rest : goal.invariant-loop-rest
+invariant-loop-rest g l = record {
+  written : (front : List g.row.T.Denot) × (l.values ≡ front ++ l.rest) × Written (map (λ x. g.T.Typed.meaning.item x Plain) front) (state g.W.Write g.W.FaultCount l.initial.self) (state g.W.Write g.W.FaultCount l.self);
+  room : length l.block ≡ 320;
+}
+
+abbrev pub decreases-loop-rest : goal.decreases-loop-rest
+decreases-loop-rest g l = length l.rest

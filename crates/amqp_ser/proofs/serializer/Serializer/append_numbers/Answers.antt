@@ -1,0 +1,13 @@
+-- Numbers that are counted, or written by blocks.
+use Rattle.std.proofs.Common.{map, refl}
+use Rattle.amqp_base.specs.declared.shape.Setting.TheVariants.{Plain}
+use Rattle.amqp_ser.specs.State.{state}
+use Rattle.amqp_ser.proofs.NumberParts.{counted_all}
+use Rattle.amqp_ser.proofs.serializer.Serializer.append_numbers.Goals as goal
+
+pub returns-then-counts : goal.returns-then-counts
+unfolding state
+returns-then-counts g c =
+    let item = λ (x : g.row.T.Denot). g.T.Typed.meaning.item x Plain in
+    let k = c.counts.ensures in
+    record { law = counted_all (map item c.args.values.now) _ _ c.args.self.now.direct _ _ _ _ _ _ _ c.lengths.ensures.texts (k.counted c.if-counts.true) (k.untold c.if-counts.true) (k.alone c.if-counts.true) k.plan refl refl refl refl refl k.faults k.grows refl refl refl refl }

@@ -1,0 +1,118 @@
+//! A value is measured, and then written once.
+
+ghost use Rattle.std.specs.Prelude.{◌≡◌, ◌⊎◌, Some, IfOk, IfErr};
+ghost use Rattle.amqp_base.specs.Canon.{canon};
+ghost use Rattle.amqp_ser.specs.Texts.{HasNoText};
+ghost use Rattle.amqp_ser.specs.Passes.{IsMeasureOf, HasLength, NoSize};
+
+use crate::pass::{Measure, Plan, Reserved};
+use crate::sizes::Sizes;
+use crate::{Serialize, Serializer};
+use amqp_base::{Error, Setting};
+use std::alloc::Global;
+use std::io::ErrorKind;
+
+/// What the value's text takes: its length, and the sizes of the compounds in it.
+#[doc(hidden)]
+#[inline(always)]
+pub fn measure<T: Serialize>(alloc: Global, value: &T) -> Result<Measure, Error>
+    ensures ok { IfOk result (λ m. IsMeasureOf (T.meaning.item value.now Setting.Plain) m) }
+    ensures err { IfErr result (λ e.
+        (e ≡ Error.OutOfMemory) ⊎ HasNoText (T.meaning.item value.now Setting.Plain) e) }
+{
+    let mut ser = Serializer::new(Measure {
+        length: 0,
+        sizes: Sizes::new(alloc),
+    });
+    ser.direct = true;
+    match value.serialize(alloc, &mut ser) {
+        Ok(()) => {}
+        Err(e) => return Err(e),
+    }
+    let Measure { length, sizes } = ser.into_inner();
+    Ok(Measure {
+        length: length.min(usize::MAX),
+        sizes,
+    })
+}
+
+/// The number of bytes of the value's canonical text, without writing it: what `measured_vec`
+/// gives is so long.
+///
+/// `InvalidValue`: the value has no text, as an array in it has elements under different
+/// constructors. `Io(Other)`: a payload or a body has more than 4,294,967,291 bytes, or the whole
+/// text 18,446,744,073,709,551,615 or more. `OutOfMemory`: there is no memory for the sizes of the
+/// lists, maps and arrays in it.
+pub fn measured_size<T: Serialize>(alloc: Global, value: &T) -> Result<usize, Error>
+    ensures ok { IfOk result (λ n. HasLength (canon (T.meaning.item value.now Setting.Plain)) n) }
+    ensures err { IfErr result (λ e.
+        (e ≡ Error.OutOfMemory) ⊎ NoSize (T.meaning.item value.now Setting.Plain) e) }
+{
+    let measure = match measure(alloc, value) {
+        Ok(measure) => measure,
+        Err(e) => return Err(e),
+    };
+    if measure.length == usize::MAX {
+        return Err(Error::Io(ErrorKind::Other));
+    }
+    Ok(measure.length)
+}
+
+/// The value's canonical text, written once into a vector with room for all of it: the value is
+/// measured first, so the heap is asked once for the text, and otherwise for the sizes of the
+/// lists, maps and arrays in it alone, where there are more than four.
+///
+/// It is refused as `measured_size` is, and as `OutOfMemory` where there is no room.
+#[inline(always)]
+pub fn measured_vec<T: Serialize>(alloc: Global, value: &T) -> Result<Vec<u8>, Error>
+    ensures ok { IfOk result (λ v. canon (T.meaning.item value.now Setting.Plain) ≡ Some v.items) }
+    ensures err { IfErr result (λ e.
+        (e ≡ Error.OutOfMemory) ⊎ HasNoText (T.meaning.item value.now Setting.Plain) e) }
+{
+    let measure = match measure(alloc, value) {
+        Ok(measure) => measure,
+        Err(e) => return Err(e),
+    };
+    write_measured(alloc, value, measure)
+}
+
+/// The value's canonical text, written once behind the sizes that were measured of it.
+///
+/// `OutOfMemory`: there is no room. `InvalidValue`: the sizes of another value were measured.
+#[doc(hidden)]
+#[inline(always)]
+pub fn write_measured<T: Serialize>(
+    alloc: Global,
+    value: &T,
+    measure: Measure,
+) -> Result<Vec<u8>, Error>
+    ensures ok { IfOk result (λ v. canon (T.meaning.item value.now Setting.Plain) ≡ Some v.items) }
+    ensures err { IfErr result (λ e. IsMeasureOf (T.meaning.item value.now Setting.Plain) measure →
+        e ≡ Error.OutOfMemory) }
+{
+    let Measure { length, sizes } = measure;
+    if length == usize::MAX {
+        return Err(Error::OutOfMemory);
+    }
+    let out = match Reserved::with_room(alloc, length) {
+        Ok(out) => out,
+        Err(_) => return Err(Error::OutOfMemory),
+    };
+    let mut ser = Serializer::new(Plan {
+        out,
+        sizes,
+        next: 0,
+    });
+    ser.direct = true;
+    match value.serialize(alloc, &mut ser) {
+        Ok(()) => {}
+        Err(e) => return Err(e),
+    }
+    let Plan {
+        out,
+        sizes: _,
+        next: _,
+    } = ser.into_inner();
+    let Reserved { bytes } = out;
+    Ok(bytes)
+}
