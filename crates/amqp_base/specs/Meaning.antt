@@ -6,11 +6,11 @@ use Rattle.std.proofs.lemmas.List.Elements.{All-nil, All-cons}
 use Rattle.amqp_base.specs.Codes.{Kind}
 use Rattle.amqp_base.specs.Canon.{kind_of}
 use Rattle.amqp_base.specs.Item.{Item, Scalar, scalar, string, null}
-use Rattle.amqp_base.specs.Refusing.{Refusing, any_refusal, scalar_refusal, chosen_refusal, option_refusal, list_refusal, all_awaited, row_refusal, map_refusal, struct_refusal}
+use Rattle.amqp_base.specs.Refusing.{Refusing, any_refusal, scalar_refusal, chosen_refusal, option_refusal, seq_refusal, array_refusal, all_awaited, row_refusal, map_refusal, struct_refusal}
 use Rattle.amqp_base.specs.Shapes.{whole}
-use Rattle.amqp_base.specs.Typing.{OneValue, is_of, is_null, text_item, is_list_of, means_list, all_same}
-use Rattle.amqp_base.specs.OneValue.{one_of, one_list, bytes_in}
-use Rattle.amqp_base.specs.ReadBack.{of_own_kind, both, list_taken_back, list_read_back, list_not_null}
+use Rattle.amqp_base.specs.Typing.{OneValue, is_of, is_null, text_item, is_seq_of, means_seq, takes_array, means_array, all_same}
+use Rattle.amqp_base.specs.OneValue.{one_of, one_seq, one_array, bytes_in}
+use Rattle.amqp_base.specs.ReadBack.{of_own_kind, both, list_taken_back, list_read_back, list_not_null, array_taken_back, array_read_back, array_not_null}
 use Rattle.amqp_base.specs.Options.{option_item, takes_option, means_option, same_option, option_as_plain, one_option, sound_option, option_taken_back, option_read_back}
 use Rattle.amqp_base.specs.Maps.{pair_items, is_map_of, means_map, SameRows, SoundEntries, one_map, put_in_turn}
 use Rattle.amqp_base.specs.MapsReadBack.{map_taken_back, map_read_back, map_not_null}
@@ -181,19 +181,20 @@ a_null = record {
   not_null = λ h. from_false h;
 }
 
--- ---- lists, options, maps
+-- ---- lists, arrays, options, maps
 
+-- a list, which is read from an array, too
 abbrev pub list_of : {V T : Type 0} → Meaning T → (V → List T) → Meaning V
 list_of m content = record {
   item = λ v _. whole Shape.List (map (λ x. m.item x Plain) (content v));
-  takes = is_list_of m.takes;
-  means = λ i v. means_list m.means i (content v);
+  takes = is_seq_of m.takes;
+  means = λ i v. means_seq m.means i (content v);
   same = λ v w. all_same m.same (content v) (content w);
-  refuses = list_refusal m.takes m.refuses;
+  refuses = seq_refusal m.takes m.refuses;
   grows = true;
   in_described_list = λ _. refl;
   in_described_basic = λ _. refl;
-  one_value = λ i v w. one_list m.means m.same m.one_value i (content v) (content w);
+  one_value = λ i v w. one_seq m.means m.same m.one_value i (content v) (content w);
   sound = λ v. All m.sound (content v);
   always_sound = m.always_sound;
   is_sound = λ a v. all_sound m.sound (m.is_sound a) (content v);
@@ -202,6 +203,28 @@ list_of m content = record {
   read_back = λ r v. list_read_back m.means (λ x. m.item x Plain) m.sound (m.read_back r) (content v);
   never_null = true;
   not_null = λ _ v. list_not_null (map (λ x. m.item x Plain) (content v));
+}
+
+-- an array, which any other item is read as with one element
+abbrev pub array_of : {V T : Type 0} → Meaning T → (V → List T) → Meaning V
+array_of m content = record {
+  item = λ v _. whole Shape.Array (map (λ x. m.item x Plain) (content v));
+  takes = takes_array m.takes;
+  means = λ i v. means_array m.means i (content v);
+  same = λ v w. all_same m.same (content v) (content w);
+  refuses = array_refusal m.takes m.refuses;
+  grows = true;
+  in_described_list = λ _. refl;
+  in_described_basic = λ _. refl;
+  one_value = λ i v w. one_array m.means m.same m.one_value i (content v) (content w);
+  sound = λ v. All m.sound (content v);
+  always_sound = m.always_sound;
+  is_sound = λ a v. all_sound m.sound (m.is_sound a) (content v);
+  reads_back = m.reads_back;
+  taken_back = λ r v. array_taken_back m.takes (λ x. m.item x Plain) m.sound (m.taken_back r) (content v);
+  read_back = λ r v. array_read_back m.means (λ x. m.item x Plain) m.sound (m.read_back r) (content v);
+  never_null = true;
+  not_null = λ _ v. array_not_null (map (λ x. m.item x Plain) (content v));
 }
 
 abbrev pub option_of : {T : Type 0} → Meaning T → Meaning (Option T)

@@ -2,7 +2,7 @@
 use Rattle.std.specs.Prelude.{◌≡◌, ℕ, ℤ, pos, Bool, false, List, [], ◌∷◌}
 use Rattle.std.proofs.Common.{sym, ap, ◌∙◌}
 use Rattle.amqp_base.specs.Item.{boolean, ubyte, ushort, uint, ulong, byte, short, int, long, float, double, char, timestamp, decimal32, decimal64, decimal128, uuid, binary, string, symbol, Scalar, Item, scalar, list, map, array, described, Items, none, more}
-use Rattle.amqp_base.specs.Typing.{OneValue, all_mean, all_same, means_list}
+use Rattle.amqp_base.specs.Typing.{OneValue, all_mean, all_same, means_seq, means_array}
 
 -- the truth value of a boolean
 abbrev pub truth_in : Item → Bool
@@ -54,11 +54,20 @@ one_all means same one (more i is) [] ws p q = absurd p
 one_all means same one (more i is) (v ∷ vs) [] p q = absurd q
 one_all means same one (more i is) (v ∷ vs) (w ∷ ws) p q = (one i v w p.0 q.0, one_all means same one is vs ws p.1 q.1)
 
--- so a list means one list of values
-pub one_list : {T : Type 0} (means : Item → T → Type 0) (same : T → T → Type 0) → OneValue means same
-    → (i : Item) (vs ws : List T) → means_list means i vs → means_list means i ws → all_same same vs ws
-one_list means same one (list is) vs ws p q = one_all means same one is vs ws p q
-one_list means same one (scalar v) vs ws p q = absurd p
-one_list means same one (map ps) vs ws p q = absurd p
-one_list means same one (array is) vs ws p q = absurd p
-one_list means same one (described d v) vs ws p q = absurd p
+-- so a list or an array means one list of values
+pub one_seq : {T : Type 0} (means : Item → T → Type 0) (same : T → T → Type 0) → OneValue means same
+    → (i : Item) (vs ws : List T) → means_seq means i vs → means_seq means i ws → all_same same vs ws
+one_seq means same one (list is) vs ws p q = one_all means same one is vs ws p q
+one_seq means same one (array is) vs ws p q = one_all means same one is vs ws p q
+one_seq means same one (scalar v) vs ws p q = absurd p
+one_seq means same one (map ps) vs ws p q = absurd p
+one_seq means same one (described d v) vs ws p q = absurd p
+
+-- and so it does where any other item is the only element
+pub one_array : {T : Type 0} (means : Item → T → Type 0) (same : T → T → Type 0) → OneValue means same
+    → (i : Item) (vs ws : List T) → means_array means i vs → means_array means i ws → all_same same vs ws
+one_array means same one (array is) vs ws p q = one_all means same one is vs ws p q
+one_array means same one (list is) vs ws p q = one_all means same one (more (list is) none) vs ws p q
+one_array means same one (scalar v) vs ws p q = one_all means same one (more (scalar v) none) vs ws p q
+one_array means same one (map ps) vs ws p q = one_all means same one (more (map ps) none) vs ws p q
+one_array means same one (described d v) vs ws p q = one_all means same one (more (described d v) none) vs ws p q

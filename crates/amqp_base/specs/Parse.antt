@@ -1,16 +1,16 @@
 -- What stands at the front of the bytes, or the first rule that they break.
-use Rattle.std.specs.Prelude.{ℕ, zero, suc, ◌+◌, ◌==◌, ◌%◌, Bool, true, false, ◌&&◌, nat_lt, if◌then◌else◌, List, [], ◌∷◌, length, take, drop, Option, Some, None, Result, Ok, Err}
+use Rattle.std.specs.Prelude.{ℕ, zero, suc, ◌+◌, ◌-◌, ◌==◌, ◌%◌, Bool, true, false, ◌&&◌, ◌||◌, nat_lt, if◌then◌else◌, List, [], ◌∷◌, length, take, drop, Option, Some, None, Result, Ok, Err}
 use Rattle.std.specs.Str.{is_utf8}
 use Rattle.std.specs.declared.io.ErrorKind.TheVariants.{UnexpectedEof}
 use Rattle.amqp_base.specs.declared.error.Error.{Error}
 use Rattle.amqp_base.specs.declared.error.Error.TheVariants.{Io, InvalidFormatCode, InvalidValue, InvalidUtf8Encoding, SequenceLengthMismatch, InvalidLength}
 use Rattle.amqp_base.specs.declared.format_code.EncodingCodes.{EncodingCodes}
-use Rattle.amqp_base.specs.declared.format_code.EncodingCodes.TheVariants.{DescribedType, List0, List8, List32, Map8, Map32}
+use Rattle.amqp_base.specs.declared.format_code.EncodingCodes.TheVariants.{DescribedType, List0, List8, List32, Map8, Map32, Array8, Array32}
 use Rattle.amqp_base.specs.declared.format_code.Category.{Category}
 use Rattle.amqp_base.specs.declared.format_code.Category.TheVariants.{Fixed, Variable, Compound, Array}
 use Rattle.amqp_base.specs.Codes.{Kind, row, code_of}
 use Rattle.amqp_base.specs.SameKind.{same_kind}
-use Rattle.amqp_base.specs.Item.{Scalar}
+use Rattle.amqp_base.specs.Item.{Scalar, symbol, ulong, Descriptor, name, code}
 use Rattle.amqp_base.specs.Value.{number, payload}
 use Rattle.amqp_base.specs.Wire.{Constructor, bare, under, under_pair}
 
@@ -155,3 +155,64 @@ unfoldable pub struct_data : ℕ → EncodingCodes → List ℕ → Parsed ℕ
 struct_data len Map8 s = map_data Map8 s
 struct_data len Map32 s = map_data Map32 s
 struct_data len e s = tuple_data len e s
+
+-- ---- arrays (1.2.4). What is refused as a message is `custom`, as a message's text is the codec's own.
+
+abbrev pub described_by : Scalar → Option Descriptor
+described_by (symbol b) = Some (name b)
+described_by (ulong n) = Some (code n)
+described_by v = None
+
+abbrev pub descriptor_or : Error → Option Descriptor → List ℕ → Parsed Descriptor
+descriptor_or custom (Some d) s = Ok (d, s)
+descriptor_or custom None s = Err custom
+
+abbrev pub is_descriptor_kind : Kind → Bool
+is_descriptor_kind k = same_kind k Kind.symbol || same_kind k Kind.ulong
+
+-- the data of a symbol or an ulong; another kind's code is a message
+unfoldable pub descriptor_data : Error → EncodingCodes → List ℕ → Parsed Descriptor
+descriptor_data custom e s = if is_descriptor_kind (row e).kind then (by_category e (row e).category s >>= λ v. descriptor_or custom (described_by v.0) v.1) else Err custom
+
+abbrev pub descriptor_at : Error → List ℕ → Parsed Descriptor
+descriptor_at custom s = byte_at s >>= λ b. behind_byte (descriptor_data custom) b.0 b.1
+
+-- a primitive code
+abbrev pub primitive_at : List ℕ → Parsed EncodingCodes
+primitive_at s = byte_at s >>= λ b. with_rest b.1 (code_or_refusal (code_of b.0))
+
+-- behind the first byte of an element constructor: a code, or 0x00, a descriptor and a code
+abbrev pub constructor_behind : Error → ℕ → List ℕ → Parsed Constructor
+constructor_behind custom zero s = descriptor_at custom s >>= λ d. primitive_at d.1 >>= λ e. Ok (under_pair d.0 e.0, e.1)
+constructor_behind custom (suc n) s = with_rest s (code_or_refusal (code_of (suc n))) >>= λ e. Ok (under e.0, e.1)
+
+unfoldable pub constructor_at : Error → List ℕ → Parsed Constructor
+constructor_at custom s = byte_at s >>= λ b. constructor_behind custom b.0 b.1
+
+-- what stands in front of elements: how many they are, what they stand under, and how many bytes an array has for them
+pub record Heading : Type 0 where
+  pub count : ℕ
+  pub stands : Constructor
+  pub room : Option ℕ
+
+-- the size covers the element constructor, of m bytes
+abbrev pub of_room : ℕ → ℕ → ℕ → ℕ → Constructor → List ℕ → Parsed Heading
+of_room w z m k c s = if nat_lt (z - w) m then Err InvalidLength else Ok (record { count = k; stands = c; room = Some ((z - w) - m) }, s)
+
+-- elements that have constructors of their own
+abbrev pub plain_heading : ℕ → Heading
+plain_heading k = record { count = k; stands = bare; room = None }
+
+-- behind size and count: the spare bytes of an array without elements, else the element constructor
+abbrev pub elements_behind : Error → ℕ → ℕ → ℕ → List ℕ → Parsed Heading
+elements_behind custom w z zero s = bytes_at (z - w) s >>= λ b. Ok (plain_heading 0, b.1)
+elements_behind custom w z (suc k) s = constructor_at custom s >>= λ c. of_room w z (length s - length c.1) (suc k) c.0 c.1
+
+unfoldable pub array_at : Error → ℕ → List ℕ → Parsed Heading
+array_at custom w s = header_at w true s >>= λ h. elements_behind custom w h.0.0 h.0.1 h.1
+
+-- the data of a list or an array up to its elements
+unfoldable pub seq_data : Error → EncodingCodes → List ℕ → Parsed Heading
+seq_data custom Array8 s = array_at custom 1 s
+seq_data custom Array32 s = array_at custom 4 s
+seq_data custom e s = list_data e s >>= λ n. Ok (plain_heading n.0, n.1)

@@ -7,7 +7,7 @@ use Rattle.amqp_base.specs.SameKind.{place, same_kind}
 use Rattle.amqp_base.specs.Canon.{kind_of}
 use Rattle.amqp_base.specs.Item.{Item, Scalar, scalar, items_of}
 use Rattle.amqp_base.specs.Shapes.{whole}
-use Rattle.amqp_base.specs.Typing.{is_of, is_null, all_taken, all_mean, is_list_of, means_list}
+use Rattle.amqp_base.specs.Typing.{is_of, is_null, all_taken, all_mean, is_seq_of, means_seq, takes_array, means_array}
 use Rattle.amqp_base.specs.declared.shape.Shape.{Shape}
 
 -- an item without parts is of its own kind
@@ -35,13 +35,13 @@ all_read_back means item sound h (v ∷ vs) s = (h v (All-head sound v vs s), al
 
 -- a list of items that are taken is taken
 pub list_taken_back : {T : Type 0} (takes : Item → Bool) (item : T → Item) (sound : T → Type 0) → ((v : T) → sound v → IsTrue (takes (item v))) → (vs : List T) → All sound vs
-    → IsTrue (is_list_of takes (whole Shape.List (map item vs)))
+    → IsTrue (is_seq_of takes (whole Shape.List (map item vs)))
 unfolding whole
 list_taken_back takes item sound h vs s = all_taken_back takes item sound h vs s
 
 -- and means the values
 pub list_read_back : {T : Type 0} (means : Item → T → Type 0) (item : T → Item) (sound : T → Type 0) → ((v : T) → sound v → means (item v) v) → (vs : List T) → All sound vs
-    → means_list means (whole Shape.List (map item vs)) vs
+    → means_seq means (whole Shape.List (map item vs)) vs
 unfolding whole
 list_read_back means item sound h vs s = all_read_back means item sound h vs s
 
@@ -49,3 +49,18 @@ list_read_back means item sound h vs s = all_read_back means item sound h vs s
 pub list_not_null : (is : List Item) → is_null (whole Shape.List is) ≡ false
 unfolding whole
 list_not_null is = refl
+
+-- the same of arrays
+pub array_taken_back : {T : Type 0} (takes : Item → Bool) (item : T → Item) (sound : T → Type 0) → ((v : T) → sound v → IsTrue (takes (item v))) → (vs : List T) → All sound vs
+    → IsTrue (takes_array takes (whole Shape.Array (map item vs)))
+unfolding whole
+array_taken_back takes item sound h vs s = all_taken_back takes item sound h vs s
+
+pub array_read_back : {T : Type 0} (means : Item → T → Type 0) (item : T → Item) (sound : T → Type 0) → ((v : T) → sound v → means (item v) v) → (vs : List T) → All sound vs
+    → means_array means (whole Shape.Array (map item vs)) vs
+unfolding whole
+array_read_back means item sound h vs s = all_read_back means item sound h vs s
+
+pub array_not_null : (is : List Item) → is_null (whole Shape.Array is) ≡ false
+unfolding whole
+array_not_null is = refl

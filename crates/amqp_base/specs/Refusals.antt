@@ -19,3 +19,7 @@ IsDevice e = ⊥
 abbrev pub IsMessage : Error → Type 0
 IsMessage (Message s) = Unit {0}
 IsMessage e = ⊥
+
+-- `custom` is the refusal, if that is a message
+abbrev pub StandsFor : Error → Error → Type 0
+StandsFor custom e = IsMessage e → custom ≡ e

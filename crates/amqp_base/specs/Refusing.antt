@@ -1,16 +1,16 @@
 -- Which refusal a type makes of bytes.
-use Rattle.std.specs.Prelude.{◌≡◌, ℕ, zero, suc, ◌⊎◌, Bool, true, false, ◌&&◌, not, IsTrue, List, [], ◌∷◌, ◌++◌, map, Option, Some, None, Ok, Err, if◌then◌else◌, ⊤}
+use Rattle.std.specs.Prelude.{◌≡◌, ℕ, zero, suc, ◌-◌, ◌⊎◌, Bool, true, false, ◌&&◌, not, nat_lt, IsTrue, List, [], ◌∷◌, ◌++◌, length, map, Option, Some, None, Ok, Err, if◌then◌else◌, ⊤}
 use Rattle.std.specs.Str.{bytes_eq}
 use Rattle.amqp_base.specs.declared.error.Error.{Error}
 use Rattle.amqp_base.specs.declared.error.Error.TheVariants.{InvalidValue}
 use Rattle.amqp_base.specs.declared.format_code.EncodingCodes.{EncodingCodes}
 use Rattle.amqp_base.specs.Codes.{Kind, row}
 use Rattle.amqp_base.specs.Item.{Item, scalar, string}
-use Rattle.amqp_base.specs.Refusals.{IsMessage}
+use Rattle.amqp_base.specs.Refusals.{IsMessage, StandsFor}
 use Rattle.amqp_base.specs.SameKind.{is_decimal_kind, same_kind}
 use Rattle.amqp_base.specs.Typing.{is_of}
 use Rattle.amqp_base.specs.Wire.{Constructor, bare, Wire, lenient}
-use Rattle.amqp_base.specs.Parse.{Parsed, item_at, code_at, data_at, list_data, tuple_data, map_data}
+use Rattle.amqp_base.specs.Parse.{Parsed, Heading, item_at, code_at, data_at, tuple_data, map_data, seq_data}
 
 -- what stands under a constructor at the front of these bytes may be refused so
 abbrev pub Refusing : Type 1
@@ -56,7 +56,7 @@ decimal_refusal k c s e = one_or_other (is_other_width k (code_at c s)) (IsMessa
 unfoldable pub option_refusal : Refusing → Refusing
 option_refusal refuses c s e = (code_at c s ≡ Err e) ⊎ refuses c s e
 
--- ---- lists and maps: by the header, or by what stands behind it
+-- ---- maps and rows: by the header, or by what stands behind it
 
 pub record HeaderThen (parse : EncodingCodes → List ℕ → Parsed ℕ) (later : ℕ → List ℕ → Type 0) (c : Constructor) (s : List ℕ) : Type 0 where
   pub count : ℕ
@@ -70,14 +70,6 @@ PartsRefusing = ℕ → List ℕ → Error → Type 0
 
 unfoldable pub opened_refusal : (EncodingCodes → List ℕ → Parsed ℕ) → PartsRefusing → Refusing
 opened_refusal parse later c s e = (item_at parse c s ≡ Err e) ⊎ HeaderThen parse (λ n rest. later n rest e) c s
-
--- one of n parts is refused, behind those before it, which are taken
-abbrev pub part_refusal : (Item → Bool) → Refusing → PartsRefusing
-part_refusal takes refuses zero s e = ⊥
-part_refusal takes refuses (suc n) s e = refuses bare s e ⊎ FrontThen bare takes (λ r. part_refusal takes refuses n r e) s
-
-abbrev pub list_refusal : (Item → Bool) → Refusing → Refusing
-list_refusal takes refuses = opened_refusal list_data (part_refusal takes refuses)
 
 -- Which fields are awaited: those of a row have no value yet.
 abbrev pub all_awaited : {A : Type 0} → List A → List Bool
@@ -105,6 +97,41 @@ turn_refusal key no_key value no_value (suc n) s e = no_key bare s e ⊎ FrontTh
 
 abbrev pub map_refusal : (Item → Bool) → Refusing → (Item → Bool) → Refusing → Refusing
 map_refusal key no_key value no_value = opened_refusal map_data (turn_refusal key no_key value no_value)
+
+-- ---- lists and arrays
+
+-- an element of n bytes goes past the room that is left, or what is behind it is so
+abbrev pub in_room : Option ℕ → ℕ → Type 0 → (Option ℕ → Type 0) → Type 0
+in_room None n past behind = behind None
+in_room (Some m) n past behind = one_or_other (nat_lt m n) past (behind (Some (m - n)))
+
+-- of n elements one is refused, behind those before it, which are taken; or one of an array goes past the array's bytes
+abbrev pub element_refusal : (Item → Bool) → Refusing → Constructor → Option ℕ → PartsRefusing
+element_refusal takes refuses c room zero s e = ⊥
+element_refusal takes refuses c room (suc n) s e =
+    refuses c s e ⊎ FrontThen c takes (λ r. in_room room (length s - length r) (e ≡ InvalidValue) (λ left. element_refusal takes refuses c left n r e)) s
+
+-- a heading stands there, and what follows it is so
+pub record HeadingThen (later : Heading → List ℕ → Type 0) (c : Constructor) (s : List ℕ) : Type 0 where
+  pub heading : Heading
+  pub rest : List ℕ
+  pub header : (custom : Error) → item_at (seq_data custom) c s ≡ Ok (heading, rest)
+  pub behind : later heading rest
+
+-- a list or an array: by what stands in front of its elements, or by one of them
+unfoldable pub seq_refusal : (Item → Bool) → Refusing → Refusing
+seq_refusal takes refuses c s e =
+    ((custom : Error) → StandsFor custom e → item_at (seq_data custom) c s ≡ Err e)
+    ⊎ HeadingThen (λ h rest. element_refusal takes refuses h.stands h.room h.count rest e) c s
+
+-- an array, or any other item as its only element: by the code
+pub data ArrayRefused (takes : Item → Bool) (refuses : Refusing) (c : Constructor) (s : List ℕ) (e : Error) : Type 0 where
+  no_code : code_at c s ≡ Err e → ArrayRefused takes refuses c s e
+  of_array : (x : EncodingCodes) (rest : List ℕ) → code_at c s ≡ Ok (x, rest) → (row x).kind ≡ Kind.array → seq_refusal takes refuses c s e → ArrayRefused takes refuses c s e
+  of_one : (x : EncodingCodes) (rest : List ℕ) → code_at c s ≡ Ok (x, rest) → ((row x).kind ≡ Kind.array → ⊥) → refuses c s e → ArrayRefused takes refuses c s e
+
+abbrev pub array_refusal : (Item → Bool) → Refusing → Refusing
+array_refusal takes refuses = ArrayRefused takes refuses
 
 -- ---- structs whose fields have names
 

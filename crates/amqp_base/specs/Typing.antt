@@ -5,7 +5,7 @@ use Rattle.amqp_base.specs.SameKind.{same_kind}
 use Rattle.amqp_base.specs.Canon.{kind_of}
 use Rattle.amqp_base.specs.declared.shape.Setting.{Setting}
 use Rattle.amqp_base.specs.declared.shape.Setting.TheVariants.{Plain, Symbol, DescribedList, DescribedMap, DescribedBasic}
-use Rattle.amqp_base.specs.Item.{null, string, symbol, Item, scalar, list, Items, none, more}
+use Rattle.amqp_base.specs.Item.{null, string, symbol, Item, scalar, list, map, array, described, Items, none, more}
 
 -- a text: a symbol (1.6.21) under the symbol setting, else a string (1.6.20)
 abbrev pub text_item : List ℕ → Setting → Item
@@ -48,12 +48,27 @@ all_same same [] (w ∷ ws) = ⊥
 all_same same (v ∷ vs) [] = ⊥
 all_same same (v ∷ vs) (w ∷ ws) = same v w × all_same same vs ws
 
--- a list whose elements are taken
-abbrev pub is_list_of : (Item → Bool) → Item → Bool
-is_list_of takes (list is) = all_taken takes is
-is_list_of takes i = false
+-- a list or an array whose elements are taken
+abbrev pub is_seq_of : (Item → Bool) → Item → Bool
+is_seq_of takes (list is) = all_taken takes is
+is_seq_of takes (array is) = all_taken takes is
+is_seq_of takes i = false
 
--- a list whose elements mean the values
-abbrev pub means_list : {T : Type 0} → (Item → T → Type 0) → Item → List T → Type 0
-means_list means (list is) vs = all_mean means is vs
-means_list means i vs = ⊥
+-- a list or an array whose elements mean the values
+abbrev pub means_seq : {T : Type 0} → (Item → T → Type 0) → Item → List T → Type 0
+means_seq means (list is) vs = all_mean means is vs
+means_seq means (array is) vs = all_mean means is vs
+means_seq means i vs = ⊥
+
+-- an array whose elements are taken; any other item is an array's only element
+abbrev pub takes_array : (Item → Bool) → Item → Bool
+takes_array takes (array is) = all_taken takes is
+takes_array takes (list is) = takes (list is)
+takes_array takes (scalar v) = takes (scalar v)
+takes_array takes (map ps) = takes (map ps)
+takes_array takes (described d v) = takes (described d v)
+
+-- and its elements mean the values
+abbrev pub means_array : {T : Type 0} → (Item → T → Type 0) → Item → List T → Type 0
+means_array means (array is) vs = all_mean means is vs
+means_array means i vs = all_mean means (more i none) vs
