@@ -191,21 +191,25 @@ constructor_at custom s = byte_at s >>= λ b. constructor_behind custom b.0 b.1
 
 -- what stands in front of elements: how many they are, what they stand under, and how many bytes an array has for them
 pub record Heading : Type 0 where
+  pub of_array : Bool
   pub count : ℕ
   pub stands : Constructor
   pub room : Option ℕ
 
 -- the size covers the element constructor, of m bytes
 abbrev pub of_room : ℕ → ℕ → ℕ → ℕ → Constructor → List ℕ → Parsed Heading
-of_room w z m k c s = if nat_lt (z - w) m then Err InvalidLength else Ok (record { count = k; stands = c; room = Some ((z - w) - m) }, s)
+of_room w z m k c s = if nat_lt (z - w) m then Err InvalidLength else Ok (record { of_array = true; count = k; stands = c; room = Some ((z - w) - m) }, s)
 
--- elements that have constructors of their own
-abbrev pub plain_heading : ℕ → Heading
-plain_heading k = record { count = k; stands = bare; room = None }
+-- none of an array, or those of a list, which have constructors of their own
+abbrev pub empty_heading : Heading
+empty_heading = record { of_array = true; count = 0; stands = bare; room = None }
+
+abbrev pub list_heading : ℕ → Heading
+list_heading k = record { of_array = false; count = k; stands = bare; room = None }
 
 -- behind size and count: the spare bytes of an array without elements, else the element constructor
 abbrev pub elements_behind : Error → ℕ → ℕ → ℕ → List ℕ → Parsed Heading
-elements_behind custom w z zero s = bytes_at (z - w) s >>= λ b. Ok (plain_heading 0, b.1)
+elements_behind custom w z zero s = bytes_at (z - w) s >>= λ b. Ok (empty_heading, b.1)
 elements_behind custom w z (suc k) s = constructor_at custom s >>= λ c. of_room w z (length s - length c.1) (suc k) c.0 c.1
 
 unfoldable pub array_at : Error → ℕ → List ℕ → Parsed Heading
@@ -215,4 +219,4 @@ array_at custom w s = header_at w true s >>= λ h. elements_behind custom w h.0.
 unfoldable pub seq_data : Error → EncodingCodes → List ℕ → Parsed Heading
 seq_data custom Array8 s = array_at custom 1 s
 seq_data custom Array32 s = array_at custom 4 s
-seq_data custom e s = list_data e s >>= λ n. Ok (plain_heading n.0, n.1)
+seq_data custom e s = list_data e s >>= λ n. Ok (list_heading n.0, n.1)

@@ -15,8 +15,11 @@ pub mod MapHeaders
 pub mod Opening
 pub mod PartsRead
 pub mod Sequence
+pub mod Descriptors
+pub mod ArrayData
 pub mod Naming
 pub mod NamedParts
+pub mod NamedElements
 pub mod ReadParts
 pub mod Turns
 pub mod Pairs

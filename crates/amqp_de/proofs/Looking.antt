@@ -27,7 +27,7 @@ described_byte : any_code (row DescribedType).byte ≡ Ok DescribedType
 unfolding any_code row
 described_byte = refl
 
-any_again : (e : EncodingCodes) → any_code (row e).byte ≡ Ok e
+pub any_again : (e : EncodingCodes) → any_code (row e).byte ≡ Ok e
 any_again e = tell (code_again e)
   where
     tell : (code_of (row e).byte ≡ Some e) ⊎ (e ≡ DescribedType) → any_code (row e).byte ≡ Ok e
@@ -38,7 +38,7 @@ any_again e = tell (code_again e)
 pub same_byte : (d e : EncodingCodes) → (row d).byte ≡ (row e).byte → d ≡ e
 same_byte d e h = cc (any_again d, any_again e, h)
 
-any_none : (b : ℕ) → ((d : EncodingCodes) → (row d).byte ≡ b → ⊥) → any_code b ≡ Err InvalidFormatCode
+pub any_none : (b : ℕ) → ((d : EncodingCodes) → (row d).byte ≡ b → ⊥) → any_code b ≡ Err InvalidFormatCode
 unfolding any_code row
 any_none zero n = absurd (n DescribedType refl)
 any_none (suc b) n = tell (code_of (suc b)) refl

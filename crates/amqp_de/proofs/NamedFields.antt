@@ -56,7 +56,7 @@ module _ {T V : Type 0} (own : List ℕ) (takes : Item → Bool) (means : Item �
   behind_picked (Some y) s t name old new h f = record { behind = ap (and_before false) f.behind; names = ap (λ (ns : List (List ℕ)). own ∷ ns) f.names; part = part_as (λ i k. k) f.part }
   behind_picked None s t name old new h f = record { behind = rw h (ap (and_before true) f.behind); names = ap (λ (ns : List (List ℕ)). own ∷ ns) f.names; part = part_as (λ i k. rw h k) f.part }
 
-  pub own_named : {r : Refusing} {rs : List {1} Refusing} {grows : Bool} (value : Option T) (s : Slots V) (name : List ℕ) (buffers : Bool) (old new : Listing) (e : Error) → awaits own value name ≡ true → TurnNamed ValueNext r grows buffers old new e → FieldNamed name (slot own takes means value s) (r ∷ rs) buffers old new e
+  pub own_named : {r : Refusing} {rs : List {1} Refusing} {grows : Bool} (value : Option T) (s : Slots V) (name : List ℕ) (buffers : Bool) (old new : Listing) (e : Error) → awaits own value name ≡ true → TurnNamed ValueNext takes r grows buffers old new e → FieldNamed name (slot own takes means value s) (r ∷ rs) buffers old new e
   own_named (Some y) s name buffers old new e h n = absurd cc
   own_named {r} {rs} {grows} None s name buffers old new e h n = record { why = λ t l a z at f. tell z (part_told old new new.state e (λ rest. r bare rest e) l a refl (λ rest p. p) (n.part t) z at f) }
     where
@@ -122,7 +122,7 @@ module _ (names : List (List ℕ)) (takes : List (Item → Bool)) (refuses : Lis
 
   module _ (buffers : Bool) (old last : Decoding) (e : Error) {from : Listing} (x : OpensExactly map_data old from) where
     pub key_named : {text : List ℕ} {grows : Bool} (awaited first : List Bool) (now next : Listing) → Takes old.reading now.state.reading text → Reaches (fields_refusal names takes refuses first) (fields_refusal names takes refuses awaited) from now → now.state.ended ≡ false → KeyNext now → 0 < now.left
-        → last.reading ≡ next.state.reading → TurnNamed KeyNext (scalar_refusal Kind.string) grows buffers now next e → Named (opened_refusal map_data (fields_refusal names takes refuses first)) true buffers old last e
+        → last.reading ≡ next.state.reading → TurnNamed KeyNext (is_of Kind.string) (scalar_refusal Kind.string) grows buffers now next e → Named (opened_refusal map_data (fields_refusal names takes refuses first)) true buffers old last e
     key_named awaited first now next step r a turn some same n =
         refused_behind map_data (fields_refusal names takes refuses first) true buffers old last e from now (λ _. refl) x step r
         (part_told now next last e (λ rest. fields_refusal names takes refuses awaited now.left rest e) r.plain a same (λ rest p. name_here awaited now.left rest e some turn p) (n.part turn))

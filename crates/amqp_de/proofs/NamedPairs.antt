@@ -40,14 +40,14 @@ module _ (key : Item → Bool) (keys : Refusing) (value : Item → Bool) (values
   module _ (buffers : Bool) (old last : Decoding) (e : Error) (from : Listing) (o : Opens HasPairs old from) (x : OpensExactly map_data old from) where
     -- a part of the map was refused
     part_of_map : (first : Item → Bool) (firsts : Refusing) (second : Item → Bool) (seconds : Refusing) {grows : Bool} {is : Items} {f : Listing} (now next : Listing) → Opens HasPairs old f → PartsRead f is now → Reaches (turn_refusal key keys value values) (turn_refusal first firsts second seconds) from now
-        → 0 < now.left → last.reading ≡ next.state.reading → PartNamed firsts grows buffers now next e → Named (map_refusal key keys value values) true buffers old last e
+        → 0 < now.left → last.reading ≡ next.state.reading → PartNamed first firsts grows buffers now next e → Named (map_refusal key keys value values) true buffers old last e
     part_of_map first firsts second seconds now next p reads r some same n =
         refused_behind map_data (turn_refusal key keys value values) true buffers old last e from now (λ _. refl) x (taken_since p reads) r
         (part_told now next last e (λ rest. turn_refusal first firsts second seconds now.left rest e) r.plain reads.not_ended same (λ rest q. turned first firsts second seconds now.left rest e some q) n)
 
     -- a pair was refused
     pub pair_named : {K : Type 0} {km : Item → K → Type 0} {kg vg : Bool} {pairs : Pairs} (now next : Listing) → PairsRead old key value pairs now → Reaches (turn_refusal key keys value values) (turn_refusal key keys value values) from now
-        → (0 < now.left) → last.reading ≡ next.state.reading → EntryTurnNamed key km keys values kg vg buffers now next e → Named (map_refusal key keys value values) true buffers old last e
+        → (0 < now.left) → last.reading ≡ next.state.reading → EntryTurnNamed key value km keys values kg vg buffers now next e → Named (map_refusal key keys value values) true buffers old last e
     pair_named now next s r some same (key_named n) = part_of_map key keys value values now next s.opened s.reads r some same (n.part s.turn)
     pair_named {pairs = pairs} now next s r some same (value_named k mid p n) =
         let more = key_more key value old pairs now mid s p.0 in

@@ -1,16 +1,16 @@
 -- Refusals by name, of what is read part by part.
-use Rattle.std.proofs.Common.{◌≡◌, ℕ, zero, suc, ◌<◌, Bool, true, IsTrue, List, ◌++◌, Option, Some, None, Ok, Err, refl, subst, ◌∙◌, arith, inl, inr, ◌⊎◌, false}
+use Rattle.std.proofs.Common.{◌≡◌, ℕ, zero, suc, ◌+◌, ◌<◌, Bool, true, IsTrue, List, ◌++◌, length, Option, Some, None, Ok, Err, refl, subst, ◌∙◌, arith, inl, inr, ◌⊎◌, false}
 use Rattle.amqp_base.specs.declared.error.Error.{Error}
 use Rattle.amqp_base.specs.declared.error.Error.TheVariants.{OutOfMemory}
 use Rattle.amqp_base.specs.declared.format_code.EncodingCodes.{EncodingCodes}
 use Rattle.amqp_base.specs.Item.{Item, Items}
 use Rattle.amqp_base.specs.Wire.{Constructor, bare, Wire, lenient}
-use Rattle.amqp_base.specs.Parse.{Parsed, item_at, list_data}
-use Rattle.amqp_base.specs.Refusing.{Refusing, HeaderThen, PartsRefusing, opened_refusal, part_refusal, list_refusal}
+use Rattle.amqp_base.specs.Parse.{Parsed, item_at}
+use Rattle.amqp_base.specs.Refusing.{Refusing, HeaderThen, PartsRefusing, opened_refusal}
 use Rattle.amqp_read.specs.Reading.{Takes}
 use Rattle.amqp_de.specs.Decoding.{Decoding, stands_under}
 use Rattle.amqp_de.specs.Law.{Excused, Named, no_memory}
-use Rattle.amqp_de.specs.Access.{Listing, HasParts, Opens, OpensExactly, OpensNot, Part, PartNamed, Passes, Plain, NoEnd}
+use Rattle.amqp_de.specs.Access.{Listing, Within, Opens, OpensExactly, OpensNot, Part, PartNamed, PassesEnd, Plain, NoEnd}
 use Rattle.amqp_de.specs.ReadParts.{PartsRead}
 use Rattle.amqp_de.proofs.PartsRead.{end_refused}
 use Rattle.amqp_de.proofs.Readings.{takes_then, behind, excused_before, excused_more}
@@ -42,13 +42,13 @@ reaches_on whole left after from now next r p more = record {
 }
 
 -- what a part is refused as
-pub part_told : {refuses : Refusing} {grows buffers : Bool} (now next : Listing) (last : Decoding) (e : Error) (P : List ℕ → Type 0) → Plain now → now.state.ended ≡ false → last.reading ≡ next.state.reading → ((rest : List ℕ) → refuses bare rest e → P rest)
-    → PartNamed refuses grows buffers now next e → (rest : List ℕ) → now.state.reading.to_come ≡ Some rest → IsTrue now.state.reading.honest → P rest ⊎ Excused grows buffers now.state.reading last.reading e
-part_told {refuses} {grows} {buffers} now next last e P l a same here n rest at h = tell (n.why a rest at h)
+pub part_told : {takes : Item → Bool} {refuses : Refusing} {grows buffers : Bool} (now next : Listing) (last : Decoding) (e : Error) (P : List ℕ → Type 0) → Plain now → now.state.ended ≡ false → last.reading ≡ next.state.reading → ((rest : List ℕ) → refuses bare rest e → P rest)
+    → PartNamed takes refuses grows buffers now next e → (rest : List ℕ) → now.state.reading.to_come ≡ Some rest → IsTrue now.state.reading.honest → P rest ⊎ Excused grows buffers now.state.reading last.reading e
+part_told {takes} {refuses} {grows} {buffers} now next last e P l a same here n rest at h = tell (n.why a rest at h)
   where
-    tell : (refuses (stands_under now.state) rest e ⊎ Passes now.limit e) ⊎ Excused grows buffers now.state.reading next.state.reading e → P rest ⊎ Excused grows buffers now.state.reading last.reading e
+    tell : (refuses (stands_under now.state) rest e ⊎ PassesEnd takes now rest e) ⊎ Excused grows buffers now.state.reading next.state.reading e → P rest ⊎ Excused grows buffers now.state.reading last.reading e
     tell (inl (inl p)) = inl (here rest (subst (λ (c : Constructor). refuses c rest e) (stands_bare now.state l.inherited) p))
-    tell (inl (inr p)) = let q : Passes None e = subst (λ (m : Option ℕ). Passes m e) l.limit p in absurd q
+    tell (inl (inr p)) = let w : Within now.limit (now.state.reading.taken + length p.text) = rw l.limit tt in absurd (p.past w)
     tell (inr y) = inr (rw same y)
 
 module _ (parse : EncodingCodes → List ℕ → Parsed ℕ) (whole : PartsRefusing) (grows buffers : Bool) (old last : Decoding) (e : Error) where
@@ -90,28 +90,3 @@ no_end {parts = parts} refuses grows buffers old last e from now o so_far z n = 
 -- since `old`
 pub taken_since : {Has : Item → Items → Type 0} {old : Decoding} {from now : Listing} {parts : Items} (o : Opens Has old from) (r : PartsRead from parts now) → Takes old.reading now.state.reading (o.text ++ r.text)
 taken_since {old = old} {from = from} {now = now} o r = takes_then old.reading from.state.reading now.state.reading o.text r.text o.step r.step
-
--- ---- lists
-
-module _ (takes : Item → Bool) (refuses : Refusing) where
-  pub reaches_step : {means : Item → Type 0} (from now next : Listing) → Reaches (part_refusal takes refuses) (part_refusal takes refuses) from now → Part takes means now next → Reaches (part_refusal takes refuses) (part_refusal takes refuses) from next
-  reaches_step from now next r p = reaches_on (part_refusal takes refuses) (part_refusal takes refuses) (part_refusal takes refuses) from now next r p (λ w rest e q. inr (record {
-    item = p.front.item;
-    text = p.front.text;
-    rest = rest;
-    spelled = w;
-    taken = p.front.taken;
-    split = refl;
-    behind = q;
-  }))
-
-  -- a part was refused here
-  here : (n : ℕ) (s : List ℕ) (e : Error) → 0 < n → refuses bare s e → part_refusal takes refuses n s e
-  here zero s e l p = absurd (omega (arith, l))
-  here (suc n) s e l p = inl p
-
-  pub list_part : {grows : Bool} {parts : Items} (buffers : Bool) (old last : Decoding) (e : Error) (from now next : Listing) → Opens HasParts old from → OpensExactly list_data old from → PartsRead from parts now
-      → Reaches (part_refusal takes refuses) (part_refusal takes refuses) from now → 0 < now.left → PartNamed refuses grows buffers now next e → last.reading ≡ next.state.reading → Named (list_refusal takes refuses) true buffers old last e
-  list_part buffers old last e from now next o x so_far r some n same =
-      refused_behind list_data (part_refusal takes refuses) true buffers old last e from now (λ _. refl) x (taken_since o so_far) r
-      (part_told now next last e (λ rest. part_refusal takes refuses now.left rest e) r.plain so_far.not_ended same (λ rest p. here now.left rest e some p) n)

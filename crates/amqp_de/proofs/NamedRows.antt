@@ -24,7 +24,7 @@ module _ {t : Item → Bool} {r : Refusing} {bs : List Bool} {ts : List (Item �
       tell s (inr y) = inr (excused_more old.state.reading last.reading e g y)
 
   -- its element was refused
-  pub element_refused : (next : Listing) → (IsTrue a → IsTrue b) → last.reading ≡ next.state.reading → PartNamed r a buffers old next e → ElementsNamed (true ∷ bs) (t ∷ ts) (r ∷ rs) b buffers old last e
+  pub element_refused : (next : Listing) → (IsTrue a → IsTrue b) → last.reading ≡ next.state.reading → PartNamed t r a buffers old next e → ElementsNamed (true ∷ bs) (t ∷ ts) (r ∷ rs) b buffers old last e
   element_refused next g same n = record {
     why = λ l x k s at h. tell s (part_told old next last e (λ rest. r bare rest e) l x same (λ rest p. p) n s at h);
   }

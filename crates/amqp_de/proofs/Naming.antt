@@ -8,15 +8,15 @@ use Rattle.amqp_base.specs.Codes.{Kind, row}
 use Rattle.amqp_base.specs.SameKind.{same_kind, place}
 use Rattle.amqp_base.specs.Value.{payload, read}
 use Rattle.std.proofs.lemmas.Bool.{le-ltb}
-use Rattle.amqp_base.specs.Item.{null}
+use Rattle.amqp_base.specs.Item.{null, Item}
 use Rattle.amqp_base.specs.Wire.{Constructor}
 use Rattle.amqp_base.specs.Parse.{Parsed, ◌>>=◌, byte_under, any_code, with_rest, behind_byte, item_at, code_at, data_at}
 use Rattle.amqp_base.specs.Refusing.{Refusing, any_refusal, scalar_refusal, option_refusal}
 use Rattle.amqp_de.specs.Decoding.{Decoding, stands_under, as_ended}
-use Rattle.amqp_de.specs.Law.{Excused, Named}
+use Rattle.amqp_de.specs.Law.{Excused, Found, Named}
 use Rattle.amqp_de.specs.Look.{Looks, LooksNot}
-use Rattle.amqp_de.specs.Access.{Listing, PartNamed, Passes, Within}
-use Rattle.amqp_de.proofs.Readings.{excused_more}
+use Rattle.amqp_de.specs.Access.{Listing, PartNamed, PassesEnd, Within}
+use Rattle.amqp_de.proofs.Readings.{behind, excused_more}
 use Rattle.amqp_de.proofs.Received.{keeps_known}
 use Rattle.amqp_de.proofs.LookedFirst.{excused_kept, same_place}
 use Rattle.amqp_de.proofs.ReadParts.{or_right}
@@ -105,17 +105,27 @@ named_dropped n = record { why = n.why }
 
 -- ---- a part of an access
 
--- a part goes past the end of its array
-pub passes : (l : Option ℕ) (t : ℕ) → (Within l t → ⊥) → Passes l InvalidValue
-passes None t h = absurd (h tt)
-passes (Some m) t h = refl
+-- a part that was read goes past the end of its array
+pub part_passes : {takes : Item → Bool} {means : Item → Type 0} (refuses : Refusing) (grows buffers : Bool) (old new : Listing) (last : Decoding) → Found takes means old.state last → (Within old.limit last.reading.taken → ⊥) → PartNamed takes refuses grows buffers old new InvalidValue
+part_passes refuses grows buffers old new last f h = record {
+  why = λ a s at q.
+      let o = f.front a in
+      let k = behind old.state.reading last.reading s o.text o.step at in
+      inl (inr (record {
+        item = o.item;
+        text = o.text;
+        rest = k.0;
+        spelled = o.spelled;
+        taken = o.taken;
+        split = k.2;
+        past = λ w. h (rw (← o.step.taken) at w);
+        named = refl;
+      }));
+}
 
-pub part_passes : (refuses : Refusing) (grows buffers : Bool) (old new : Listing) (t : ℕ) → (Within old.limit t → ⊥) → PartNamed refuses grows buffers old new InvalidValue
-part_passes refuses grows buffers old new t h = record { why = λ a s at f. inl (inr (passes old.limit t h)) }
-
-pub part_named : (refuses : Refusing) (grows buffers : Bool) (old new : Listing) (last : Decoding) (e : Error) → Named refuses grows buffers old.state last e → new.state.reading ≡ last.reading → PartNamed refuses grows buffers old new e
-part_named refuses grows buffers old new last e n same = record { why = λ a s at h. tell s (n.why a s at h) }
+pub part_named : {takes : Item → Bool} (refuses : Refusing) (grows buffers : Bool) (old new : Listing) (last : Decoding) (e : Error) → Named refuses grows buffers old.state last e → new.state.reading ≡ last.reading → PartNamed takes refuses grows buffers old new e
+part_named {takes = takes} refuses grows buffers old new last e n same = record { why = λ a s at h. tell s (n.why a s at h) }
   where
-    tell : (s : List ℕ) → refuses (stands_under old.state) s e ⊎ Excused grows buffers old.state.reading last.reading e → (refuses (stands_under old.state) s e ⊎ Passes old.limit e) ⊎ Excused grows buffers old.state.reading new.state.reading e
+    tell : (s : List ℕ) → refuses (stands_under old.state) s e ⊎ Excused grows buffers old.state.reading last.reading e → (refuses (stands_under old.state) s e ⊎ PassesEnd takes old s e) ⊎ Excused grows buffers old.state.reading new.state.reading e
     tell s (inl p) = inl (inl p)
     tell s (inr y) = inr (rw same y)

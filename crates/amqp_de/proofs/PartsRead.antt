@@ -177,7 +177,7 @@ missed_more {old = old} {last = last} {e = e} g m = record {
 }
 
 -- no item with parts was opened
-pub unopened : {Has : Item → Items → Type 0} {parse : EncodingCodes → List ℕ → Parsed ℕ} {grows buffers : Bool} {old last : Decoding} {e : Error} (takes : Item → Bool) (Taken : Items → Type 0) → ((i : Item) → IsTrue (takes i) → (is : Items) × Has i is × Taken is)
+pub unopened : {A : Type 0} {Has : Item → Items → Type 0} {parse : EncodingCodes → List ℕ → Parsed A} {grows buffers : Bool} {old last : Decoding} {e : Error} (takes : Item → Bool) (Taken : Items → Type 0) → ((i : Item) → IsTrue (takes i) → (is : Items) × Has i is × Taken is)
     → OpensNot Has parse grows buffers old last e → Missed takes grows buffers old last e
 unopened {old = old} takes Taken sorts o = record {
   why = λ a i text rest' w t at h. let p = sorts i t in o.why text rest' i p.0 p.1 w at h a;

@@ -10,8 +10,7 @@ use Rattle.amqp_base.specs.Parse.{item_at, list_data}
 use Rattle.amqp_de.specs.Access.{Listing, HasParts, Opens, OpensNot, Part, NoPart, AllRead, NoEnd, Ends, behind_end}
 use Rattle.amqp_de.specs.declared.list.Access.{Access}
 use Rattle.amqp_de.specs.declared.list.Open.{Open}
-use Rattle.amqp_de.specs.ReadParts.{open_list, Progress, MoreRead, RefusesElements, and_last, joined}
-use Rattle.amqp_de.proofs.Readings.{excused_more, rejects_more}
+use Rattle.amqp_de.specs.ReadParts.{open_list, Progress, MoreRead, and_last, joined}
 use Rattle.amqp_de.proofs.Weaker.{found_as}
 use Rattle.amqp_de.proofs.PartsRead as read
 use Rattle.amqp_de.proofs.PartsRead.{left_of, missed_more}
@@ -47,23 +46,6 @@ meant_fields ms (described d v) js p t = absurd p
 -- no list was opened
 pub fields_unopened : (fields : List (Item → Bool)) (grows buffers : Bool) (old last : Decoding) (e : Error) → OpensNot HasParts list_data grows buffers old last e → Missed (takes_fields fields) grows buffers old last e
 fields_unopened fields grows buffers old last e o = read.unopened (takes_fields fields) (λ is. IsTrue (all_fields fields is)) (parts_of_fields fields) o
-
--- lists take no memory, but other items may
-opens_not_more : (buffers : Bool) (old last : Decoding) (e : Error) → OpensNot HasParts list_data buffers buffers old last e → OpensNot HasParts list_data true buffers old last e
-opens_not_more buffers old last e o = record {
-  if_ended = o.if_ended;
-  rejects = λ a. rejects_more (item_at list_data (stands_under old)) old.reading last.reading e (λ _. refl) (o.rejects a);
-  why = λ t rest' i is p w at h a. excused_more old.reading last.reading e (λ _. refl) (o.why t rest' i is p w at h a);
-  steady = o.steady;
-  device = o.device;
-  memory = λ _. refl;
-  ended = o.ended;
-  few = o.few;
-}
-
-pub parts_refused : {A : Type 0} (buffers : Bool) (old last : Decoding) (r : Result A Error) → IfErr r (λ e. OpensNot HasParts list_data buffers buffers old last e) → IfErr r (λ e. RefusesElements buffers old last e)
-parts_refused buffers old last (Ok v) o = o
-parts_refused buffers old last (Err e) o = let m = opens_not_more buffers old last e o in record { not_opened = m; missed = λ fields. fields_unopened fields true buffers old last e m }
 
 pub progress_start : (old : Decoding) (l : Listing) → Opens HasParts old l → (all : List (Item → Bool)) → Progress old all all none l
 progress_start old l o all = record { from = l; opened = o; reads = read.parts_begun old l o; fields = λ js. refl }

@@ -13,7 +13,7 @@ use Rattle.amqp_base.specs.declared.error.Error.TheVariants.{InvalidValue, OutOf
 use Rattle.amqp_read.specs.Reading.{Reading, Takes}
 use Rattle.amqp_de.specs.Decoding.{Decoding, stands_under}
 use Rattle.amqp_de.specs.Law.{Front, Excused, Advances, Spent, free, refused_free}
-use Rattle.amqp_base.specs.Parse.{Parsed, item_at, list_data, least_size}
+use Rattle.amqp_base.specs.Parse.{Parsed, Heading, item_at, least_size, seq_data}
 use Rattle.amqp_de.specs.Look.{looked_at}
 use Rattle.amqp_de.specs.Steps.{Rejects}
 
@@ -40,13 +40,13 @@ HasParts (scalar v) js = ⊥
 HasParts (map ps) js = ⊥
 HasParts (described d v) js = ⊥
 
--- these are the item's elements: it is a list of them; arrays, which have elements too, aren't read yet
+-- the item is a list or an array of these elements
 abbrev pub HasElements : Item → Items → Type 0
-HasElements = HasParts
-
--- how many elements there are, by the data of the item's code
-abbrev pub elements_data : EncodingCodes → List ℕ → Parsed ℕ
-elements_data = list_data
+HasElements (list is) js = is ≡ js
+HasElements (array is) js = is ≡ js
+HasElements (scalar v) js = ⊥
+HasElements (map ps) js = ⊥
+HasElements (described d v) js = ⊥
 
 -- the item is a map of these keys and values, in turn
 abbrev pub HasPairs : Item → Items → Type 0
@@ -111,8 +111,20 @@ pub record Opens (Has : Item → Items → Type 0) (old : Decoding) (l : Listing
 pub record OpensExactly (parse : EncodingCodes → List ℕ → Parsed ℕ) (old : Decoding) (l : Listing) : Type 0 where
   pub exact : (s : List ℕ) → old.reading.to_come ≡ Some s → (rest : List ℕ) × (l.state.reading.to_come ≡ Some rest) × (item_at parse (stands_under old) s ≡ Ok (l.left, rest))
 
+-- the position at which so many bytes more will have been consumed
+abbrev pub limit_at : ℕ → Option ℕ → Option ℕ
+limit_at t None = None
+limit_at t (Some m) = Some (t + m)
+
+-- what stands in front of the elements of a list or an array is what the bytes say
+pub record OpensHeading (is_array : Bool) (old : Decoding) (l : Listing) : Type 0 where
+  pub room : Option ℕ
+  pub limit : l.limit ≡ limit_at l.state.reading.taken room
+  pub exact : (s : List ℕ) → old.reading.to_come ≡ Some s
+      → (rest : List ℕ) × (l.state.reading.to_come ≡ Some rest) × ((custom : Error) → item_at (seq_data custom) (stands_under old) s ≡ Ok (record { of_array = is_array; count = l.left; stands = l.state.inherited; room = room }, rest))
+
 -- no item with parts was begun
-pub record OpensNot (Has : Item → Items → Type 0) (parse : EncodingCodes → List ℕ → Parsed ℕ) (grows buffers : Bool) (old new : Decoding) (err : Error) : Type 0 where
+pub record OpensNot {A : Type 0} (Has : Item → Items → Type 0) (parse : EncodingCodes → List ℕ → Parsed A) (grows buffers : Bool) (old new : Decoding) (err : Error) : Type 0 where
   -- where it is ended the call changes nothing
   pub if_ended : IsTrue old.ended → (err ≡ InvalidValue) × (new ≡ old)
   pub rejects : old.ended ≡ false → Rejects grows buffers (item_at parse (stands_under old)) old.reading new.reading err
@@ -144,15 +156,21 @@ pub record NoPart (takes : Item → Bool) (grows buffers : Bool) (old new : List
   pub why : (i : Item) (text rest : List ℕ) → Wire lenient (stands_under old.state) text i → IsTrue (takes i) → old.state.reading.to_come ≡ Some (text ++ rest) → Within old.limit (old.state.reading.taken + length text)
       → IsTrue old.state.reading.honest → old.state.ended ≡ false → Excused grows buffers old.state.reading new.state.reading err
 
--- a part goes past the position at which the parts must have ended
-abbrev pub Passes : Option ℕ → Error → Type 0
-Passes None e = ⊥
-Passes (Some m) e = e ≡ InvalidValue
+-- a part that is taken goes past the position at which the parts must have ended
+pub record PassesEnd (takes : Item → Bool) (old : Listing) (s : List ℕ) (err : Error) : Type 0 where
+  pub item : Item
+  pub text : List ℕ
+  pub rest : List ℕ
+  pub spelled : Wire lenient (stands_under old.state) text item
+  pub taken : IsTrue (takes item)
+  pub split : s ≡ text ++ rest
+  pub past : Within old.limit (old.state.reading.taken + length text) → ⊥
+  pub named : err ≡ InvalidValue
 
 -- of known bytes a part is refused as its type refuses them, or as it goes past the end, but for the excuses
-pub record PartNamed (refuses : Refusing) (grows buffers : Bool) (old new : Listing) (err : Error) : Type 0 where
+pub record PartNamed (takes : Item → Bool) (refuses : Refusing) (grows buffers : Bool) (old new : Listing) (err : Error) : Type 0 where
   pub why : old.state.ended ≡ false → (s : List ℕ) → old.state.reading.to_come ≡ Some s → IsTrue old.state.reading.honest
-      → (refuses (stands_under old.state) s err ⊎ Passes old.limit err) ⊎ Excused grows buffers old.state.reading new.state.reading err
+      → (refuses (stands_under old.state) s err ⊎ PassesEnd takes old s err) ⊎ Excused grows buffers old.state.reading new.state.reading err
 
 -- the parts have constructors of their own, and may take any number of bytes
 pub record Plain (l : Listing) : Type 0 where

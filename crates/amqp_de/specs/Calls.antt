@@ -30,19 +30,19 @@ abbrev pub NextElement : {T : Type 0} → Meaning T → Bool → Listing → Res
 NextElement m buffers old r new = Next m.takes m.means (m.grows || buffers) buffers old r new
 
 abbrev pub ElementNamed : {T : Type 0} → Meaning T → Bool → Listing → Listing → Error → Type 0
-ElementNamed m buffers old new e = PartNamed m.refuses (m.grows || buffers) buffers old new e
+ElementNamed m buffers old new e = PartNamed m.takes m.refuses (m.grows || buffers) buffers old new e
 
 abbrev pub KeyAnswer : {K : Type 0} → Meaning K → Bool → Listing → Result (Option K) Error → Listing → Type 0
 KeyAnswer m buffers old r new = NextKey m.takes m.means (m.grows || buffers) buffers old r new
 
 abbrev pub KeyNamed : {K : Type 0} → Meaning K → Bool → Listing → Listing → Error → Type 0
-KeyNamed m buffers old new e = TurnNamed KeyNext m.refuses (m.grows || buffers) buffers old new e
+KeyNamed m buffers old new e = TurnNamed KeyNext m.takes m.refuses (m.grows || buffers) buffers old new e
 
 abbrev pub ValueNamed : {V : Type 0} → Meaning V → Bool → Listing → Listing → Error → Type 0
-ValueNamed m buffers old new e = TurnNamed ValueNext m.refuses (m.grows || buffers) buffers old new e
+ValueNamed m buffers old new e = TurnNamed ValueNext m.takes m.refuses (m.grows || buffers) buffers old new e
 
 abbrev pub EntryNamed : {K V : Type 0} → Meaning K → Meaning V → Bool → Listing → Listing → Error → Type 0
-EntryNamed k v buffers old new e = EntryTurnNamed k.takes k.means k.refuses v.refuses (k.grows || buffers) (v.grows || buffers) buffers old new e
+EntryNamed k v buffers old new e = EntryTurnNamed k.takes v.takes k.means k.refuses v.refuses (k.grows || buffers) (v.grows || buffers) buffers old new e
 
 abbrev pub ValueAnswer : {V : Type 0} → Meaning V → Bool → Listing → Result V Error → Listing → Type 0
 ValueAnswer m buffers old r new = NextValue m.takes m.means (m.grows || buffers) buffers old r new

@@ -13,3 +13,5 @@ pub mod ReadFields
 pub mod Forms
 pub mod OneCode
 pub mod Decimals
+pub mod Arrays
+pub mod Openings

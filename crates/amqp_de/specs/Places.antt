@@ -21,3 +21,8 @@ constructor_of (UnderPair d e) = under_pair (descriptor_of d) e
 abbrev pub limit_of : Option Limit → Option ℕ
 limit_of None = None
 limit_of (Some l) = Some (l.start + l.room)
+
+-- how many bytes are left for them
+abbrev pub room_of : Option Limit → Option ℕ
+room_of None = None
+room_of (Some l) = Some l.room

@@ -57,13 +57,13 @@ NextEntry key value means_key means_value grows_key grows_value buffers old (Ok 
 NextEntry key value means_key means_value grows_key grows_value buffers old (Err e) new = NoEntry key value means_key grows_key grows_value buffers old new e
 
 -- Of known bytes a key or a value whose turn it is is refused as its type refuses it.
-pub record TurnNamed (Turn : Listing → Type 0) (refuses : Refusing) (grows buffers : Bool) (old new : Listing) (e : Error) : Type 0 where
-  pub part : Turn old → PartNamed refuses grows buffers old new e
+pub record TurnNamed (Turn : Listing → Type 0) (takes : Item → Bool) (refuses : Refusing) (grows buffers : Bool) (old new : Listing) (e : Error) : Type 0 where
+  pub part : Turn old → PartNamed takes refuses grows buffers old new e
 
 -- and of a pair its key, or the value behind a key
-pub data EntryTurnNamed {K : Type 0} (key : Item → Bool) (means_key : Item → K → Type 0) (refuses_key refuses_value : Refusing) (grows_key grows_value buffers : Bool) (old new : Listing) (e : Error) : Type 0 where
-  key_named : TurnNamed KeyNext refuses_key grows_key buffers old new e → EntryTurnNamed key means_key refuses_key refuses_value grows_key grows_value buffers old new e
-  value_named : (k : K) (mid : Listing) → NextKey key means_key grows_key buffers old (Ok (Some k)) mid → TurnNamed ValueNext refuses_value grows_value buffers mid new e → EntryTurnNamed key means_key refuses_key refuses_value grows_key grows_value buffers old new e
+pub data EntryTurnNamed {K : Type 0} (key value : Item → Bool) (means_key : Item → K → Type 0) (refuses_key refuses_value : Refusing) (grows_key grows_value buffers : Bool) (old new : Listing) (e : Error) : Type 0 where
+  key_named : TurnNamed KeyNext key refuses_key grows_key buffers old new e → EntryTurnNamed key value means_key refuses_key refuses_value grows_key grows_value buffers old new e
+  value_named : (k : K) (mid : Listing) → NextKey key means_key grows_key buffers old (Ok (Some k)) mid → TurnNamed ValueNext value refuses_value grows_value buffers mid new e → EntryTurnNamed key value means_key refuses_key refuses_value grows_key grows_value buffers old new e
 
 -- one more pair behind these
 abbrev pub and_pair : Pairs → Item → Item → Pairs

@@ -8,10 +8,12 @@ use Rattle.amqp_base.specs.Fields.{all_fields, takes_fields}
 use Rattle.amqp_read.specs.Reading.{Takes}
 use Rattle.amqp_de.specs.Decoding.{Decoding, stands_under}
 use Rattle.amqp_de.specs.Law.{Missed}
-use Rattle.amqp_base.specs.Parse.{item_at, tuple_data}
+use Rattle.amqp_base.specs.Parse.{item_at, tuple_data, seq_data}
+use Rattle.amqp_base.specs.Refusals.{StandsFor}
+use Rattle.amqp_base.specs.Typing.{is_seq_of}
 use Rattle.amqp_de.specs.Steps.{Rejects}
 use Rattle.amqp_de.specs.Seq.{listing, seq_listing}
-use Rattle.amqp_de.specs.Access.{Listing, Within, HasParts, HasElements, elements_data, Opens, OpensNot, items_of_all, cost}
+use Rattle.amqp_de.specs.Access.{Listing, Within, HasParts, HasElements, Opens, OpensNot, items_of_all, cost}
 use Rattle.amqp_de.specs.declared.list.Access.{Access}
 use Rattle.amqp_de.specs.declared.list.Open.{Open}
 use Rattle.amqp_de.specs.declared.seq.SeqAccess.{SeqAccess}
@@ -65,10 +67,10 @@ pub record MoreRead (old : Decoding) (all rest : List (Item → Bool)) (parts : 
   pub meant : means item
   pub more : Progress old all rest (and_last parts item) now
 
--- no item with elements was opened: so a list of any fields is missed
+-- no list and no array was opened: so one of any elements is missed
 pub record RefusesElements (buffers : Bool) (old last : Decoding) (e : Error) : Type 0 where
-  pub not_opened : OpensNot HasElements elements_data true buffers old last e
-  pub missed : (fields : List (Item → Bool)) → Missed (takes_fields fields) true buffers old last e
+  pub not_opened : (custom : Error) → StandsFor custom e → OpensNot HasElements (seq_data custom) true buffers old last e
+  pub missed : (takes : Item → Bool) → Missed (is_seq_of takes) true buffers old last e
 
 -- no list of just so many parts was opened: so one of as many fields is missed, and want of memory is no excuse
 pub record NoTuple (len : ℕ) (buffers : Bool) (old last : Decoding) (e : Error) : Type 0 where

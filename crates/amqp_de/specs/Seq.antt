@@ -18,7 +18,9 @@ listing a = at_open a.de.now a.inner
 
 abbrev pub seq_listing : {X : Type 0} → SeqAccess X → Listing
 seq_listing (seq.List a) = listing a
+seq_listing (seq.Array a) = listing a
 
 -- the deserializer that the access borrows
 abbrev pub lender_of : {X : Type 0} → SeqAccess X → MutBor (Deserializer X)
 lender_of (seq.List a) = a.de
+lender_of (seq.Array a) = a.de

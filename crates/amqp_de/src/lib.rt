@@ -2,6 +2,7 @@
 #![tactic(auto, unfolding(crate::specs::ReadParts::open_list, crate::specs::ReadParts::open_seq))]
 
 mod any;
+mod array;
 mod chosen;
 mod constructor;
 mod decimals;
@@ -31,5 +32,5 @@ pub use deserialize::Deserialize;
 pub use deserializer::Deserializer;
 pub use fields::{Field, Fields};
 pub use list::{Access, Ended, ListAccess, MapAccess};
-pub use seq::SeqAccess;
+pub use seq::{ArrayAccess, SeqAccess};
 pub use structs::StructAccess;

@@ -100,7 +100,7 @@ impl Leaf for AsString {
 }
 
 #[derive(Drop)]
-struct AsSymbol(Global);
+pub(crate) struct AsSymbol(pub(crate) Global);
 
 impl Leaf for AsSymbol {
     ghost use Rattle.std.specs.Prelude.{true, refl, string_bytes};

@@ -1,55 +1,122 @@
 //! Sequences, in whichever form they stand.
 
-ghost use Rattle.std.specs.Prelude.{◌≡◌, Ok, Err, IfOk, IfErr};
+ghost use Rattle.std.specs.Prelude.{◌≡◌, ◌+◌, Ok, Err, IfOk, IfErr};
 ghost use Rattle.std.specs.Borrow.{sem, RestsIfErr};
-ghost use Rattle.amqp_de.specs.Access.{HasElements, elements_data, Ends, Opens, OpensExactly};
-ghost use Rattle.amqp_de.specs.Access.{Plain};
+ghost use Rattle.amqp_de.specs.Access.{Ends, shared_by};
 ghost use Rattle.amqp_de.specs.Decoding.{as_ended};
+ghost use Rattle.amqp_de.specs.Openings.{OpensElements, OpensEither, OpensSeq, is_array};
+ghost use Rattle.amqp_de.specs.Places.{constructor_of};
 ghost use Rattle.amqp_de.specs.ReadParts.{RefusesElements, open_list, open_seq};
 ghost use Rattle.amqp_de.specs.Seq.{lender_of, seq_listing, at_open};
 ghost use Rattle.amqp_de.specs.contracts.deserializer.Deserializer.{the_row};
 ghost use Rattle.amqp_de.specs.Calls.{NextElement};
 
+use crate::array::{Heading, seq_heading};
+use crate::constructor::Constructor;
 use crate::list::{Access, Elements, Ended, ListAccess, Open};
 use crate::{Deserialize, Deserializer};
 use amqp_base::Error;
 use amqp_read::Read;
 use std::alloc::Global;
+use std::mem;
 
-/// The parts of a sequence, in the form that the item has. Where the access is dropped before its
-/// `end`, its deserializer is ended.
+/// The elements of an array (part 1, section 1.6.24), one at a time.
+pub type ArrayAccess<'a, R> = Access<'a, R, Elements>;
+
+/// The elements of a sequence, in the form that the item has. Where the access is dropped before
+/// its `end`, its deserializer is ended.
 #[derive(Drop)]
 pub enum SeqAccess<'a, R: Read> {
     /// The item is a list.
     List(ListAccess<'a, R>),
+    /// The item is an array.
+    Array(ArrayAccess<'a, R>),
+}
+
+/// What was opened.
+#[derive(Drop)]
+pub(crate) enum OpenedSeq {
+    List(Open),
+    Array(Open),
 }
 
 impl<R: Read> Deserializer<R> {
-    /// Begins an item with elements: its header is consumed.
+    /// Counts the descriptor that the elements of an array share.
     #[inline(always)]
-    fn open_elements(&mut self) -> Result<Open, Error>
-        ensures ok { IfOk result (λ o. Opens HasElements self.old (at_open self.new o)) }
-        ensures exact { IfOk result (λ o.
-            OpensExactly elements_data self.old (at_open self.new o)) }
-        ensures plain { IfOk result (λ o. Plain (at_open self.new o)) }
+    fn share(&mut self, stands: &Constructor)
+        ensures { self.new ≡ record self.old {
+          begun = self.old.begun + shared_by (constructor_of stands.now);
+        } }
+    {
+        match stands {
+            Constructor::UnderPair(_, _) => self.begun.tick(),
+            _ => {}
+        }
+    }
+
+    /// Begins a list or an array: its header, and an array's element constructor, are consumed.
+    #[inline(always)]
+    fn open_either(&mut self, alloc: Global) -> Result<OpenedSeq, Error>
+        ensures ok { IfOk result (λ o. OpensSeq self.old self.new o) }
         ensures err { IfErr result (λ e. RefusesElements R.buffers self.old self.new e) }
     {
-        self.open_list()
+        if self.ended {
+            return Err(Error::InvalidValue);
+        }
+        match self.begin() {
+            Ok(code) => match seq_heading(alloc, &mut self.reader, code) {
+                Ok(heading) => {
+                    self.ended = false;
+                    self.share(&heading.stands);
+                    let Heading {
+                        is_array,
+                        left,
+                        stands,
+                        limit,
+                    } = heading;
+                    let open = Open {
+                        left,
+                        outer: mem::replace(&mut self.inherited, stands),
+                        limit,
+                    };
+                    if is_array {
+                        return Ok(OpenedSeq::Array(open));
+                    }
+                    Ok(OpenedSeq::List(open))
+                }
+                Err(e) => Err(e),
+            },
+            Err(e) => Err(e),
+        }
+    }
+
+    /// Begins a list or an array.
+    #[inline(always)]
+    fn open_elements(&mut self, alloc: Global) -> Result<Open, Error>
+        ensures ok { IfOk result (λ o. OpensEither self.old (at_open self.new o)) }
+        ensures err { IfErr result (λ e. RefusesElements R.buffers self.old self.new e) }
+    {
+        match self.open_either(alloc) {
+            Ok(OpenedSeq::List(open)) => Ok(open),
+            Ok(OpenedSeq::Array(open)) => Ok(open),
+            Err(e) => Err(e),
+        }
     }
 
     /// The elements of a sequence, whichever form it has.
     #[inline(always)]
     #[tactic(auto, unfolding(crate::specs::ReadParts::open_list))]
-    pub(crate) fn deserialize_elements(&mut self) -> Result<ListAccess<'_, R>, Error>
+    pub(crate) fn deserialize_elements(
+        &mut self,
+        alloc: Global,
+    ) -> Result<ListAccess<'_, R>, Error>
         ensures* refused { sem 𝓛 (RestsIfErr (the_row R.row R.Read) self.entry (λ a.
             a.de.ghost_name) result (λ last.
             IfErr result (λ e. RefusesElements R.buffers self.old last e))) }
         ensures same_reference { IfOk result (λ a. a.de.ghost_name ≡ self.entry.ghost_name) }
-        ensures opened { IfOk result (λ a. Opens HasElements self.old (open_list a)) }
-        ensures exact { IfOk result (λ a. OpensExactly elements_data self.old (open_list a)) }
-        ensures plain { IfOk result (λ a. Plain (open_list a)) }
+        ensures opened { IfOk result (λ a. OpensEither self.old (open_list a)) }
     {
-        let opened = self.open_elements()?;
+        let opened = self.open_elements(alloc)?;
         Ok(Access {
             de: self,
             inner: opened,
@@ -57,13 +124,20 @@ impl<R: Read> Deserializer<R> {
         })
     }
 
-    /// Opens a list (part 1, sections 1.6.22 to 1.6.24): its code, size and count are consumed. The
-    /// size is not compared with the bytes that are there.
+    /// Opens a list or an array (part 1, sections 1.6.22 to 1.6.24): its code, size and count are
+    /// consumed, and an array's element constructor, which its elements stand under then. The size
+    /// of a list is not compared with the bytes that are there. Of an array without elements the
+    /// bytes that its size says are consumed, whatever they are.
     ///
     /// In this order: `Io(UnexpectedEof)` where there is no byte, `InvalidFormatCode` where it is
-    /// no list's code, `Io(UnexpectedEof)` where size or count are missing, `InvalidValue` where
-    /// the count is above 65,536, `InvalidLength` where the size doesn't cover the count's own
-    /// bytes. A refusal ends the deserializer.
+    /// no list's or array's code, `Io(UnexpectedEof)` where size or count are missing,
+    /// `InvalidValue` where the count is above 65,536 or above an array's size, `InvalidLength`
+    /// where the size doesn't cover the count's own bytes and, in an array with elements, a byte
+    /// more. Then the element constructor: `Io(UnexpectedEof)` where bytes are missing,
+    /// `InvalidFormatCode` where a byte is no code, `Message` where a descriptor is neither a
+    /// symbol nor an ulong, `InvalidUtf8Encoding` where a symbol isn't UTF-8, `OutOfMemory` where
+    /// it finds no memory, `InvalidLength` where the size doesn't cover the constructor. A refusal
+    /// ends the deserializer.
     #[inline(always)]
     pub fn deserialize_seq(&mut self, alloc: Global) -> Result<SeqAccess<'_, R>, Error>
         ensures* refused { sem 𝓛 (RestsIfErr (the_row R.row R.Read) self.entry (λ a.
@@ -71,16 +145,21 @@ impl<R: Read> Deserializer<R> {
             IfErr result (λ e. RefusesElements R.buffers self.old last e))) }
         ensures same_reference { IfOk result (λ a.
             (lender_of a).ghost_name ≡ self.entry.ghost_name) }
-        ensures opened { IfOk result (λ a. Opens HasElements self.old (open_seq a)) }
-        ensures exact { IfOk result (λ a. OpensExactly elements_data self.old (seq_listing a)) }
+        ensures opened { IfOk result (λ a. OpensElements (is_array a) self.old (open_seq a)) }
     {
-        let _ = alloc;
-        let inner = self.open_elements()?;
-        Ok(SeqAccess::List(Access {
-            de: self,
-            inner,
-            form: Elements,
-        }))
+        match self.open_either(alloc) {
+            Ok(OpenedSeq::List(inner)) => Ok(SeqAccess::List(Access {
+                de: self,
+                inner,
+                form: Elements,
+            })),
+            Ok(OpenedSeq::Array(inner)) => Ok(SeqAccess::Array(Access {
+                de: self,
+                inner,
+                form: Elements,
+            })),
+            Err(e) => Err(e),
+        }
     }
 }
 
@@ -98,6 +177,7 @@ impl<'a, R: Read> SeqAccess<'a, R> {
     {
         match self {
             SeqAccess::List(list) => list.next_element(alloc),
+            SeqAccess::Array(array) => array.next_element(alloc),
         }
     }
 
@@ -118,6 +198,7 @@ impl<'a, R: Read> SeqAccess<'a, R> {
     {
         match self {
             SeqAccess::List(list) => list.closed(),
+            SeqAccess::Array(array) => array.closed(),
         }
     }
 
@@ -131,6 +212,7 @@ impl<'a, R: Read> SeqAccess<'a, R> {
     {
         match self {
             SeqAccess::List(list) => list,
+            SeqAccess::Array(array) => array,
         }
     }
 }

@@ -102,7 +102,7 @@ impl Leaf for AsUint {
 }
 
 #[derive(Drop)]
-struct AsUlong;
+pub(crate) struct AsUlong;
 
 impl Leaf for AsUlong {
     ghost use Rattle.std.specs.Prelude.{false, refl};

@@ -3,9 +3,10 @@ use Rattle.std.proofs.lemmas.Result.{err_from_is_err_and}
 use Rattle.amqp_de.specs.Access.{Listing}
 use Rattle.amqp_de.specs.Seq.{listing}
 use Rattle.amqp_de.specs.ReadParts.{open_list}
-use Rattle.amqp_de.proofs.Sequence.{Sofar, sofar_start, sofar_step, none_opened, part_missed, push_missed, seq_found}
+use Rattle.amqp_de.proofs.Sequence.{Sofar, sofar_start, sofar_step, part_missed, push_missed, seq_found}
 use Rattle.amqp_de.proofs.Naming.{named_on}
-use Rattle.amqp_de.proofs.NamedParts.{reaches_start, reaches_step, unopened_as, list_part, no_room_as, no_end}
+use Rattle.amqp_de.proofs.NamedParts.{no_room_as, no_end}
+use Rattle.amqp_de.proofs.NamedElements.{seq_unopened, reach_start, reach_step, reach_named}
 use Rattle.amqp_de.proofs.ReadParts.{missed_on, missed_at, missed_dropped}
 use Rattle.amqp_de.proofs.deserialize.VecDeserialize.deserialize.Goals as goal
 
@@ -13,21 +14,21 @@ pub returns-in_err-access-clause-err : goal.returns-in_err-access-clause-err
 returns-in_err-access-clause-err g c =
     let p = err_from_is_err_and c.from_residual.result c.from_residual.ensures.1 in
     let d = rw c.in_err-access.was at c.deserialize_elements.follows.holds-at-none in
-    rw (p.1, p.2) (none_opened g.T.Typed.meaning.takes g.R.Read.buffers c.args.de.now _ _ d.not_opened)
+    rw (p.1, p.2) (d.missed g.T.Typed.meaning.takes)
 
 pub returns-in-Err-clause-err : goal.returns-in-Err-clause-err
 unfolding open_list
 returns-in-Err-clause-err g c =
-    missed_at _ _ (search rules) (missed_dropped (part_missed g.T.Typed.meaning.takes g.T.Typed.meaning.means g.R.Read.buffers c.args.de.now (listing c.in_ok-access.access) (listing c.items.access) c.items.items.items c.in_ok-access.ensures.opened c.items.invariant.sofar (g.T.Typed.meaning.grows || g.R.Read.buffers) (listing c.next_element.new.self) _ c.in-Err.ensures.next))
+    missed_at _ _ (search rules) (missed_dropped (part_missed g.T.Typed.meaning.takes g.T.Typed.meaning.means g.R.Read.buffers c.args.de.now (listing c.in_ok-access.access) (listing c.items.access) c.items.items.items c.in_ok-access.ensures.opened.1.opens c.items.invariant.sofar (g.T.Typed.meaning.grows || g.R.Read.buffers) (listing c.next_element.new.self) _ c.in-Err.ensures.next))
 
 pub items-init : goal.items-init
 unfolding open_list
 items-init g c =
-    let opened = c.in_ok-access.ensures.opened in
+    let opened = c.in_ok-access.ensures.opened.1.opens in
     record {
       same = refl;
       sofar = sofar_start g.T.Typed.meaning.takes g.T.Typed.meaning.means (listing c.in_ok-access.access) c.args.de.now c.in_ok-items.items.items opened c.in_ok-items.ensures.items;
-      reaches = reaches_start _ _ c.in_ok-access.ensures.plain;
+      reaches = reach_start g.T.Typed.meaning.takes g.T.Typed.meaning.refuses (listing c.in_ok-access.access);
     }
 
 pub items-preserved : goal.items-preserved
@@ -38,7 +39,7 @@ items-preserved g c =
     record {
       same = c.in-Ok.ensures.same_reference ∙ v.same;
       sofar = rw c.in_ok-push.ensures.items (sofar_step g.T.Typed.meaning.takes g.T.Typed.meaning.means (listing c.in_ok-access.access) _ _ _ c.in-Some.item v.sofar f.0);
-      reaches = reaches_step g.T.Typed.meaning.takes g.T.Typed.meaning.refuses _ _ _ v.reaches f.0;
+      reaches = reach_step g.T.Typed.meaning.takes g.T.Typed.meaning.refuses _ _ _ v.sofar.reads v.reaches f.0;
     }
 
 pub returns-clause-ok : goal.returns-clause-ok
@@ -46,7 +47,7 @@ unfolding open_list
 returns-clause-ok g c =
     let f = rw c.in_default.is at c.in-Ok.ensures.next in
     let s = subst (λ (l : Listing). Sofar g.T.Typed.meaning.takes g.T.Typed.meaning.means (listing c.in_ok-access.access) l c.items.items.items) (sym f.1) c.items.invariant.sofar in
-    seq_found g.T.Typed.meaning.takes g.T.Typed.meaning.means g.R.Read.buffers c.args.de.now (listing c.in_ok-access.access) (listing c.next_element.new.self) c.items.items.items c.in_ok-access.ensures.opened s c.items.items.items _ refl c.in_ok-end.ensures.ends.left (search rules)
+    seq_found g.T.Typed.meaning.takes g.T.Typed.meaning.means g.R.Read.buffers c.args.de.now (listing c.in_ok-access.access) (listing c.next_element.new.self) c.items.items.items c.in_ok-access.ensures.opened.1.opens s c.items.items.items _ refl c.in_ok-end.ensures.ends.left (search rules)
 
 -- no memory was there for an element
 pub returns-in_err-push-clause-err : goal.returns-in_err-push-clause-err
@@ -54,21 +55,21 @@ unfolding open_list
 returns-in_err-push-clause-err g c =
     let f = rw c.in-Some.is at c.in-Ok.ensures.next in
     let s = sofar_step g.T.Typed.meaning.takes g.T.Typed.meaning.means (listing c.in_ok-access.access) _ _ _ c.in-Some.item c.items.invariant.sofar f.0 in
-    missed_on _ _ _ c.from_residual-in_err-push.ensures.1 (search rules) (push_missed g.T.Typed.meaning.takes g.T.Typed.meaning.means g.R.Read.buffers _ _ (listing c.next_element.new.self) _ c.in_ok-access.ensures.opened s _ refl)
+    missed_on _ _ _ c.from_residual-in_err-push.ensures.1 (search rules) (push_missed g.T.Typed.meaning.takes g.T.Typed.meaning.means g.R.Read.buffers _ _ (listing c.next_element.new.self) _ c.in_ok-access.ensures.opened.1.opens s _ refl)
 
 -- ---- refusals by name
 
 pub returns-in_err-access-clause-named : goal.returns-in_err-access-clause-named
 returns-in_err-access-clause-named g c =
     let d = rw c.in_err-access.was at c.deserialize_elements.follows.holds-at-none in
-    named_on _ _ _ c.from_residual.ensures.1 refl (unopened_as _ _ true g.R.Read.buffers c.args.de.now _ _ (λ _. refl) d.not_opened)
+    named_on _ _ _ c.from_residual.ensures.1 refl (seq_unopened g.T.Typed.meaning.takes g.T.Typed.meaning.refuses g.R.Read.buffers c.args.de.now _ _ d)
 
 pub returns-in-Err-clause-named : goal.returns-in-Err-clause-named
 unfolding open_list
 returns-in-Err-clause-named g c =
     let v = c.items.invariant in
     let a = c.in_ok-access.ensures in
-    list_part g.T.Typed.meaning.takes g.T.Typed.meaning.refuses g.R.Read.buffers c.args.de.now _ _ _ _ _ a.opened a.exact v.sofar.reads v.reaches (c.in-Err.ensures.next.some_left v.sofar.reads.not_ended) c.in-Err.ensures.named (search rules)
+    reach_named g.T.Typed.meaning.takes g.T.Typed.meaning.refuses g.R.Read.buffers c.args.de.now _ _ _ _ _ a.opened v.sofar.reads v.reaches (c.in-Err.ensures.next.some_left v.sofar.reads.not_ended) c.in-Err.ensures.named (search rules)
 
 pub returns-in_err-push-clause-named : goal.returns-in_err-push-clause-named
 returns-in_err-push-clause-named g c = named_on _ _ _ c.from_residual-in_err-push.ensures.1 refl (no_room_as _ g.R.Read.buffers _ _)
@@ -79,4 +80,4 @@ returns-in_err-end-clause-named g c =
     let f = rw c.in_default.is at c.in-Ok.ensures.next in
     let s = subst (λ (l : Listing). Sofar g.T.Typed.meaning.takes g.T.Typed.meaning.means (listing c.in_ok-access.access) l c.items.items.items) (sym f.1) c.items.invariant.sofar in
     let a = c.in_ok-access.ensures in
-    named_on _ _ _ c.from_residual-in_err-end.ensures.1 (search rules) (no_end _ true g.R.Read.buffers c.args.de.now _ _ _ _ a.opened s.reads (search rules) c.in_err-end.ensures.ends)
+    named_on _ _ _ c.from_residual-in_err-end.ensures.1 (search rules) (no_end _ true g.R.Read.buffers c.args.de.now _ _ _ _ a.opened.1.opens s.reads (search rules) c.in_err-end.ensures.ends)

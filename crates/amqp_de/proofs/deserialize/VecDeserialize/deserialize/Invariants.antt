@@ -1,7 +1,6 @@
 use Rattle.std.proofs.Common.{◌≡◌}
 use Rattle.amqp_de.specs.Seq.{listing}
-use Rattle.amqp_base.specs.Refusing.{part_refusal}
-use Rattle.amqp_de.proofs.NamedParts.{Reaches}
+use Rattle.amqp_de.proofs.NamedElements.{Reach}
 use Rattle.amqp_de.proofs.Sequence.{Sofar}
 use Rattle.amqp_de.proofs.deserialize.VecDeserialize.deserialize.Given as goal
 
@@ -9,7 +8,7 @@ abbrev pub invariant-items : goal.invariant-items
 invariant-items g l = record {
   same : l.access.de.ghost_name ≡ l.initial.access.de.ghost_name;
   sofar : Sofar g.T.Typed.meaning.takes g.T.Typed.meaning.means (listing l.initial.access) (listing l.access) l.items.items;
-  reaches : Reaches (part_refusal g.T.Typed.meaning.takes g.T.Typed.meaning.refuses) (part_refusal g.T.Typed.meaning.takes g.T.Typed.meaning.refuses) (listing l.initial.access) (listing l.access);
+  reaches : Reach g.T.Typed.meaning.takes g.T.Typed.meaning.refuses (listing l.initial.access) (listing l.access);
 }
 
 abbrev pub decreases-items : goal.decreases-items

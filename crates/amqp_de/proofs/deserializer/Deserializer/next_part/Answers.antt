@@ -11,7 +11,7 @@ returns-then-not-within g c =
     let q = ap (λ (d : Decoding). d.ended) c.stop.ensures in
     let b = ap (λ (d : Decoding). d.begun) c.stop.ensures in
     let no = rw c.bytes_consumed-consumed.ensures at c.is_within-within.ensures.no c.if-not-within.true in
-    let named = part_passes g.T.Typed.meaning.refuses (g.T.Typed.meaning.grows || g.R.Read.buffers) g.R.Read.buffers _ _ _ no in
+    let named = part_passes g.T.Typed.meaning.refuses (g.T.Typed.meaning.grows || g.R.Read.buffers) g.R.Read.buffers _ _ c.deserialize.new.de c.in-Ok.ensures.ok no in
     record { named = named; next = over_long g.T.Typed.meaning.takes (λ i. g.T.Typed.meaning.means i c.in-Ok.item) (g.T.Typed.meaning.grows || g.R.Read.buffers) g.R.Read.buffers _ _ c.deserialize.new.de a (omega (arith, c.if-inner-eq0.false)) c.in-Ok.ensures.ok no q r b }
 
 -- the type's own refusal
