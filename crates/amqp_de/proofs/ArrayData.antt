@@ -29,7 +29,7 @@ use Rattle.amqp_de.specs.Openings.{OpensElements}
 use Rattle.amqp_de.proofs.Opening.{opened_state, opened_list, opens_under, heading_under}
 use Rattle.amqp_de.specs.Access.{Within, HasParts, HasElements, items_of_all, shared_by, cost, limit_at, OpensData, Header}
 use Rattle.amqp_de.specs.Arrays.{TakesConstructor, IsArray, Heads, heading_of}
-use Rattle.amqp_de.specs.declared.array.Heading.{Heading as OwnHeading}
+use Rattle.amqp_de.specs.declared.heading.Heading.{Heading as OwnHeading}
 use Rattle.amqp_de.proofs.Readings.{takes_then, behind, onward, rejects_then, rejects_here, rejects_after, rejects_more, unread_why, unread_device, unread_memory}
 use Rattle.amqp_de.proofs.Data.{bytes_there, bytes_short, behind_code}
 use Rattle.amqp_de.proofs.FixedWidth.{not_device}

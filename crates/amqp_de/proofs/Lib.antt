@@ -36,3 +36,4 @@ pub mod FormsOpened
 pub mod DecimalRead
 pub mod DecimalNames
 pub mod Nulls
+pub mod OneElement

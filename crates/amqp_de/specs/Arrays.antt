@@ -14,7 +14,7 @@ use Rattle.amqp_de.specs.Decoding.{Decoding}
 use Rattle.amqp_de.specs.Places.{constructor_of, limit_of, room_of}
 use Rattle.amqp_de.specs.Steps.{ParsesAs}
 use Rattle.amqp_base.specs.Parse.{behind_byte}
-use Rattle.amqp_de.specs.declared.array.Heading.{Heading as OwnHeading}
+use Rattle.amqp_de.specs.declared.heading.Heading.{Heading as OwnHeading}
 
 -- a descriptor with its own code
 pub record TakesDescriptor (d : Descriptor) (old new : Reading) : Type 0 where

@@ -11,6 +11,7 @@ mod deserializer;
 mod fields;
 mod floats;
 mod header;
+mod heading;
 mod leaf;
 mod list;
 mod map;

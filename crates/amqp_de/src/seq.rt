@@ -11,7 +11,7 @@ ghost use Rattle.amqp_de.specs.Seq.{lender_of, seq_listing, at_open};
 ghost use Rattle.amqp_de.specs.contracts.deserializer.Deserializer.{the_row};
 ghost use Rattle.amqp_de.specs.Calls.{NextElement};
 
-use crate::array::{Heading, seq_heading};
+use crate::heading::{Heading, seq_heading};
 use crate::constructor::Constructor;
 use crate::list::{Access, Elements, Ended, ListAccess, Open};
 use crate::{Deserialize, Deserializer};

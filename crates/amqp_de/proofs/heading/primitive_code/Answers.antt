@@ -1,7 +1,7 @@
 use Rattle.amqp_base.specs.Codes.{code_of}
 use Rattle.amqp_base.specs.Parse.{with_rest, code_or_refusal}
 use Rattle.amqp_de.proofs.Descriptors.{takes_primitive, no_primitive, byte_missing}
-use Rattle.amqp_de.proofs.array.primitive_code.Goals as goal
+use Rattle.amqp_de.proofs.heading.primitive_code.Goals as goal
 
 pub returns-in-Ok-primitive-clause-ok : goal.returns-in-Ok-primitive-clause-ok
 returns-in-Ok-primitive-clause-ok g c = takes_primitive c.in-Ok.byte c.in-Ok-primitive.code _ _ c.in-Ok.ensures.ok c.in-Ok-primitive.ensures

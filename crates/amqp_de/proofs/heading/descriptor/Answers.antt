@@ -2,7 +2,7 @@ use Rattle.amqp_base.specs.Parse.{descriptor_data}
 use Rattle.amqp_base.specs.Parse.{behind_byte}
 use Rattle.amqp_de.specs.Places.{descriptor_of}
 use Rattle.amqp_de.proofs.Descriptors.{takes_descriptor, behind_first, byte_missing}
-use Rattle.amqp_de.proofs.array.descriptor.Goals as goal
+use Rattle.amqp_de.proofs.heading.descriptor.Goals as goal
 
 pub returns-in-Ok-descriptor_behind-clause-ok : goal.returns-in-Ok-descriptor_behind-clause-ok
 returns-in-Ok-descriptor_behind-clause-ok g c = takes_descriptor (descriptor_of c.in-Ok-descriptor_behind.descriptor) c.in-Ok.code _ _ _ c.in-Ok.ensures.ok c.in-Ok-descriptor_behind.ensures.ok

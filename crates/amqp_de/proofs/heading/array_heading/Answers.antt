@@ -1,7 +1,7 @@
 use Rattle.std.proofs.Common.{arith, refl}
 use Rattle.amqp_de.specs.Places.{constructor_of}
 use Rattle.amqp_de.proofs.ArrayData.{array_heads, empty_heads, not_passed, no_header, no_slack, no_elements, long_constructor}
-use Rattle.amqp_de.proofs.array.array_heading.Goals as goal
+use Rattle.amqp_de.proofs.heading.array_heading.Goals as goal
 
 pub returns-in-Ok-skip-clause-ok : goal.returns-in-Ok-skip-clause-ok
 returns-in-Ok-skip-clause-ok g c =

@@ -1,6 +1,6 @@
 use Rattle.std.proofs.Common.{arith, refl}
 use Rattle.amqp_de.proofs.ArrayData.{list_heads, list_as_refused, is_array8, is_array32}
-use Rattle.amqp_de.proofs.array.seq_heading.Goals as goal
+use Rattle.amqp_de.proofs.heading.seq_heading.Goals as goal
 
 pub array_heading-requires : goal.array_heading-requires
 array_heading-requires g c = is_array8 c.args.code c.in-224.is
