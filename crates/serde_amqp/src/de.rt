@@ -3,5 +3,6 @@
 pub use crate::from_slice;
 pub use amqp_base::{MAX_ARRAY_COUNT, NeverNull, RoundTrip};
 pub use amqp_de::{
-    Deserialize, Deserializer, Ended, Field, Fields, ListAccess, MapAccess, SeqAccess, StructAccess,
+    ArrayAccess, Deserialize, Deserializer, Ended, Field, Fields, ListAccess, MapAccess, SeqAccess,
+    StructAccess,
 };

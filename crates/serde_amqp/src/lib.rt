@@ -26,8 +26,8 @@ pub use amqp_base::{
     StructEncoding, Typed, UNTAGGED_ENUM, UUID_WIDTH, VALUE,
 };
 pub use amqp_de::{
-    Chosen, Deserialize, Deserializer, Ended, Field, Fields, ListAccess, MapAccess, SeqAccess,
-    StructAccess, read_fields, read_parts,
+    ArrayAccess, Chosen, Deserialize, Deserializer, Ended, Field, Fields, ListAccess, MapAccess,
+    SeqAccess, StructAccess, read_fields, read_parts,
 };
 pub use amqp_read::{Read, SliceReader, read_const_bytes};
 use amqp_ser::{measured_size, measured_vec};
@@ -37,8 +37,9 @@ pub use amqp_ser::{
     write_parts,
 };
 pub use amqp_types::{
-    Binary, BinaryRef, Boolean, Byte, Char, Dec32, Dec64, Dec128, Decimal, Double, Float, Int,
-    List, Long, OrderedMap, Short, Symbol, SymbolRef, Timestamp, Ubyte, Uint, Ulong, Ushort, Uuid,
+    Array, Binary, BinaryRef, Boolean, Byte, Char, Dec32, Dec64, Dec128, Decimal, Double, Float,
+    Int, List, Long, OrderedMap, Short, Symbol, SymbolRef, Timestamp, Ubyte, Uint, Ulong, Ushort,
+    Uuid,
 };
 use std::alloc::Global;
 
