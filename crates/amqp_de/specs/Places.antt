@@ -1,6 +1,9 @@
 -- The constructors of the code, and where the code of the next item is.
 use Rattle.std.specs.Prelude.{ℕ, Option, Some, None, ◌+◌, string_bytes}
 use Rattle.amqp_base.specs.Item.{Descriptor, name, code}
+use Rattle.amqp_base.specs.Codes.{row}
+use Rattle.amqp_base.specs.declared.format_code.Category.{Category}
+use Rattle.amqp_base.specs.declared.format_code.Category.TheVariants.{Fixed, Variable, Compound, Array}
 use Rattle.amqp_base.specs.Wire.{Constructor, bare, under, under_pair}
 use Rattle.amqp_de.specs.declared.constructor.Constructor.{Constructor as OwnConstructor}
 use Rattle.amqp_de.specs.declared.constructor.Constructor.TheVariants.{Bare, Under, UnderPair}
@@ -26,3 +29,16 @@ limit_of (Some l) = Some (l.start + l.room)
 abbrev pub room_of : Option Limit → Option ℕ
 room_of None = None
 room_of (Some l) = Some l.room
+
+-- the width that a category names: of data, of a length, or of a size and a count
+abbrev pub own_width : Category → ℕ
+own_width (Fixed n) = n
+own_width (Variable w) = w
+own_width (Compound w) = w
+own_width (Array w) = w
+
+-- so many bytes an item takes at least
+abbrev pub least_width : Constructor → ℕ
+least_width bare = 1
+least_width (under e) = own_width (row e).category
+least_width (under_pair d e) = own_width (row e).category

@@ -1,6 +1,11 @@
 //! What an item stands under.
 
-use amqp_base::EncodingCodes;
+ghost use Rattle.std.specs.Prelude.{◌≡◌};
+ghost use Rattle.amqp_base.specs.Codes.{row};
+ghost use Rattle.amqp_de.specs.Places.{constructor_of, least_width, own_width};
+
+use amqp_base::{Category, EncodingCodes};
+use std::convert::TryFrom;
 
 /// A symbol or an ulong.
 #[derive(Debug, Drop)]
@@ -23,4 +28,29 @@ pub(crate) enum Constructor {
 pub(crate) struct Limit {
     pub(crate) start: usize,
     pub(crate) room: u32,
+}
+
+/// How many bytes an item takes at least under a constructor.
+#[inline(always)]
+pub(crate) fn least_width(constructor: &Constructor) -> usize
+    ensures { result ≡ least_width (constructor_of constructor.now) }
+{
+    match constructor {
+        Constructor::Bare => 1,
+        Constructor::Under(code) => own_width(*code),
+        Constructor::UnderPair(_, code) => own_width(*code),
+    }
+}
+
+/// The width that a code's category names.
+fn own_width(code: EncodingCodes) -> usize
+    ensures { result ≡ own_width (row code).category }
+{
+    match Category::try_from(code) {
+        Ok(Category::Fixed(n)) => n,
+        Ok(Category::Variable(w)) => w,
+        Ok(Category::Compound(w)) => w,
+        Ok(Category::Array(w)) => w,
+        Err(_) => 0,
+    }
 }

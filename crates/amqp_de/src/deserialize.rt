@@ -1,10 +1,12 @@
 //! The trait of the types that are read.
 
-ghost use Rattle.std.specs.Prelude.{◌≡◌, ◌≤◌, true, false, length, IfOk, IfErr};
+ghost use Rattle.std.specs.Prelude.{◌≡◌, ◌*◌, ◌≤◌, true, false, length, IfOk, IfErr};
 ghost use Rattle.amqp_read.specs.Steps.{HasBytes};
 ghost use Rattle.amqp_de.specs.Calls.{IsRead, IsRefused, IsNamed};
+ghost use Rattle.amqp_de.specs.Places.{least_width};
 
 use crate::Deserializer;
+use crate::constructor::least_width;
 use amqp_base::{Error, Typed};
 use amqp_read::Read;
 use amqp_types::{Binary, Double, Float, Symbol, Timestamp, Uuid};
@@ -159,16 +161,23 @@ impl<R: Read> Deserialize<R> for Symbol {
 }
 
 impl<R: Read> Deserializer<R> {
-    /// For how many elements to ask memory at once. Each takes a byte at least, save in an array,
-    /// so a count that no bytes stand behind asks for no more than the bytes at hand.
+    /// For how many elements to ask memory at once: no more than are announced, and no more than
+    /// the bytes at hand can be. So a count that no bytes stand behind asks for no memory, save
+    /// where elements have no bytes.
     #[inline(always)]
     fn room(&self, announced: u32) -> usize
         ensures announced { result ≤ announced }
-        ensures there { R.buffers ≡ false → HasBytes result self.now.reading.to_come }
-        ensures received { R.buffers ≡ true → result ≤ length self.now.reading.received }
+        ensures there { R.buffers ≡ false →
+            HasBytes (result * least_width self.now.inherited) self.now.reading.to_come }
+        ensures received { R.buffers ≡ true →
+            result * least_width self.now.inherited ≤ length self.now.reading.received }
     {
         let announced = announced as usize;
-        announced.min(self.reader.at_hand())
+        let width = least_width(&self.inherited);
+        if width == 0 {
+            return announced;
+        }
+        announced.min(self.reader.at_hand() / width)
     }
 }
 
