@@ -1,3 +1,4 @@
 pub mod Rows
+pub mod Arrays
 pub mod Texts
 pub mod OrderedMaps
