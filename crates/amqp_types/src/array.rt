@@ -124,7 +124,8 @@ impl<T: Drop> IntoIterator for Array<T> {
 
     ghost into_iter_gives = { λ a it. (into_iter_items it ≡ a.0.items) ×
         (into_iter_len it ≡ vec_len a.0) × (into_iter_len it < 2 ^ 64) ×
-        EveryRun (into_iter_steps {X = T} {Z = Global}) (λ p. ItemsAre p (into_iter_items p.from)) };
+        EveryRun (into_iter_steps {X = T} {Z = Global})
+        (λ p. ItemsAre p (into_iter_items p.from)) };
 
     /// Its elements, in order.
     fn into_iter(self) -> vec::IntoIter<T> {
@@ -164,7 +165,8 @@ impl<'a, T> IntoIterator for &'a mut Array<T> {
         ensures* writes_back { sem 𝓛 (lends_elements T.row self.entry result) }
         ensures into_iter_gives { (iter_mut_rest result ≡ self.old.0.items) ×
             (length (iter_mut_rest result) < 2 ^ 64) ×
-            EveryRun (iter_mut_steps {A = T}) (λ p. ItemsMapTo p (λ x. x.now) (iter_mut_rest p.from)) }
+            EveryRun (iter_mut_steps {A = T})
+            (λ p. ItemsMapTo p (λ x. x.now) (iter_mut_rest p.from)) }
     {
         self.0.as_mut_slice().iter_mut()
     }
