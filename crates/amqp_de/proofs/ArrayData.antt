@@ -163,10 +163,12 @@ array_opens x w z k c old mid new a h some t room = record {
 
     whole : (b : List ℕ) (is : Items) → Parts lenient c b is → count is ≡ k → new.taken + length b ≤ new.taken + (z - (w + length t.text)) → (i : Item) × Wire lenient (under a.code) (((h.zs ++ h.ks) ++ t.text) ++ b) i × HasElements i is × (items i ≡ 1 + (shared_by c + items_of_all c is))
     whole b none ps n fits = absurd (some (sym n))
-    whole b (more i is) ps n fits =
-        (array (more i is),
-         rw (append_assoc (h.zs ++ h.ks) t.text b, append_assoc h.zs h.ks (t.text ++ b)) (as_data a.code Kind.array (Array w) _ (array (more i is)) a.kind a.category (of_array h.zs h.ks t.text b h.len_z h.len_k (h.count ∙ sym n) t.spelled ps (rw h.size (omega (arith, fits, room)), rw h.count h.few, rw (h.count, h.size) (h.fits refl)))),
-         refl, array_items c b i is nothing ps)
+    whole b (more i is) ps n fits = (
+      array (more i is),
+      rw (append_assoc (h.zs ++ h.ks) t.text b, append_assoc h.zs h.ks (t.text ++ b)) (as_data a.code Kind.array (Array w) _ (array (more i is)) a.kind a.category (of_array h.zs h.ks t.text b h.len_z h.len_k (h.count ∙ sym n) t.spelled ps (rw h.size (omega (arith, fits, room)), rw h.count h.few, rw (h.count, h.size) (h.fits refl)))),
+      refl,
+      array_items c b i is nothing ps,
+    )
 
     paid : (w ≡ 1) ⊎ (w ≡ 4) → shared_by c + cost c k + 3 ≤ 16384 * length ((h.zs ++ h.ks) ++ t.text)
     paid (inl o) = let small : k < 256 = rw o at h.small in omega (arith, cost_most c k, small, (spelled t.spelled).0, length-append (h.zs ++ h.ks) t.text, length-append h.zs h.ks, h.len_z, h.len_k, o)

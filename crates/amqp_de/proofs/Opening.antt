@@ -172,11 +172,14 @@ heading_under is_array old mid now r x c outer left limit room b d l n = rw n re
   limit = l;
   exact = λ s at.
       let o = b.exact s at in
-      let p = (d InvalidFormatCode).exact o.0 o.1 in
-      (p.0, p.1, λ custom.
-          let q = (d custom).exact o.0 o.1 in
-          let same : q.0 ≡ p.0 = some_bytes (sym q.1 ∙ p.1) in
-          parsed (seq_data custom) (stands_under old) s x o.0 (Ok (record { of_array = is_array; count = left; stands = c; room = room }, p.0)) o.2 (q.2 ∙ ap (λ (y : List ℕ). Ok (record { of_array = is_array; count = left; stands = c; room = room }, y)) same));
+      let p = (d InvalidFormatCode).exact o.0 o.1 in (
+        p.0,
+        p.1,
+        λ custom.
+            let q = (d custom).exact o.0 o.1 in
+            let same : q.0 ≡ p.0 = some_bytes (sym q.1 ∙ p.1) in
+            parsed (seq_data custom) (stands_under old) s x o.0 (Ok (record { of_array = is_array; count = left; stands = c; room = room }, p.0)) o.2 (q.2 ∙ ap (λ (y : List ℕ). Ok (record { of_array = is_array; count = left; stands = c; room = room }, y)) same),
+      );
 }
   where
     some_bytes : {a b : List ℕ} → Some a ≡ Some b → a ≡ b

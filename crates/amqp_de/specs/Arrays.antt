@@ -1,20 +1,25 @@
 -- What is consumed in front of an array's elements.
-use Rattle.std.specs.Prelude.{◌≡◌, ◌⊎◌, ℕ, List, [], ◌∷◌, Some, None, Result, Ok, Err}
+use Rattle.std.specs.Prelude.{◌≡◌, ◌⊎◌, ℕ, Bool, true, List, [], ◌∷◌, Some, None, Result, Ok, Err}
 use Rattle.amqp_base.specs.declared.error.Error.{Error}
 use Rattle.amqp_base.specs.declared.error.Error.TheVariants.{InvalidFormatCode}
 use Rattle.amqp_base.specs.declared.format_code.EncodingCodes.{EncodingCodes}
 use Rattle.amqp_base.specs.declared.format_code.Category.TheVariants as category
 use Rattle.amqp_base.specs.Codes.{Kind, row, code_of}
 use Rattle.amqp_base.specs.Item.{Descriptor}
-use Rattle.amqp_base.specs.Parse.{Heading, array_at, seq_data}
+use Rattle.amqp_base.specs.Parse.{Parsed, Heading, array_at, seq_data}
 use Rattle.amqp_base.specs.Wire.{Constructor, Spells, DescriptorText}
 use Rattle.amqp_read.specs.Reading.{Reading, Takes}
 use Rattle.amqp_de.specs.Access.{limit_at, OpensData, HasElements}
 use Rattle.amqp_de.specs.Decoding.{Decoding}
 use Rattle.amqp_de.specs.Places.{constructor_of, limit_of, room_of}
-use Rattle.amqp_de.specs.Steps.{ParsesAs}
+use Rattle.amqp_de.specs.Steps.{ParsesAs, Rejects}
+use Rattle.amqp_base.specs.Refusals.{StandsFor}
 use Rattle.amqp_base.specs.Parse.{behind_byte}
 use Rattle.amqp_de.specs.declared.heading.Heading.{Heading as OwnHeading}
+
+-- the refusal that the bytes call for, whatever the text of a message
+abbrev pub RejectsFor : {A : Type 0} → (Error → List ℕ → Parsed A) → Bool → Reading → Reading → Error → Type 0
+RejectsFor parse buffers old new e = (custom : Error) → StandsFor custom e → Rejects true buffers (parse custom) old new e
 
 -- a descriptor with its own code
 pub record TakesDescriptor (d : Descriptor) (old new : Reading) : Type 0 where

@@ -1,13 +1,11 @@
 //! What stands in front of the elements of a list or an array.
 
 ghost use Rattle.std.specs.Prelude.{◌≡◌, ◌⊎◌, true, IfOk, IfErr};
-ghost use Rattle.amqp_base.specs.declared.error.Error.{Error as Refusal};
 ghost use Rattle.amqp_base.specs.Item.{scalar, descriptor_item};
 ghost use Rattle.amqp_base.specs.Parse.{descriptor_data, descriptor_at, primitive_at};
 ghost use Rattle.amqp_base.specs.Parse.{constructor_at, seq_data, behind_byte};
-ghost use Rattle.amqp_base.specs.Refusals.{StandsFor};
 ghost use Rattle.amqp_de.specs.Arrays.{TakesDescriptor, TakesConstructor, TakesPrimitive};
-ghost use Rattle.amqp_de.specs.Arrays.{PrimitiveOf, IsArray, Heads};
+ghost use Rattle.amqp_de.specs.Arrays.{PrimitiveOf, IsArray, Heads, RejectsFor};
 ghost use Rattle.amqp_de.specs.Places.{descriptor_of, constructor_of};
 ghost use Rattle.amqp_de.specs.Steps.{IsData, Rejects};
 
@@ -37,9 +35,9 @@ fn symbol_descriptor<R: Read>(alloc: Global, reader: &mut R, code: u8) -> Result
     requires { (code ≡ 0xa3) ⊎ (code ≡ 0xb3) }
     ensures ok { IfOk result (λ d. IsData code (scalar (descriptor_item (descriptor_of d)))
         (R.reading reader.old) (R.reading reader.new)) }
-    ensures err { IfErr result (λ e. (custom : Refusal) → StandsFor custom e → Rejects true R.buffers
-        (behind_byte (descriptor_data custom) code) (R.reading reader.old)
-        (R.reading reader.new) e) }
+    ensures err { IfErr result (λ e.
+        RejectsFor (λ custom. behind_byte (descriptor_data custom) code) R.buffers
+        (R.reading reader.old) (R.reading reader.new) e) }
 {
     match AsSymbol(alloc).read(reader, code) {
         Ok(text) => Ok(Descriptor::Name(text)),
@@ -53,9 +51,9 @@ fn ulong_descriptor<R: Read>(reader: &mut R, code: u8) -> Result<Descriptor, Err
     requires { (code ≡ 0x80) ⊎ ((code ≡ 0x53) ⊎ (code ≡ 0x44)) }
     ensures ok { IfOk result (λ d. IsData code (scalar (descriptor_item (descriptor_of d)))
         (R.reading reader.old) (R.reading reader.new)) }
-    ensures err { IfErr result (λ e. (custom : Refusal) → StandsFor custom e → Rejects true R.buffers
-        (behind_byte (descriptor_data custom) code) (R.reading reader.old)
-        (R.reading reader.new) e) }
+    ensures err { IfErr result (λ e.
+        RejectsFor (λ custom. behind_byte (descriptor_data custom) code) R.buffers
+        (R.reading reader.old) (R.reading reader.new) e) }
 {
     match AsUlong.read(reader, code) {
         Ok(n) => Ok(Descriptor::Code(n)),
@@ -68,9 +66,9 @@ fn ulong_descriptor<R: Read>(reader: &mut R, code: u8) -> Result<Descriptor, Err
 fn descriptor_behind<R: Read>(alloc: Global, reader: &mut R, code: u8) -> Result<Descriptor, Error>
     ensures ok { IfOk result (λ d. IsData code (scalar (descriptor_item (descriptor_of d)))
         (R.reading reader.old) (R.reading reader.new)) }
-    ensures err { IfErr result (λ e. (custom : Refusal) → StandsFor custom e → Rejects true R.buffers
-        (behind_byte (descriptor_data custom) code) (R.reading reader.old)
-        (R.reading reader.new) e) }
+    ensures err { IfErr result (λ e.
+        RejectsFor (λ custom. behind_byte (descriptor_data custom) code) R.buffers
+        (R.reading reader.old) (R.reading reader.new) e) }
 {
     match code {
         0xa3 => symbol_descriptor(alloc, reader, code),
@@ -90,8 +88,8 @@ fn descriptor_behind<R: Read>(alloc: Global, reader: &mut R, code: u8) -> Result
 pub(crate) fn descriptor<R: Read>(alloc: Global, reader: &mut R) -> Result<Descriptor, Error>
     ensures ok { IfOk result (λ d.
         TakesDescriptor (descriptor_of d) (R.reading reader.old) (R.reading reader.new)) }
-    ensures err { IfErr result (λ e. (custom : Refusal) → StandsFor custom e → Rejects true R.buffers
-        (descriptor_at custom) (R.reading reader.old) (R.reading reader.new) e) }
+    ensures err { IfErr result (λ e. RejectsFor descriptor_at R.buffers (R.reading reader.old)
+        (R.reading reader.new) e) }
 {
     match byte(reader) {
         Ok(code) => match descriptor_behind(alloc, reader, code) {
@@ -134,8 +132,8 @@ fn primitive_code<R: Read>(reader: &mut R) -> Result<EncodingCodes, Error>
 fn element_constructor<R: Read>(alloc: Global, reader: &mut R) -> Result<Constructor, Error>
     ensures ok { IfOk result (λ c.
         TakesConstructor (constructor_of c) (R.reading reader.old) (R.reading reader.new)) }
-    ensures err { IfErr result (λ e. (custom : Refusal) → StandsFor custom e → Rejects true R.buffers
-        (constructor_at custom) (R.reading reader.old) (R.reading reader.new) e) }
+    ensures err { IfErr result (λ e. RejectsFor constructor_at R.buffers (R.reading reader.old)
+        (R.reading reader.new) e) }
 {
     match byte(reader) {
         Ok(first) => {
@@ -168,8 +166,9 @@ fn array_heading<R: Read>(
 ) -> Result<Heading, Error>
     requires { IsArray code width }
     ensures ok { IfOk result (λ h. Heads code (R.reading reader.old) (R.reading reader.new) h) }
-    ensures err { IfErr result (λ e. (custom : Refusal) → StandsFor custom e → Rejects true R.buffers
-        (behind_byte (seq_data custom) code) (R.reading reader.old) (R.reading reader.new) e) }
+    ensures err { IfErr result (λ e.
+        RejectsFor (λ custom. behind_byte (seq_data custom) code) R.buffers
+        (R.reading reader.old) (R.reading reader.new) e) }
 {
     match header(reader, width, true) {
         Ok((size, count)) => {
@@ -212,10 +211,15 @@ fn array_heading<R: Read>(
 
 /// The data of a list or an array up to its elements.
 #[inline(always)]
-pub(crate) fn seq_heading<R: Read>(alloc: Global, reader: &mut R, code: u8) -> Result<Heading, Error>
+pub(crate) fn seq_heading<R: Read>(
+    alloc: Global,
+    reader: &mut R,
+    code: u8,
+) -> Result<Heading, Error>
     ensures ok { IfOk result (λ h. Heads code (R.reading reader.old) (R.reading reader.new) h) }
-    ensures err { IfErr result (λ e. (custom : Refusal) → StandsFor custom e → Rejects true R.buffers
-        (behind_byte (seq_data custom) code) (R.reading reader.old) (R.reading reader.new) e) }
+    ensures err { IfErr result (λ e.
+        RejectsFor (λ custom. behind_byte (seq_data custom) code) R.buffers
+        (R.reading reader.old) (R.reading reader.new) e) }
 {
     match code {
         0xe0 => array_heading(alloc, reader, code, 1),

@@ -11,8 +11,8 @@ ghost use Rattle.amqp_de.specs.Seq.{lender_of, seq_listing, at_open};
 ghost use Rattle.amqp_de.specs.contracts.deserializer.Deserializer.{the_row};
 ghost use Rattle.amqp_de.specs.Calls.{NextElement};
 
-use crate::heading::{Heading, seq_heading};
 use crate::constructor::Constructor;
+use crate::heading::{Heading, seq_heading};
 use crate::list::{Access, Elements, Ended, ListAccess, Open};
 use crate::{Deserialize, Deserializer};
 use amqp_base::Error;
@@ -106,10 +106,7 @@ impl<R: Read> Deserializer<R> {
     /// The elements of a sequence, whichever form it has.
     #[inline(always)]
     #[tactic(auto, unfolding(crate::specs::ReadParts::open_list))]
-    pub(crate) fn deserialize_elements(
-        &mut self,
-        alloc: Global,
-    ) -> Result<ListAccess<'_, R>, Error>
+    pub(crate) fn deserialize_elements(&mut self, alloc: Global) -> Result<ListAccess<'_, R>, Error>
         ensures* refused { sem 𝓛 (RestsIfErr (the_row R.row R.Read) self.entry (λ a.
             a.de.ghost_name) result (λ last.
             IfErr result (λ e. RefusesElements R.buffers self.old last e))) }

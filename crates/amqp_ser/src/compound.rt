@@ -687,8 +687,9 @@ impl<W: Sink> Serializer<W> {
         from: usize,
     ) -> Result<(), Error>
         ensures law { (p : Planned) → (state W.Write W.FaultCount self.old).plan ≡ Some p →
-            EndsWritten count size from p (back (outer_in outer) (state W.Write W.FaultCount self.old))
-            result (state W.Write W.FaultCount self.new) }
+            EndsWritten count size from p
+            (back (outer_in outer) (state W.Write W.FaultCount self.old)) result
+            (state W.Write W.FaultCount self.new) }
         ensures kept { Kept (state W.Write W.FaultCount self.old)
             (state W.Write W.FaultCount self.new) }
         ensures stays_ended { OnErr result ((state W.Write W.FaultCount self.old).ended ≡ true →
@@ -725,12 +726,16 @@ impl<W: Sink> Serializer<W> {
         }
     }
 
-    /// The header of a compound of this size, where it stands. A body of more than 4,294,967,291 bytes is `Io(Other)`.
+    /// The header of a compound of this size, where it stands. A body of more than 4,294,967,291
+    /// bytes is `Io(Other)`.
     #[inline(always)]
     fn head(&mut self, shape: Shape, size: Size) -> Result<(), Refusal>
         requires answers { self.old.ended ≡ false }
-        ensures law { Pays (state W.Write W.FaultCount self.old) (head_text shape (state W.Write W.FaultCount self.old).mark (size_in size))
-            (found_after (state W.Write W.FaultCount self.old).mark (Some (under (shape_code shape))) (state W.Write W.FaultCount self.old).found) [] (unwritten size.length) (as_error result) (state W.Write W.FaultCount self.new) }
+        ensures law { Pays (state W.Write W.FaultCount self.old)
+            (head_text shape (state W.Write W.FaultCount self.old).mark (size_in size))
+            (found_after (state W.Write W.FaultCount self.old).mark
+            (Some (under (shape_code shape))) (state W.Write W.FaultCount self.old).found) []
+            (unwritten size.length) (as_error result) (state W.Write W.FaultCount self.new) }
     {
         if size.length > LONGEST {
             self.ended = true;
