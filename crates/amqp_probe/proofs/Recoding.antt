@@ -16,7 +16,7 @@ use Rattle.amqp_ser.specs.Texts.{HasNoText}
 use Rattle.amqp_base.specs.Fields.{all_meanings, means_fields}
 use Rattle.amqp_base.specs.Options.{means_option, option_item}
 use Rattle.amqp_base.specs.Refusing.{Refusing}
-use Rattle.amqp_base.specs.Typing.{is_null, all_mean, means_list}
+use Rattle.amqp_base.specs.Typing.{is_null, all_mean, means_seq, means_array}
 use Rattle.amqp_base.specs.declared.shape.Setting.{Setting}
 use Rattle.amqp_base.specs.Maps.{all_pairs_mean, means_map, pair_items}
 use Rattle.amqp_base.specs.Shapes.{whole, pairs_of}
@@ -25,7 +25,7 @@ use Rattle.amqp_base.proofs.OneFront.{same_wire}
 use Rattle.amqp_read.specs.Reading.{Reading}
 use Rattle.amqp_de.specs.Decoding.{Decoding}
 use Rattle.amqp_de.specs.Law.{Found, Missed, Named, Excused, no_memory, faulted, uncounted}
-use Rattle.amqp_probe.specs.Codec.{Decoded, Recodes, Recoded, TakesNone, IsRefused, takes, refuses, kept, put_pair, put_pairs}
+use Rattle.amqp_probe.specs.Codec.{Decoded, Recodes, Recoded, TakesNone, IsRefused, takes, refuses, kept, kept_all, as_list, as_array, put_pair, put_pairs}
 use Rattle.amqp_probe.specs.declared.kind.Kind.{Kind}
 use Rattle.amqp_probe.specs.declared.kind.Kind.TheVariants.{MapStringU32}
 use Rattle.amqp_probe.specs.declared.codec.Outcome.{Outcome}
@@ -112,22 +112,33 @@ decoded_as kind means written s (Refused e) w (d, inr (n, r)) = (
   }),
 )
 
--- a list is written as the list that means it, where its elements are
-items_kept : {V : Type 0} {means : Item → V → Type 0} {written : V → Item} → ((i : Item) (v : V) → means i v → written v ≡ i)
-    → (is : Items) (vs : List V) → all_mean means is vs → items_of (map written vs) ≡ is
-items_kept w none [] m = refl
-items_kept w none (v ∷ vs) m = absurd m
-items_kept w (more i is) [] m = absurd m
-items_kept w (more i is) (v ∷ vs) m = let a = w i v m.0 in let b = items_kept w is vs m.1 in cc
+-- elements are written as what is kept of the items that mean them, where each is
+items_kept : {V : Type 0} {means : Item → V → Type 0} {written : V → Item} (keep : Item → Item) → ((i : Item) (v : V) → means i v → written v ≡ keep i)
+    → (is : Items) (vs : List V) → all_mean means is vs → items_of (map written vs) ≡ kept_all keep is
+items_kept keep w none [] m = refl
+items_kept keep w none (v ∷ vs) m = absurd m
+items_kept keep w (more i is) [] m = absurd m
+items_kept keep w (more i is) (v ∷ vs) m = let a = w i v m.0 in let b = items_kept keep w is vs m.1 in cc
 
-pub list_kept : {V : Type 0} {means : Item → V → Type 0} {written : V → Item} → ((i : Item) (v : V) → means i v → written v ≡ i)
-    → (i : Item) (vs : List V) → means_list means i vs → whole Shape.List (map written vs) ≡ i
+-- so is a list
+pub list_kept : {V : Type 0} {means : Item → V → Type 0} {written : V → Item} (keep : Item → Item) → ((i : Item) (v : V) → means i v → written v ≡ keep i)
+    → (i : Item) (vs : List V) → means_seq means i vs → whole Shape.List (map written vs) ≡ as_list keep i
 unfolding whole
-list_kept w (list is) vs m = ap list (items_kept w is vs m)
-list_kept w (scalar v) vs m = absurd m
-list_kept w (map_item ps) vs m = absurd m
-list_kept w (array is) vs m = absurd m
-list_kept w (described d v) vs m = absurd m
+list_kept keep w (list is) vs m = ap list (items_kept keep w is vs m)
+list_kept keep w (array is) vs m = ap list (items_kept keep w is vs m)
+list_kept keep w (scalar v) vs m = absurd m
+list_kept keep w (map_item ps) vs m = absurd m
+list_kept keep w (described d v) vs m = absurd m
+
+-- and an array
+pub array_kept : {V : Type 0} {means : Item → V → Type 0} {written : V → Item} (keep : Item → Item) → ((i : Item) (v : V) → means i v → written v ≡ keep i)
+    → (i : Item) (vs : List V) → means_array means i vs → whole Shape.Array (map written vs) ≡ as_array keep i
+unfolding whole
+array_kept keep w (array is) vs m = ap array (items_kept keep w is vs m)
+array_kept keep w (list is) vs m = ap array (items_kept keep w (more (list is) none) vs m)
+array_kept keep w (scalar s) vs m = ap array (items_kept keep w (more (scalar s) none) vs m)
+array_kept keep w (map_item ps) vs m = ap array (items_kept keep w (more (map_item ps) none) vs m)
+array_kept keep w (described d i) vs m = ap array (items_kept keep w (more (described d i) none) vs m)
 
 -- null is written for what is missing
 null_of : (i : Item) → is_null i ≡ true → scalar null ≡ i

@@ -4,7 +4,7 @@ use Rattle.hex.specs.Hex.{decode_of, encode_lower}
 use Rattle.amqp_base.specs.declared.error.Error.{Error}
 use Rattle.amqp_base.specs.declared.error.Error.TheVariants.{Message, Io, InvalidFormatCode, InvalidValue, InvalidUtf8Encoding, SequenceLengthMismatch, InvalidLength, OutOfMemory}
 use Rattle.amqp_probe.specs.declared.kind.Kind.{Kind}
-use Rattle.amqp_probe.specs.declared.kind.Kind.TheVariants.{Bool, I32, U32, U64, String, Symbol, ListI32, ListU64, OptionU32, TupleU32Bool, MapStringU32}
+use Rattle.amqp_probe.specs.declared.kind.Kind.TheVariants.{Bool, I32, U32, U64, String, Symbol, ListI32, ListU64, ListUnit, ListListI32, ListArrayI32, ArrayI32, ArrayString, OptionU32, TupleU32Bool, MapStringU32}
 use Rattle.amqp_probe.specs.declared.codec.Outcome.{Outcome}
 use Rattle.amqp_probe.specs.declared.codec.Outcome.TheVariants.{Value, Refused}
 use Rattle.amqp_probe.specs.Codec.{Decoded}
@@ -18,6 +18,11 @@ type_name String = codes "string"
 type_name Symbol = codes "symbol"
 type_name ListI32 = codes "list-i32"
 type_name ListU64 = codes "list-u64"
+type_name ListUnit = codes "list-unit"
+type_name ListListI32 = codes "list-list-i32"
+type_name ListArrayI32 = codes "list-array-i32"
+type_name ArrayI32 = codes "array-i32"
+type_name ArrayString = codes "array-string"
 type_name OptionU32 = codes "option-u32"
 type_name TupleU32Bool = codes "tuple-u32-bool"
 type_name MapStringU32 = codes "map-string-u32"

@@ -7,7 +7,8 @@ ghost use Rattle.amqp_probe.specs.Codec.{Decoded, Recoded, IsRefused};
 
 use crate::kind::Kind;
 use serde_amqp::{
-    Deserialize, Deserializer, Error, OrderedMap, Read, Serialize, SliceReader, Symbol, to_vec,
+    Array, Deserialize, Deserializer, Error, OrderedMap, Read, Serialize, SliceReader, Symbol,
+    to_vec,
 };
 use std::alloc::Global;
 
@@ -35,6 +36,11 @@ pub fn decoded(alloc: Global, kind: Kind, bytes: &[u8]) -> Result<Outcome, Error
         Kind::Symbol => recoded::<Symbol>(alloc, bytes),
         Kind::ListI32 => recoded::<Vec<i32>>(alloc, bytes),
         Kind::ListU64 => recoded::<Vec<u64>>(alloc, bytes),
+        Kind::ListUnit => recoded::<Vec<()>>(alloc, bytes),
+        Kind::ListListI32 => recoded::<Vec<Vec<i32>>>(alloc, bytes),
+        Kind::ListArrayI32 => recoded::<Vec<Array<i32>>>(alloc, bytes),
+        Kind::ArrayI32 => recoded::<Array<i32>>(alloc, bytes),
+        Kind::ArrayString => recoded::<Array<String>>(alloc, bytes),
         Kind::OptionU32 => recoded::<Option<u32>>(alloc, bytes),
         Kind::TupleU32Bool => recoded::<(u32, bool)>(alloc, bytes),
         Kind::MapStringU32 => recoded::<OrderedMap<String, u32>>(alloc, bytes),

@@ -20,8 +20,9 @@ Its answer is one line on standard output:
     bad line 3            the third line is none; standard error says why, and
                           no further line is read
 
-Types: bool i32 u32 u64 string symbol list-i32 list-u64 option-u32
-       tuple-u32-bool map-string-u32
+Types: bool i32 u32 u64 string symbol list-i32 list-u64 list-unit list-list-i32
+       list-array-i32 array-i32 array-string option-u32 tuple-u32-bool
+       map-string-u32
 
 The exit status is 0 where each line was answered, 2 after a bad line, and 3
 where reading, writing or memory failed.
