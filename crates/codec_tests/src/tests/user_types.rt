@@ -22,6 +22,9 @@ const COLOUR: &[u8] = b"\xc0\x07\x03\x50\x01\x50\x02\x50\xff";
 const PAIR: &[u8] =
     b"\xc0\x16\x02\xc0\x04\x02\x43\x54\x01\xc0\x0d\x01\xc0\x0a\x02\x70\x00\x00\x01\x2c\xa1\x02kg";
 
+/// [(1, false, "amqp")]
+const TUPLES: &[u8] = b"\xc0\x0d\x01\xc0\x0a\x03\x54\x01\x42\xa1\x04amqp";
+
 const FOO_LIST: &[u8] = b"\xc0\x04\x02\x52\x0d\x41";
 
 const FOO_MAP: &[u8] = b"\xc1\x12\x04\xa1\x03bar\x52\x0d\xa1\x07is_fool\x41";
@@ -94,6 +97,14 @@ fn pairs_are_read(alloc: Global) -> bool {
     }
 }
 
+/// A list of a tuple that begins with a newtype is read, and written again.
+fn tuples_are_read(alloc: Global) -> bool {
+    match from_slice::<Vec<(Celsius, bool, String)>>(alloc, TUPLES) {
+        Ok(found) => found.len() == 1 && is_written_as(alloc, &found, TUPLES),
+        Err(_) => false,
+    }
+}
+
 /// The bytes are read as the text `a` without a number.
 fn is_note(alloc: Global, bytes: &[u8]) -> bool {
     match from_slice::<Note>(alloc, bytes) {
@@ -129,6 +140,7 @@ fn a_struct_is_written_and_read_as_a_list_or_a_map(rt: HostRuntime) {
     assert!(rt; colour_is_read(alloc));
     assert!(rt; tags_are_read(alloc));
     assert!(rt; pairs_are_read(alloc));
+    assert!(rt; tuples_are_read(alloc));
     assert!(rt; is_note(alloc, NOTE));
     // by its names or in order
     assert!(rt; is_foo(alloc, FOO_LIST));
