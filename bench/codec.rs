@@ -25,6 +25,10 @@ const NARROW: usize = 254;
 #[derive(Debug, PartialEq)]
 pub struct Binary(pub Vec<u8>);
 
+/// Numbers that are written as an array.
+#[derive(Debug, PartialEq)]
+pub struct Array<T>(pub Vec<T>);
+
 /// A struct, which is written as a list of its fields.
 #[derive(Debug, PartialEq)]
 pub struct Record {
@@ -75,6 +79,16 @@ pub fn to_vec<T: Encode>(value: &T) -> Result<Vec<u8>, Error> {
 /// The value at the front of the text; what stands behind it is ignored.
 pub fn from_slice<T: Decode>(mut text: &[u8]) -> Result<T, Error> {
     T::decode(&mut text)
+}
+
+/// A number as an array has it: its data behind a code that all share.
+pub trait Element: Sized {
+    const WIDEST: u8;
+
+    fn put(&self, out: &mut Vec<u8>);
+
+    /// So many elements under the code.
+    fn get(code: u8, count: usize, body: &mut &[u8]) -> Result<Vec<Self>, Error>;
 }
 
 impl Encode for bool {
@@ -205,6 +219,59 @@ impl<T: Encode> Encode for Vec<T> {
         compound(0xc0, 0xd0, self.len(), out, |out| {
             for item in self {
                 item.encode(out)?;
+            }
+            Ok(())
+        })
+    }
+}
+
+impl Element for u32 {
+    const WIDEST: u8 = 0x70;
+
+    #[inline]
+    fn put(&self, out: &mut Vec<u8>) {
+        out.extend_from_slice(&self.to_be_bytes());
+    }
+
+    #[inline]
+    fn get(code: u8, count: usize, body: &mut &[u8]) -> Result<Vec<u32>, Error> {
+        match code {
+            0x43 => Ok(vec![0; count]),
+            0x52 => each(count, body, |[v]| u32::from(v)),
+            0x70 => each(count, body, u32::from_be_bytes),
+            _ => Err(Error::Code),
+        }
+    }
+}
+
+impl Element for i32 {
+    const WIDEST: u8 = 0x71;
+
+    #[inline]
+    fn put(&self, out: &mut Vec<u8>) {
+        out.extend_from_slice(&self.to_be_bytes());
+    }
+
+    #[inline]
+    fn get(code: u8, count: usize, body: &mut &[u8]) -> Result<Vec<i32>, Error> {
+        match code {
+            0x54 => each(count, body, |[v]| i32::from(v as i8)),
+            0x71 => each(count, body, i32::from_be_bytes),
+            _ => Err(Error::Code),
+        }
+    }
+}
+
+impl<T: Element> Encode for Array<T> {
+    fn encode(&self, out: &mut Vec<u8>) -> Result<(), Error> {
+        if self.0.is_empty() {
+            out.extend_from_slice(&[0xe0, 1, 0]);
+            return Ok(());
+        }
+        compound(0xe0, 0xf0, self.0.len(), out, |out| {
+            out.push(T::WIDEST);
+            for item in &self.0 {
+                item.put(out);
             }
             Ok(())
         })
@@ -369,7 +436,7 @@ impl Decode for Binary {
     }
 }
 
-/// The count of a list or a map, and its body, behind which the input stands.
+/// The count of a list, a map or an array, and its body, behind which the input stands.
 #[inline]
 fn body<'a>(narrow: u8, wide: u8, input: &mut &'a [u8]) -> Result<(usize, &'a [u8]), Error> {
     let code = byte(input)?;
@@ -411,6 +478,28 @@ impl<T: Decode> Decode for Vec<T> {
             items.push(T::decode(&mut body)?);
         }
         ended(body, items)
+    }
+}
+
+/// So many elements of N bytes each.
+#[inline]
+fn each<T, const N: usize>(count: usize, body: &mut &[u8], value: impl Fn([u8; N]) -> T) -> Result<Vec<T>, Error> {
+    let mut items = Vec::with_capacity(count.min(body.len() / N));
+    for _ in 0..count {
+        items.push(value(array(body)?));
+    }
+    Ok(items)
+}
+
+impl<T: Element> Decode for Array<T> {
+    fn decode(input: &mut &[u8]) -> Result<Array<T>, Error> {
+        let (count, mut body) = body(0xe0, 0xf0, input)?;
+        if count == 0 {
+            return Ok(Array(Vec::new()));
+        }
+        let code = byte(&mut body)?;
+        let items = T::get(code, count, &mut body)?;
+        ended(body, Array(items))
     }
 }
 

@@ -9,7 +9,7 @@ mod plain;
 #[cfg(not(counting))]
 mod timing;
 
-use codec::{Binary, OrderedMap, Record};
+use codec::{Array, Binary, OrderedMap, Record};
 use std::fmt::Write;
 
 type OursEncode = unsafe extern "C" fn(*const u8, usize, u32, *mut u8, usize) -> usize;
@@ -18,6 +18,10 @@ type OursDecode = unsafe extern "C" fn(*const u8, usize, u32) -> usize;
 unsafe extern "C" {
     fn amqp_bench_encode_ints(text: *const u8, len: usize, times: u32, out: *mut u8, room: usize) -> usize;
     fn amqp_bench_decode_ints(text: *const u8, len: usize, times: u32) -> usize;
+    fn amqp_bench_encode_array_of_ints(text: *const u8, len: usize, times: u32, out: *mut u8, room: usize) -> usize;
+    fn amqp_bench_decode_array_of_ints(text: *const u8, len: usize, times: u32) -> usize;
+    fn amqp_bench_encode_array_of_uints(text: *const u8, len: usize, times: u32, out: *mut u8, room: usize) -> usize;
+    fn amqp_bench_decode_array_of_uints(text: *const u8, len: usize, times: u32) -> usize;
     fn amqp_bench_encode_strings(text: *const u8, len: usize, times: u32, out: *mut u8, room: usize) -> usize;
     fn amqp_bench_decode_strings(text: *const u8, len: usize, times: u32) -> usize;
     fn amqp_bench_encode_nested(text: *const u8, len: usize, times: u32, out: *mut u8, room: usize) -> usize;
@@ -193,6 +197,8 @@ fn cases() -> Vec<Case> {
     let depth_4 = vec![depth_3.clone()];
     let depth_5 = vec![depth_4.clone()];
     let depth_6 = vec![depth_5.clone()];
+    let array_of_ints = Array(n.ints(10_000));
+    let array_of_uints: Array<u32> = Array((0..10_000).map(|_| n.long() as u32).collect());
     vec![
         Case::new("vec of 10000 i32", ints, amqp_bench_encode_ints, amqp_bench_decode_ints),
         Case::new("vec of 1000 strings of 20", strings, amqp_bench_encode_strings, amqp_bench_decode_strings),
@@ -206,6 +212,8 @@ fn cases() -> Vec<Case> {
         Case::new("struct of 5", record, amqp_bench_encode_record, amqp_bench_decode_record),
         Case::new("vec of 1000 structs of 5", records, amqp_bench_encode_records, amqp_bench_decode_records),
         Case::new("vec of 1000 tuples of 4", tuples, amqp_bench_encode_tuples, amqp_bench_decode_tuples),
+        Case::new("array of 10000 i32", array_of_ints, amqp_bench_encode_array_of_ints, amqp_bench_decode_array_of_ints),
+        Case::new("array of 10000 u32", array_of_uints, amqp_bench_encode_array_of_uints, amqp_bench_decode_array_of_uints),
         Case::new("4096 u64 at depth 1", depth_1, amqp_bench_encode_longs, amqp_bench_decode_longs),
         Case::new("4096 u64 at depth 2", depth_2, amqp_bench_encode_depth_2, amqp_bench_decode_depth_2),
         Case::new("4096 u64 at depth 3", depth_3, amqp_bench_encode_nested, amqp_bench_decode_nested),

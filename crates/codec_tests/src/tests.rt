@@ -3,11 +3,13 @@
 //! codec, which stands there once: its contract is dear in each function that calls it.
 
 mod answer;
+mod array_calls;
 mod arrays;
 mod bytes;
 mod calls;
 mod constants;
 mod deserializer;
+mod empty_arrays;
 mod error;
 mod fixed;
 mod format_code;

@@ -3,7 +3,8 @@
 ghost use Rattle.serde_amqp.specs.Headline.{KeptAs};
 
 use crate::{
-    Celsius, Colour, Delivery, Foo, Measurement, Note, Pair, Priority, Reply, Sensor, Station, Tags,
+    Celsius, Colour, Delivery, Foo, Measurement, Note, Offer, Pair, Priority, Reply, Sensor,
+    Station, Tags,
 };
 use serde_amqp::{Error, Typed, from_slice, laws};
 use std::alloc::Global;
@@ -53,6 +54,14 @@ pub fn note_is_kept(alloc: Global, bytes: &[u8]) -> Result<Note, Error>
     ensures { KeptAs ⟦<Note as Typed>⟧.meaning bytes.now result }
 {
     laws::kept::<Note>();
+    from_slice(alloc, bytes)
+}
+
+/// What `to_vec` wrote for an offer is read as the same one, or memory was wanting.
+pub fn offer_is_kept(alloc: Global, bytes: &[u8]) -> Result<Offer, Error>
+    ensures { KeptAs ⟦<Offer as Typed>⟧.meaning bytes.now result }
+{
+    laws::kept::<Offer>();
     from_slice(alloc, bytes)
 }
 

@@ -2,7 +2,8 @@
 //! name of a refusal: a test's proof then carries along neither a value that owns memory nor the
 //! contract of a call.
 
-use super::answer::{Answer, UNEXPECTED_EOF, name_of};
+use super::answer::{Answer, UNEXPECTED_EOF, answer_of, name_of};
+use serde_amqp::primitives::Array;
 use serde_amqp::{
     Deserialize, Deserializer, Read, Serialize, Serializer, SliceReader, from_slice,
     serialized_size, to_vec,
@@ -128,6 +129,32 @@ where
         Ok(list) => is_text(alloc, &list, bytes),
         Err(_) => false,
     }
+}
+
+/// The array of these elements is written as the bytes, which are read as the array.
+pub(crate) fn is_array<'s, T>(alloc: Global, elements: &[T], bytes: &'s [u8]) -> bool
+where
+    T: Copy + Serialize + Deserialize<SliceReader<'s>> + PartialEq,
+{
+    match elements.to_vec(alloc) {
+        Ok(list) => is_text(alloc, &Array(list), bytes),
+        Err(_) => false,
+    }
+}
+
+/// The value is refused so by each call that writes or measures it.
+pub(crate) fn is_unwritten<T: Serialize>(alloc: Global, value: &T, name: Answer) -> bool {
+    let is_unmeasured = match serialized_size(alloc, value) {
+        Ok(_) => false,
+        Err(e) => name_of(&e) == name,
+    };
+    let is_refused = match to_vec(alloc, value) {
+        Ok(_) => false,
+        Err(e) => name_of(&e) == name,
+    };
+    let mut ser = Serializer::new(Vec::new(alloc));
+    let told = answer_of(&value.serialize(alloc, &mut ser));
+    is_unmeasured && is_refused && told == name && ser.writer.is_empty()
 }
 
 /// Each value is written as its bytes, which are a form of it.

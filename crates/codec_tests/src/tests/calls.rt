@@ -7,17 +7,18 @@ use amqp_read::{Read, SliceReader};
 use amqp_types::{Dec32, Double, Float, Timestamp, Uuid};
 use std::alloc::Global;
 
-/// What is asked of an open list, and the answer.
+/// What is asked of an open list or array, and the answer.
 #[derive(Clone, Copy)]
 pub(crate) enum Part {
     Uint(Result<Option<u32>, Answer>),
     Int(Result<Option<i32>, Answer>),
     Truth(bool),
     Text(&'static str),
+    Uints(&'static [u32]),
     NoDecimal(Answer),
 }
 
-/// How a list is let go, and the answer.
+/// How a list or an array is let go, and the answer.
 #[derive(Clone, Copy)]
 pub(crate) enum End {
     Dropped,
@@ -61,6 +62,7 @@ pub(crate) enum Call {
     NewtypeList(&'static [u32]),
     NoList(Answer),
     List(&'static [Part], End),
+    Array(&'static [Part], End),
     Tuple(usize, &'static [Part], Answer),
     Map(&'static [Pair], Answer),
 }
@@ -100,7 +102,18 @@ fn is_some_str(outcome: Result<Option<String>, Error>, want: &str) -> bool {
     }
 }
 
-/// The next part of a list is this.
+/// The next part is the list.
+fn is_some_list(outcome: Result<Option<Vec<u32>>, Error>, want: &[u32]) -> bool {
+    match outcome {
+        Ok(found) => match found {
+            Some(list) => list.as_slice() == want,
+            None => false,
+        },
+        Err(_) => false,
+    }
+}
+
+/// The next part of a list or an array is this.
 fn is_part<'s, T: Deserialize<SliceReader<'s>> + Copy + PartialEq>(
     list: &mut SeqAccess<'_, SliceReader<'s>>,
     alloc: Global,
@@ -128,6 +141,7 @@ fn are_parts(list: &mut SeqAccess<'_, SliceReader<'_>>, alloc: Global, parts: &[
                 Part::Int(want) => is_part(list, alloc, want),
                 Part::Truth(want) => is_part(list, alloc, Ok(Some(want))),
                 Part::Text(want) => is_some_str(list.next_element::<String>(alloc), want),
+                Part::Uints(want) => is_some_list(list.next_element::<Vec<u32>>(alloc), want),
                 Part::NoDecimal(want) => answer_of(&list.next_element::<Dec32>(alloc)) == want,
             };
     }
@@ -143,14 +157,14 @@ fn are_elements(list: &mut ListAccess<'_, SliceReader<'_>>, alloc: Global, parts
                 Part::Uint(want) => is_element(list, alloc, want),
                 Part::Int(want) => is_element(list, alloc, want),
                 Part::Truth(want) => is_element(list, alloc, Ok(Some(want))),
-                Part::Text(_) | Part::NoDecimal(_) => false,
+                Part::Text(_) | Part::Uints(_) | Part::NoDecimal(_) => false,
             };
     }
     is_so
 }
 
-/// The open list answers so, and its end.
-fn reads_list(
+/// The open list or array answers so, and its end.
+fn reads_seq(
     list: SeqAccess<'_, SliceReader<'_>>,
     alloc: Global,
     parts: &[Part],
@@ -172,7 +186,7 @@ fn reads_list(
     }
 }
 
-/// The open list answers so, and its end.
+/// The open elements answer so, and their end.
 fn reads_elements(
     list: ListAccess<'_, SliceReader<'_>>,
     alloc: Global,
@@ -227,15 +241,20 @@ fn reads_map(
     answer_of(&map.end()) == end && is_so
 }
 
-/// Whether the list that is opened answers so, or the refusal of the opening.
-fn opens_list(
+/// Whether what is opened is an array, or else a list, and answers so; or the refusal of the
+/// opening.
+fn opens(
     de: &mut Deserializer<SliceReader<'_>>,
     alloc: Global,
+    is_array: bool,
     parts: &[Part],
     end: End,
 ) -> Result<bool, Answer> {
     match de.deserialize_seq(alloc) {
-        Ok(list) => Ok(reads_list(list, alloc, parts, end)),
+        Ok(seq) => {
+            let is_form = matches!(&seq, SeqAccess::Array(_)) == is_array;
+            Ok(reads_seq(seq, alloc, parts, end) && is_form)
+        }
         Err(e) => Err(name_of(&e)),
     }
 }
@@ -277,8 +296,9 @@ fn answers(de: &mut Deserializer<SliceReader<'_>>, alloc: Global, call: Call) ->
                 want,
             )
         }
-        Call::NoList(want) => opens_list(de, alloc, &[], End::Dropped) == Err(want),
-        Call::List(parts, end) => opens_list(de, alloc, parts, end) == Ok(true),
+        Call::NoList(want) => opens(de, alloc, false, &[], End::Dropped) == Err(want),
+        Call::List(parts, end) => opens(de, alloc, false, parts, end) == Ok(true),
+        Call::Array(parts, end) => opens(de, alloc, true, parts, end) == Ok(true),
         Call::Tuple(len, parts, end) => match de.deserialize_tuple(len) {
             Ok(list) => reads_elements(list, alloc, parts, end),
             Err(_) => false,

@@ -22,6 +22,8 @@ fn a_list_is_written_in_its_shortest_form_and_read_by_its_count(rt: HostRuntime)
     let alloc = rt.alloc();
     assert!(rt; is_list::<i32>(alloc, &[], b"\x45"));
     assert!(rt; is_list(alloc, &[1i32, 2], b"\xc0\x05\x02\x54\x01\x54\x02"));
+    let four = b"\xc0\x09\x04\x54\x01\x54\x02\x54\x03\x54\x04";
+    assert!(rt; is_list(alloc, &[1i32, 2, 3, 4], four));
     // bytes behind the count stay
     assert!(rt; is_five(alloc, b"\xc0\x02\x01\x71\x00\x00\x00\x05\x00\x43", 8));
 }

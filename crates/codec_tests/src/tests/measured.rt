@@ -3,7 +3,7 @@
 
 use super::answer::{Answer, answer_of};
 use amqp_ser::{Measure, measure, write_measured};
-use amqp_types::OrderedMap;
+use amqp_types::{Array, OrderedMap};
 use serde_amqp::serialized_size;
 use std::alloc::Global;
 
@@ -55,6 +55,21 @@ fn measures_lists(alloc: Global) -> bool {
     }
 }
 
+/// [[1], []] as an array; and null has no size in one.
+fn measures_arrays(alloc: Global) -> bool {
+    let (Ok(first), Ok(units)) = (vec![in alloc; 1i32], vec![in alloc; ()]) else {
+        return false;
+    };
+    let Ok(lists) = vec![in alloc; first, Vec::new(alloc)] else {
+        return false;
+    };
+    let is_unsized = answer_of(&serialized_size(alloc, &Array(units))) == Answer::InvalidValue;
+    match measure(alloc, &Array(lists)) {
+        Ok(measure) => is_unsized && has_sizes(&measure, &[(19, 2), (2, 1), (0, 0)]),
+        Err(_) => false,
+    }
+}
+
 /// {2: (true, 13, "amqp")}
 fn measures_a_map(alloc: Global) -> bool {
     let Ok(text) = String::from_str(alloc, "amqp") else {
@@ -89,6 +104,7 @@ fn refuses_another_value(alloc: Global) -> bool {
 fn the_sizes_of_compounds_are_measured_as_they_open(rt: HostRuntime) {
     let alloc = rt.alloc();
     assert!(rt; measures_lists(alloc));
+    assert!(rt; measures_arrays(alloc));
     assert!(rt; measures_a_map(alloc));
 }
 

@@ -3,9 +3,10 @@
 use super::answer::{Answer, UNEXPECTED_EOF};
 use super::bytes::{is_written_as, refuses};
 use own_types::{
-    Celsius, Colour, Delivery, Foo, Measurement, Note, Pair, Priority, Reply, Sensor, Station,
-    Tags, kept,
+    Celsius, Colour, Delivery, Foo, Measurement, Note, Offer, Pair, Priority, Reply, Sensor,
+    Station, Tags, kept,
 };
+use serde_amqp::primitives::Array;
 use serde_amqp::{Serialize, Serializer, from_slice};
 use std::alloc::Global;
 
@@ -20,6 +21,9 @@ const COLOUR: &[u8] = b"\xc0\x07\x03\x50\x01\x50\x02\x50\xff";
 /// A pair, and a list of the weight.
 const PAIR: &[u8] =
     b"\xc0\x16\x02\xc0\x04\x02\x43\x54\x01\xc0\x0d\x01\xc0\x0a\x02\x70\x00\x00\x01\x2c\xa1\x02kg";
+
+/// [(1, false, "amqp")]
+const TUPLES: &[u8] = b"\xc0\x0d\x01\xc0\x0a\x03\x54\x01\x42\xa1\x04amqp";
 
 const FOO_LIST: &[u8] = b"\xc0\x04\x02\x52\x0d\x41";
 
@@ -93,6 +97,14 @@ fn pairs_are_read(alloc: Global) -> bool {
     }
 }
 
+/// A list of a tuple that begins with a newtype is read, and written again.
+fn tuples_are_read(alloc: Global) -> bool {
+    match from_slice::<Vec<(Celsius, bool, String)>>(alloc, TUPLES) {
+        Ok(found) => found.len() == 1 && is_written_as(alloc, &found, TUPLES),
+        Err(_) => false,
+    }
+}
+
 /// The bytes are read as the text `a` without a number.
 fn is_note(alloc: Global, bytes: &[u8]) -> bool {
     match from_slice::<Note>(alloc, bytes) {
@@ -128,6 +140,7 @@ fn a_struct_is_written_and_read_as_a_list_or_a_map(rt: HostRuntime) {
     assert!(rt; colour_is_read(alloc));
     assert!(rt; tags_are_read(alloc));
     assert!(rt; pairs_are_read(alloc));
+    assert!(rt; tuples_are_read(alloc));
     assert!(rt; is_note(alloc, NOTE));
     // by its names or in order
     assert!(rt; is_foo(alloc, FOO_LIST));
@@ -197,6 +210,67 @@ fn long_ones_are_kept(alloc: Global) -> bool {
         Err(_) => false,
     };
     station && delivery
+}
+
+/// Channels 1 and 256, capabilities `a` and `bc`, and limits 1 and -1.
+const OFFER: &[u8] =
+    b"\xc0\x23\x03\xe0\x0a\x02\x70\0\0\0\x01\0\0\x01\0\xe0\x0d\x02\xb3\0\0\0\x01a\0\0\0\x02bc\xc0\x05\x02\x54\x01\x54\xff";
+
+const EMPTY_OFFER: &[u8] = b"\xc0\x08\x03\xe0\x01\x00\xe0\x01\x00\x45";
+
+/// One of each: a channel and a capability that stand alone, and a limit in an array.
+const OFFER_OF_ONE: &[u8] = b"\xc0\x0b\x03\x52\x01\xa3\x01a\xe0\x03\x01\x54\x02";
+
+/// The bytes are read as an offer with as many channels, capabilities and limits, and written as
+/// these.
+fn is_offer(alloc: Global, bytes: &[u8], counts: [usize; 3], written: &[u8]) -> bool {
+    match kept::offer_is_kept(alloc, bytes) {
+        Ok(found) => {
+            let found_counts = [
+                found.channels.len(),
+                found.capabilities.len(),
+                found.limits.len(),
+            ];
+            found_counts == counts && is_written_as(alloc, &found, written)
+        }
+        Err(_) => false,
+    }
+}
+
+/// An array of the empty sensor, and one of a temperature.
+const SENSORS: &[u8] = b"\xe0\x0d\x01\xd0\0\0\0\x07\0\0\0\x03\x43\x45\x40";
+
+const TEMPERATURES: &[u8] = b"\xe0\x06\x01\x71\xff\xff\xff\xfe";
+
+/// The bytes are read as an array of one sensor, and written as these.
+fn is_one_sensor(alloc: Global, bytes: &[u8], written: &[u8]) -> bool {
+    match from_slice::<Array<Sensor>>(alloc, bytes) {
+        Ok(found) => found.len() == 1 && is_written_as(alloc, &found, written),
+        Err(_) => false,
+    }
+}
+
+/// The same of a temperature.
+fn is_one_temperature(alloc: Global, bytes: &[u8], written: &[u8]) -> bool {
+    match from_slice::<Array<Celsius>>(alloc, bytes) {
+        Ok(found) => found.len() == 1 && is_written_as(alloc, &found, written),
+        Err(_) => false,
+    }
+}
+
+#[test]
+fn arrays_are_fields_and_structs_are_elements_of_arrays(rt: HostRuntime) {
+    let alloc = rt.alloc();
+    assert!(rt; is_offer(alloc, OFFER, [2, 2, 2], OFFER));
+    assert!(rt; is_offer(alloc, EMPTY_OFFER, [0, 0, 0], EMPTY_OFFER));
+    let of_one =
+        b"\xc0\x17\x03\xe0\x06\x01\x70\0\0\0\x01\xe0\x07\x01\xb3\0\0\0\x01a\xc0\x03\x01\x54\x02";
+    assert!(rt; is_offer(alloc, OFFER_OF_ONE, [1, 1, 1], of_one));
+    assert!(rt; refuses::<Offer>(alloc, b"\xc0\x04\x03\x45\x45\x45", CODE));
+    assert!(rt; is_one_sensor(alloc, SENSORS, SENSORS));
+    assert!(rt; is_one_sensor(alloc, EMPTY_SENSOR, SENSORS));
+    assert!(rt; is_one_temperature(alloc, TEMPERATURES, TEMPERATURES));
+    assert!(rt; is_one_temperature(alloc, b"\x54\xfe", TEMPERATURES));
 }
 
 /// The bytes are read as the highest priority, and written again.
