@@ -1,10 +1,10 @@
 -- What a type's codec makes of bytes.
-use Rattle.std.specs.Prelude.{◌≡◌, ◌≢◌, ◌⊎◌, ℕ, ◌-◌, Bool, true, false, if◌then◌else◌, IsTrue, List, [], ◌∷◌, length, Option, Some, None}
+use Rattle.std.specs.Prelude.{◌≡◌, ◌≢◌, ◌⊎◌, ℕ, ◌-◌, Bool, true, false, if◌then◌else◌, IsTrue, List, [], ◌∷◌, length, Some}
 use Rattle.std.specs.Str.{bytes_eq}
 use Rattle.amqp_base.specs.declared.error.Error.{Error}
 use Rattle.amqp_base.specs.declared.error.Error.TheVariants.{OutOfMemory}
 use Rattle.amqp_base.specs.Codes.{Kind as ItemKind}
-use Rattle.amqp_base.specs.Item.{Item, scalar, list, map, array, described, string, Items, none as no_items, more, Pairs, no_pairs, pair}
+use Rattle.amqp_base.specs.Item.{Item, scalar, list, map, array, string, Items, none as no_items, more, Pairs, no_pairs, pair}
 use Rattle.amqp_base.specs.Wire.{lenient, bare, Front}
 use Rattle.amqp_base.specs.Canon.{canon}
 use Rattle.amqp_ser.specs.Texts.{HasNoText}
