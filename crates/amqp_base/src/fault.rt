@@ -1,7 +1,8 @@
 //! Sources and sinks of bytes, and how often they failed.
 
-ghost use Rattle.std.specs.Prelude.{◌≡◌, ◌<◌, ◌≤◌, ℕ, Bool, true, false, List, [], ◌∷◌, length};
-ghost use Rattle.std.specs.Prelude.{Option, None, Some, ◌+◌, IfOk, IfSome, IsTrue};
+ghost use Rattle.std.specs.Prelude.{◌≡◌, ◌<◌, ◌≤◌, ℕ, Bool, true, false, List};
+ghost use Rattle.std.specs.Prelude.{[], ◌∷◌, length, Option, None, Some, ◌+◌, IfOk};
+ghost use Rattle.std.specs.Prelude.{IfSome, IsTrue};
 ghost use Rattle.std.specs.Borrow.{GName};
 ghost use Rattle.std.specs.Io.{ReadsAtMost};
 ghost use Rattle.std.specs.Io.KnownBytes.{WriteAppends, ReadConsumes, IsAtEnd};

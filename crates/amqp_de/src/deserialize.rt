@@ -1,6 +1,7 @@
 //! The trait of the types that are read.
 
-ghost use Rattle.std.specs.Prelude.{◌≡◌, ◌*◌, ◌≤◌, true, false, length, IfOk, IfErr};
+ghost use Rattle.std.specs.Prelude.{◌≡◌, ◌*◌, ◌≤◌, true, false, length, IfOk};
+ghost use Rattle.std.specs.Prelude.{IfErr};
 ghost use Rattle.amqp_read.specs.Steps.{HasBytes};
 ghost use Rattle.amqp_de.specs.Calls.{IsRead, IsRefused, IsNamed};
 ghost use Rattle.amqp_de.specs.Places.{least_width};

@@ -115,7 +115,8 @@ impl<R: Read> Deserializer<R> {
 /// Consumes the next byte.
 #[inline(always)]
 pub(crate) fn byte<R: Read>(reader: &mut R) -> Result<u8, Error>
-    ensures ok { IfOk result (λ b. Takes (R.reading reader.old) (R.reading reader.new) (b ∷ [])) }
+    ensures ok { IfOk result (λ b.
+        Takes (R.reading reader.old) (R.reading reader.new) (b ∷ [])) }
     ensures err { IfErr result (λ e.
         Unread R.buffers R.buffers 1 (R.reading reader.old) (R.reading reader.new) e) }
 {

@@ -1,16 +1,15 @@
 //! The fields of a struct, read by their names or in order.
 
-ghost use Rattle.std.specs.Prelude.{◌≡◌, ◌+◌, Bool, false, ◌||◌, IsTrue, Option, Some, None};
-ghost use Rattle.std.specs.Prelude.{List, [], ◌∷◌, ◌++◌};
-ghost use Rattle.std.specs.Prelude.{length, IfErr, OnOk};
+ghost use Rattle.std.specs.Prelude.{◌≡◌, ◌+◌, Bool, false, ◌||◌, IsTrue, Option};
+ghost use Rattle.std.specs.Prelude.{Some, None, List, [], ◌∷◌, ◌++◌, length, IfErr, OnOk};
 ghost use Rattle.amqp_base.specs.Item.{Item, Items};
 ghost use Rattle.amqp_base.specs.Fields.{takes_fields};
 ghost use Rattle.amqp_de.specs.Decoding.{Decoding};
 ghost use Rattle.amqp_de.specs.Law.{Missed};
 ghost use Rattle.amqp_de.specs.ReadParts.{Progress, open_list};
 ghost use Rattle.amqp_de.specs.ReadFields.{Slots, no_slots, slot, awaits, all_read, HaveValues};
-ghost use Rattle.amqp_de.specs.ReadFields.{FieldRead, NoField, RowRead, ElementsNamed};
-ghost use Rattle.amqp_de.specs.ReadFields.{FieldPicked, FieldNamed};
+ghost use Rattle.amqp_de.specs.ReadFields.{FieldRead, NoField, RowRead, ElementsNamed, FieldPicked};
+ghost use Rattle.amqp_de.specs.ReadFields.{FieldNamed};
 
 use crate::{Deserialize, ListAccess, MapAccess};
 use amqp_base::Error;

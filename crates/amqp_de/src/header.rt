@@ -1,6 +1,7 @@
 //! Sizes and counts in front of a body: the one place where they are read.
 
-ghost use Rattle.std.specs.Prelude.{nat_lt, ◌&&◌, ◌≡◌, ◌⊎◌, ◌%◌, false, None, IfOk, IfErr};
+ghost use Rattle.std.specs.Prelude.{nat_lt, ◌&&◌, ◌≡◌, ◌⊎◌, ◌%◌, false, None};
+ghost use Rattle.std.specs.Prelude.{IfOk, IfErr};
 ghost use Rattle.amqp_base.specs.Wire.{bare};
 ghost use Rattle.amqp_de.specs.Access.{Header, HasParts, HasPairs, OpensData};
 ghost use Rattle.amqp_base.specs.Parse.{header_at, least_size, behind_byte, list_data, pairs_at};

@@ -114,7 +114,8 @@ fn primitive(byte: u8) -> Result<EncodingCodes, Error>
 /// The next byte, as a primitive code.
 #[inline(always)]
 fn primitive_code<R: Read>(reader: &mut R) -> Result<EncodingCodes, Error>
-    ensures ok { IfOk result (λ e. TakesPrimitive e (R.reading reader.old) (R.reading reader.new)) }
+    ensures ok { IfOk result (λ e.
+        TakesPrimitive e (R.reading reader.old) (R.reading reader.new)) }
     ensures err { IfErr result (λ e. Rejects true R.buffers primitive_at (R.reading reader.old)
         (R.reading reader.new) e) }
 {

@@ -1,7 +1,7 @@
 //! The keys and values of a map, one pair at a time.
 
-ghost use Rattle.std.specs.Prelude.{◌≡◌, ◌%◌, Bool, true, false, Option, Some, None, Ok, Err, IfOk};
-ghost use Rattle.std.specs.Prelude.{IfErr};
+ghost use Rattle.std.specs.Prelude.{◌≡◌, ◌%◌, Bool, true, false, Option, Some, None, Ok};
+ghost use Rattle.std.specs.Prelude.{Err, IfOk, IfErr};
 ghost use Rattle.std.specs.Borrow.{sem, RestsIfErr};
 ghost use Rattle.amqp_base.specs.Item.{Item, no_pairs, map};
 ghost use Rattle.amqp_de.specs.Access.{HasPairs, Opens, OpensExactly, OpensNot, Plain};
@@ -10,8 +10,8 @@ ghost use Rattle.amqp_de.specs.Seq.{listing, at_open};
 ghost use Rattle.amqp_de.specs.ReadParts.{open_list};
 ghost use Rattle.amqp_de.specs.ReadPairs.{PairsRead, NoMap};
 ghost use Rattle.amqp_de.specs.contracts.deserializer.Deserializer.{the_row};
-ghost use Rattle.amqp_de.specs.Calls.{KeyAnswer, ValueAnswer, EntryAnswer};
-ghost use Rattle.amqp_de.specs.Calls.{KeyNamed, ValueNamed, EntryNamed};
+ghost use Rattle.amqp_de.specs.Calls.{KeyAnswer, ValueAnswer, EntryAnswer, KeyNamed, ValueNamed};
+ghost use Rattle.amqp_de.specs.Calls.{EntryNamed};
 
 use crate::constructor::Constructor;
 use crate::header::map_count;
@@ -74,7 +74,8 @@ impl<R: Read> Deserializer<R> {
     #[inline(always)]
     pub fn deserialize_map(&mut self) -> Result<MapAccess<'_, R>, Error>
         ensures* refused { sem 𝓛 (RestsIfErr (the_row R.row R.Read) self.entry (λ a.
-            a.de.ghost_name) result (λ last. IfErr result (λ e. NoMap R.buffers self.old last e))) }
+            a.de.ghost_name) result (λ last.
+            IfErr result (λ e. NoMap R.buffers self.old last e))) }
         ensures same_reference { IfOk result (λ a. a.de.ghost_name ≡ self.entry.ghost_name) }
         ensures opened { IfOk result (λ a. Opens HasPairs self.old (listing a)) }
         ensures exact { IfOk result (λ a. OpensExactly map_data self.old (listing a)) }
@@ -150,8 +151,8 @@ impl<'a, R: Read> Access<'a, R, Entries> {
         ensures same_reference { self.new.de.ghost_name ≡ self.old.de.ghost_name }
         ensures next { EntryAnswer K.meaning V.meaning R.buffers (open_list self.old) result
             (open_list self.new) }
-        ensures named { IfErr result (λ e. EntryNamed K.meaning V.meaning R.buffers (open_list self.old)
-            (open_list self.new) e) }
+        ensures named { IfErr result (λ e.
+            EntryNamed K.meaning V.meaning R.buffers (open_list self.old) (open_list self.new) e) }
     {
         match self.next_key(alloc) {
             Ok(Some(key)) => match self.next_value(alloc) {

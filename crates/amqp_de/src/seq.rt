@@ -168,7 +168,8 @@ impl<'a, R: Read> SeqAccess<'a, R> {
     #[inline(always)]
     #[tactic(auto, unfolding(crate::specs::ReadParts::open_list, crate::specs::ReadParts::open_seq))]
     pub fn next_element<T: Deserialize<R>>(&mut self, alloc: Global) -> Result<Option<T>, Error>
-        ensures same_reference { (lender_of self.new).ghost_name ≡ (lender_of self.old).ghost_name }
+        ensures same_reference { (lender_of self.new).ghost_name ≡
+            (lender_of self.old).ghost_name }
         ensures next { NextElement T.meaning R.buffers (open_seq self.old) result
             (open_seq self.new) }
     {

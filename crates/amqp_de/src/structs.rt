@@ -83,7 +83,8 @@ impl<R: Read> Deserializer<R> {
     fn open_struct(&mut self, name: &'static str, len: usize) -> Result<OpenedStruct, Error>
         ensures ok { IfOk result (λ o. FormOpened len self.old self.new o) }
         ensures err { RefusesStruct name.now len R.buffers self.old result self.new }
-        ensures described { is_described_name name.now ≡ true → result ≡ Err Error.InvalidValue }
+        ensures described { is_described_name name.now ≡ true →
+            result ≡ Err Error.InvalidValue }
     {
         if is_described(name) {
             self.ended = true;
@@ -112,7 +113,8 @@ impl<R: Read> Deserializer<R> {
         ensures same_reference { IfOk result (λ a.
             (struct_lender a).ghost_name ≡ self.entry.ghost_name) }
         ensures opened { IfOk result (λ a. StructOpened len self.old a) }
-        ensures described { is_described_name name.now ≡ true → result ≡ Err Error.InvalidValue }
+        ensures described { is_described_name name.now ≡ true →
+            result ≡ Err Error.InvalidValue }
     {
         let _ = alloc;
         match self.open_struct(name, len) {
@@ -201,8 +203,9 @@ impl<'a, R: Read> StructAccess<'a, R> {
     /// `SequenceLengthMismatch` where something was left unread, `InvalidValue` after a refusal;
     /// the deserializer is ended then.
     pub fn end(self) -> Result<Ended<'a, R>, Error>
-        ensures* refused { sem 𝓛 (RestsIfErr (the_row R.row R.Read) (struct_lender self.entry) (λ d.
-            d.de.ghost_name) result (λ last. last ≡ as_ended (struct_listing self.entry).state)) }
+        ensures* refused { sem 𝓛 (RestsIfErr (the_row R.row R.Read)
+            (struct_lender self.entry) (λ d. d.de.ghost_name) result
+            (λ last. last ≡ as_ended (struct_listing self.entry).state)) }
         ensures same_reference { IfOk result (λ d.
             d.de.ghost_name ≡ (struct_lender self.entry).ghost_name) }
         ensures ok { IfOk result (λ d. Ends (struct_listing self.entry) (Ok tt) d.de.now) }

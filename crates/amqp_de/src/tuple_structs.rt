@@ -20,7 +20,8 @@ impl<R: Read> Deserializer<R> {
     fn open_row(&mut self, name: &'static str, len: usize) -> Result<Open, Error>
         ensures ok { IfOk result (λ o. TupleOpened len self.old (at_open self.new o)) }
         ensures err { RefusesRow name.now len R.buffers self.old result self.new }
-        ensures described { is_described_name name.now ≡ true → result ≡ Err Error.InvalidValue }
+        ensures described { is_described_name name.now ≡ true →
+            result ≡ Err Error.InvalidValue }
     {
         if is_described(name) {
             self.ended = true;
@@ -45,8 +46,10 @@ impl<R: Read> Deserializer<R> {
             RefusesRow name.now len R.buffers self.old result last)) }
         ensures same_reference { IfOk result (λ a.
             (struct_lender a).ghost_name ≡ self.entry.ghost_name) }
-        ensures opened { IfOk result (λ a. IsRow a × TupleOpened len self.old (struct_listing a)) }
-        ensures described { is_described_name name.now ≡ true → result ≡ Err Error.InvalidValue }
+        ensures opened { IfOk result (λ a.
+            IsRow a × TupleOpened len self.old (struct_listing a)) }
+        ensures described { is_described_name name.now ≡ true →
+            result ≡ Err Error.InvalidValue }
     {
         let _ = alloc;
         match self.open_row(name, len) {

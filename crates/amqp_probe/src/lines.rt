@@ -27,7 +27,8 @@ pub struct Lines {
 
 impl Lines {
     ghost use Rattle.std.specs.Prelude.{◌↔◌, ◌==◌, [], length, position, IsSome, false};
-    ghost use Rattle.std.specs.Prelude.{if◌then◌else◌, IsTrue, IfOk, OnOk, IfErr, OnSome, IfSome};
+    ghost use Rattle.std.specs.Prelude.{if◌then◌else◌, IsTrue, IfOk, OnOk, IfErr, OnSome};
+    ghost use Rattle.std.specs.Prelude.{IfSome};
     ghost use Rattle.std.specs.Io.KnownBytes.{Keeps, IsAtEnd};
     ghost use Rattle.std.specs.declared.io.ErrorKind.TheVariants.{Other};
     ghost use Rattle.amqp_base.specs.declared.error.Error.TheVariants.{Io, OutOfMemory};

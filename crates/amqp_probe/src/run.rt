@@ -1,7 +1,7 @@
 //! A whole run over an input.
 
-ghost use Rattle.std.specs.Prelude.{◌≡◌, ◌<◌, ◌⊎◌, [], IsTrue, IfOk, OnOk, IfErr, OnErr, IfSome};
-ghost use Rattle.std.specs.Prelude.{string_bytes};
+ghost use Rattle.std.specs.Prelude.{◌≡◌, ◌<◌, ◌⊎◌, [], IsTrue, IfOk, OnOk, IfErr};
+ghost use Rattle.std.specs.Prelude.{OnErr, IfSome, string_bytes};
 ghost use Rattle.std.specs.Io.KnownBytes.{Appends, Keeps, append_known};
 ghost use Rattle.amqp_base.specs.declared.error.Error.TheVariants.{OutOfMemory};
 ghost use Rattle.amqp_base.specs.Faults.{Extends};

@@ -1,11 +1,12 @@
 //! What every reader does.
 
-ghost use Rattle.std.specs.Prelude.{◌≡◌, ◌≢◌, ◌⊎◌, ◌+◌, ◌<◌, ◌≤◌, ℕ, Bool, true, IsTrue, List, []};
-ghost use Rattle.std.specs.Prelude.{◌∷◌, length, OnOk, OnErr, IfOk, IfErr, MatchOption};
+ghost use Rattle.std.specs.Prelude.{◌≡◌, ◌≢◌, ◌⊎◌, ◌+◌, ◌<◌, ◌≤◌};
+ghost use Rattle.std.specs.Prelude.{ℕ, Bool, true, IsTrue, List, [], ◌∷◌, length, OnOk};
+ghost use Rattle.std.specs.Prelude.{OnErr, IfOk, IfErr, MatchOption};
 ghost use Rattle.amqp_read.specs.Reading.{Reading, Stays, Takes};
 ghost use Rattle.amqp_read.specs.Steps.{Shows, MayCome, Ended, IsShort, Fails, NotTaken};
-ghost use Rattle.amqp_read.specs.Steps.{PassesCount, Holds, Looked, AtHand};
-ghost use Rattle.amqp_read.specs.Steps.{ShowsBehind, NotSeen, Passes, PassesSome};
+ghost use Rattle.amqp_read.specs.Steps.{PassesCount, Holds, Looked, AtHand, ShowsBehind, NotSeen};
+ghost use Rattle.amqp_read.specs.Steps.{Passes, PassesSome};
 ghost use Rattle.amqp_base.specs.declared.error.Error.TheVariants.{OutOfMemory};
 
 use amqp_base::Error;
@@ -50,8 +51,9 @@ pub trait Read: sealed::Sealed + Drop {
 
     /// Consumes the next byte; `None` at the end.
     fn next(&mut self) -> Result<Option<u8>, Error>
-        ensures ok { IfOk result (λ o. MatchOption o (Stays (reading self.old) (reading self.new) ×
-            Ended (reading self.old)) (λ b. Takes (reading self.old) (reading self.new) (b ∷ []))) }
+        ensures ok { IfOk result (λ o.
+            MatchOption o (Stays (reading self.old) (reading self.new) × Ended (reading self.old))
+            (λ b. Takes (reading self.old) (reading self.new) (b ∷ []))) }
         ensures err { OnErr result (Stays (reading self.old) (reading self.new)) }
         ensures why { IfErr result (λ e.
             NotTaken buffers buffers 1 (reading self.old) (reading self.new) e) }

@@ -1,8 +1,8 @@
 //! A reader over bytes in memory.
 
-ghost use Rattle.std.specs.Prelude.{◌≡◌, ◌<◌, ◌≤◌, ◌+◌, ◌^◌, ℕ, Bool, true, false, List, [], ◌∷◌};
-ghost use Rattle.std.specs.Prelude.{length, IfOk, IfErr, OnOk, OnErr, IsTrue};
-ghost use Rattle.std.specs.Prelude.{MatchOption, Some, None};
+ghost use Rattle.std.specs.Prelude.{◌≡◌, ◌<◌, ◌≤◌, ◌+◌, ◌^◌, ℕ, Bool};
+ghost use Rattle.std.specs.Prelude.{true, false, List, [], ◌∷◌, length, IfOk, IfErr, OnOk};
+ghost use Rattle.std.specs.Prelude.{OnErr, IsTrue, MatchOption, Some, None};
 ghost use Rattle.std.specs.declared.io.ErrorKind.TheVariants.{UnexpectedEof};
 ghost use Rattle.amqp_base.specs.declared.error.Error.TheVariants.{Io};
 ghost use Rattle.std.specs.Borrow.{sem};
@@ -10,8 +10,8 @@ ghost use Rattle.std.specs.Io.BufRead.{Rests};
 ghost use mir.Syntax.{named};
 ghost use Rattle.amqp_read.specs.contracts.slice_reader.SliceReader.{the_row};
 ghost use Rattle.amqp_read.specs.Reading.{Reading, Takes};
-ghost use Rattle.amqp_read.specs.Steps.{ShortOf, MayCome, IsShort, Looked};
-ghost use Rattle.amqp_read.specs.Steps.{NotTaken, Passes, PassesSome};
+ghost use Rattle.amqp_read.specs.Steps.{ShortOf, MayCome, IsShort, Looked, NotTaken, Passes};
+ghost use Rattle.amqp_read.specs.Steps.{PassesSome};
 
 use crate::Read;
 use crate::read::sealed::Sealed;
@@ -29,7 +29,8 @@ pub struct SliceReader<'s> {
 }
 
 impl<'s> Model for SliceReader<'s> {
-    ghost use Rattle.std.specs.Prelude.{ℕ, ◌<◌, ◌+◌, ◌^◌, length, true, [], Some, None};
+    ghost use Rattle.std.specs.Prelude.{ℕ, ◌<◌, ◌+◌, ◌^◌, length, true, [], Some};
+    ghost use Rattle.std.specs.Prelude.{None};
     ghost use Rattle.amqp_read.specs.Reading.{Reading};
 
     ghost Value = { Reading };

@@ -1,6 +1,7 @@
 //! Numbers whose texts are written many at a time.
 
-ghost use Rattle.std.specs.Prelude.{◌≡◌, ◌≢◌, ◌+◌, ◌*◌, ◌≤◌, ◌∷◌, length, map, false};
+ghost use Rattle.std.specs.Prelude.{◌≡◌, ◌≢◌, ◌+◌, ◌*◌, ◌≤◌, ◌∷◌};
+ghost use Rattle.std.specs.Prelude.{length, map, false};
 ghost use Rattle.std.specs.Int.{bytes_high_first};
 ghost use Rattle.amqp_base.specs.Item.{scalar, int, ulong};
 ghost use Rattle.amqp_ser.specs.State.{state};

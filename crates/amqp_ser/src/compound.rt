@@ -1,22 +1,22 @@
 //! What is common to all compounds: their parts so far, and their header.
 
-ghost use Rattle.std.specs.Prelude.{◌≡◌, ◌≢◌, ◌+◌, ◌==◌, ◌%◌, ◌<◌, ◌≤◌, ◌++◌, ◌∷◌, ℕ, Bool, List};
-ghost use Rattle.std.specs.Prelude.{length, map, set, [], true, false};
-ghost use Rattle.std.specs.Prelude.{IfOk, IfErr, OnOk, OnErr, Err, Some};
+ghost use Rattle.std.specs.Prelude.{◌≡◌, ◌≢◌, ◌+◌, ◌==◌, ◌%◌, ◌<◌};
+ghost use Rattle.std.specs.Prelude.{◌≤◌, ◌++◌, ◌∷◌, ℕ, Bool, List, length, map};
+ghost use Rattle.std.specs.Prelude.{set, [], true, false, IfOk, IfErr, OnOk, OnErr, Err, Some};
 ghost use Rattle.amqp_base.specs.Item.{Item, items_of};
 ghost use Rattle.amqp_base.specs.Shapes.{whole, setting_inside};
 ghost use Rattle.amqp_base.specs.Wire.{under};
-ghost use Rattle.amqp_ser.specs.State.{State, Planned, Measured, state, mark_of, found_of, unmarked};
-ghost use Rattle.amqp_ser.specs.State.{answering, size_in};
+ghost use Rattle.amqp_ser.specs.State.{State, Planned, Measured, state, mark_of, found_of};
+ghost use Rattle.amqp_ser.specs.State.{unmarked, answering, size_in};
 ghost use Rattle.amqp_ser.specs.declared.pass.Opened.TheVariants.{Buffered as IsBuffered};
 ghost use Rattle.amqp_ser.specs.Law.{Wrote, Refused, Kept, IsDevice, unwritten, found_after};
 ghost use Rattle.amqp_ser.specs.Appending.{Pays, as_error};
 ghost use Rattle.amqp_ser.specs.Compound.{the_buffer, open_parts, is_map, awaits_value, Empty, Run};
 ghost use Rattle.amqp_ser.specs.Compound.{Holds, Complete, RefusesOpen, BeginsWith, EndsCompound};
 ghost use Rattle.amqp_ser.specs.Compound.{parts_text, whole_text, shape_code, narrow_of};
-ghost use Rattle.amqp_ser.specs.Compound.{empty_list, next_mark, head_text};
-ghost use Rattle.amqp_ser.specs.Compound.{back, outer_in, EndsMeasured, EndsWritten, Keeps};
-ghost use Rattle.amqp_ser.specs.Compound.{WritesPart, part_in, outside_in};
+ghost use Rattle.amqp_ser.specs.Compound.{empty_list, next_mark, head_text, back, outer_in};
+ghost use Rattle.amqp_ser.specs.Compound.{EndsMeasured, EndsWritten, Keeps, WritesPart, part_in};
+ghost use Rattle.amqp_ser.specs.Compound.{outside_in};
 
 use crate::pass::Opened;
 use crate::serializer::{LONGEST, Mark, NARROW, Refusal, handed_on, no_memory, refused};
@@ -254,7 +254,8 @@ impl Parts {
     /// Whether there are as many parts as were announced.
     #[inline(always)]
     pub(crate) fn is_full(&self) -> bool
-        ensures { (n : ℕ) → self.now.shape ≡ Shape.Tuple n → result ≡ (self.now.count == n) }
+        ensures { (n : ℕ) → self.now.shape ≡ Shape.Tuple n →
+            result ≡ (self.now.count == n) }
     {
         match self.shape {
             Shape::Tuple(len) => self.count == len,
@@ -582,7 +583,8 @@ impl<W: Sink> Serializer<W> {
     /// refused, or the array that the whole is to stand in has elements under another constructor.
     #[inline(always)]
     pub(crate) fn close(&mut self, parts: Parts) -> Result<(), Error>
-        ensures ok { (pairs : Bool) → OnOk result ((s : State) (shape : Shape) (xs : List Item) →
+        ensures ok { (pairs : Bool) →
+            OnOk result ((s : State) (shape : Shape) (xs : List Item) →
             Holds s shape xs (open_parts pairs (state W.Write W.FaultCount self.old) parts) →
             Complete pairs xs → Wrote s (whole shape xs) (state W.Write W.FaultCount self.new)) }
         ensures err { (pairs : Bool) →
@@ -643,7 +645,8 @@ impl<W: Sink> Serializer<W> {
         at: usize,
         before: usize,
     ) -> Result<(), Refusal>
-        ensures law { (m : Measured) → (state W.Write W.FaultCount self.old).measure ≡ Some m →
+        ensures law { (m : Measured) →
+            (state W.Write W.FaultCount self.old).measure ≡ Some m →
             EndsMeasured shape at before count m
             (back (outer_in outer) (state W.Write W.FaultCount self.old)) (as_error result)
             (state W.Write W.FaultCount self.new) }

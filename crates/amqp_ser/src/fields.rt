@@ -1,7 +1,7 @@
 //! Structs, all fields at once.
 
-ghost use Rattle.std.specs.Prelude.{◌≡◌, ◌++◌, ◌∷◌, [], true, false, not, ◌&&◌, IsTrue, IfErr};
-ghost use Rattle.std.specs.Prelude.{OnOk, List};
+ghost use Rattle.std.specs.Prelude.{◌≡◌, ◌++◌, ◌∷◌, [], true, false, not, ◌&&◌};
+ghost use Rattle.std.specs.Prelude.{IsTrue, IfErr, OnOk, List};
 ghost use Rattle.amqp_base.specs.Structs.{FieldItem, named, struct_item, is_described_name};
 ghost use Rattle.amqp_base.specs.Structs.{is_descriptor_name, struct_shape};
 ghost use Rattle.amqp_ser.specs.State.{State, state};

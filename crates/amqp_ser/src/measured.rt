@@ -65,7 +65,8 @@ pub fn measured_size<T: Serialize>(alloc: Global, value: &T) -> Result<usize, Er
 /// It is refused as `measured_size` is, and as `OutOfMemory` where there is no room.
 #[inline(always)]
 pub fn measured_vec<T: Serialize>(alloc: Global, value: &T) -> Result<Vec<u8>, Error>
-    ensures ok { IfOk result (λ v. canon (T.meaning.item value.now Setting.Plain) ≡ Some v.items) }
+    ensures ok { IfOk result (λ v.
+        canon (T.meaning.item value.now Setting.Plain) ≡ Some v.items) }
     ensures err { IfErr result (λ e.
         (e ≡ Error.OutOfMemory) ⊎ HasNoText (T.meaning.item value.now Setting.Plain) e) }
 {
@@ -86,8 +87,10 @@ pub fn write_measured<T: Serialize>(
     value: &T,
     measure: Measure,
 ) -> Result<Vec<u8>, Error>
-    ensures ok { IfOk result (λ v. canon (T.meaning.item value.now Setting.Plain) ≡ Some v.items) }
-    ensures err { IfErr result (λ e. IsMeasureOf (T.meaning.item value.now Setting.Plain) measure →
+    ensures ok { IfOk result (λ v.
+        canon (T.meaning.item value.now Setting.Plain) ≡ Some v.items) }
+    ensures err { IfErr result (λ e.
+        IsMeasureOf (T.meaning.item value.now Setting.Plain) measure →
         e ≡ Error.OutOfMemory) }
 {
     let Measure { length, sizes } = measure;

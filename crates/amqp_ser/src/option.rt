@@ -18,8 +18,9 @@ impl<W: Sink> Serializer<W> {
     pub fn serialize_none(&mut self, alloc: Global) -> Result<(), Error>
         ensures ok { OnOk result (Wrote (state W.Write W.FaultCount self.old) (scalar null)
             (state W.Write W.FaultCount self.new)) }
-        ensures err { IfErr result (λ e. Refused (state W.Write W.FaultCount self.old) (scalar null)
-            e (state W.Write W.FaultCount self.new)) }
+        ensures err { IfErr result (λ e.
+            Refused (state W.Write W.FaultCount self.old) (scalar null) e
+            (state W.Write W.FaultCount self.new)) }
         ensures stops { Stops (state W.Write W.FaultCount self.old) result
             (state W.Write W.FaultCount self.new) }
         ensures spares { Spares (state W.Write W.FaultCount self.old) result

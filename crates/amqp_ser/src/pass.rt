@@ -1,7 +1,7 @@
 //! The writers of a value that is measured first and then written once.
 
-ghost use Rattle.std.specs.Prelude.{◌≡◌, ◌+◌, ◌≤◌, ◌++◌, [], Some, None, drop, true, length};
-ghost use Rattle.std.specs.Prelude.{IfOk, IsOk, OnOk, vec_len, vec_capacity};
+ghost use Rattle.std.specs.Prelude.{◌≡◌, ◌+◌, ◌≤◌, ◌++◌, [], Some, None, drop};
+ghost use Rattle.std.specs.Prelude.{true, length, IfOk, IsOk, OnOk, vec_len, vec_capacity};
 ghost use Rattle.amqp_ser.specs.Passes.{listed};
 
 use crate::sizes::Sizes;

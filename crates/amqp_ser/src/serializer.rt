@@ -1,6 +1,7 @@
 //! The serializer: its state, and the bytes that it appends.
 
-ghost use Rattle.std.specs.Prelude.{◌≡◌, ◌≢◌, ◌++◌, ◌∷◌, [], true, false, OnErr, Some};
+ghost use Rattle.std.specs.Prelude.{◌≡◌, ◌≢◌, ◌++◌, ◌∷◌, [], true, false};
+ghost use Rattle.std.specs.Prelude.{OnErr, Some};
 ghost use Rattle.amqp_base.specs.Wire.{under};
 ghost use Rattle.amqp_ser.specs.State.{Fresh, state, mark_of, unmarked, first};
 ghost use Rattle.amqp_ser.specs.Law.{placed, found_after};

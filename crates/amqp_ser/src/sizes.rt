@@ -1,6 +1,7 @@
 //! The sizes of the compounds in a value.
 
-ghost use Rattle.std.specs.Prelude.{◌≡◌, ◌+◌, ◌∷◌, ◌<◌, [], IfSome, IsTrue, drop, set};
+ghost use Rattle.std.specs.Prelude.{◌≡◌, ◌+◌, ◌∷◌, ◌<◌, [], IfSome, IsTrue};
+ghost use Rattle.std.specs.Prelude.{drop, set};
 ghost use Rattle.amqp_ser.specs.Passes.{HasPlace, listed};
 ghost use Rattle.amqp_ser.specs.State.{size_in};
 

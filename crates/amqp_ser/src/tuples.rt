@@ -1,7 +1,7 @@
 //! Tuples, part by part.
 
-ghost use Rattle.std.specs.Prelude.{◌≡◌, ℕ, ◌++◌, ◌∷◌, [], length, Some, true, IfOk, IfErr, OnOk};
-ghost use Rattle.std.specs.Prelude.{OnErr, Err, List};
+ghost use Rattle.std.specs.Prelude.{◌≡◌, ℕ, ◌++◌, ◌∷◌, [], length, Some, true};
+ghost use Rattle.std.specs.Prelude.{IfOk, IfErr, OnOk, OnErr, Err, List};
 ghost use Rattle.std.specs.Borrow.{sem, RestsIfErr};
 ghost use Rattle.amqp_base.specs.Item.{Item, items_of};
 ghost use Rattle.amqp_base.specs.Shapes.{whole};

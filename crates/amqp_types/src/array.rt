@@ -1,8 +1,8 @@
 //! Arrays: values of one type under one constructor.
 
 ghost use Rattle.amqp_base.specs.Meaning.{array_of};
-ghost use Rattle.std.specs.Prelude.{◌≡◌, ◌==◌, ◌^◌, ◌<◌, length, map, refl, IfOk, IfErr};
-ghost use Rattle.std.specs.Prelude.{vec_len};
+ghost use Rattle.std.specs.Prelude.{◌≡◌, ◌==◌, ◌^◌, ◌<◌, length, map, refl, IfOk};
+ghost use Rattle.std.specs.Prelude.{IfErr, vec_len};
 ghost use Rattle.std.specs.Iterator.{Drains, IsFinite};
 ghost use Rattle.std.specs.Iterator.Runs.{EveryRun, WholeRun, ItemsAre, ItemsMapTo};
 ghost use Rattle.std.specs.List.{AllZip};
@@ -65,7 +65,8 @@ impl<T> Array<T> {
     where
         T: Clone,
         ensures ok { IfOk result (λ a. AllZip T.is_clone self.now.0.items a.0.items) }
-        ensures items_if_clones_equal { IfOk result (λ a. ((x y : T) → T.is_clone x y → y ≡ x) →
+        ensures items_if_clones_equal { IfOk result
+            (λ a. ((x y : T) → T.is_clone x y → y ≡ x) →
             a.0.items ≡ self.now.0.items) }
         ensures err { IfErr result (λ e. e ≡ OutOfMemory) }
     {
@@ -109,7 +110,8 @@ impl<T> DerefMut for Array<T> {
 
     #[inline]
     fn deref_mut(&mut self) -> &mut Vec<T>
-        ensures* writes_back { sem 𝓛 (Lends (the_row T.row) (elements_row T.row) self.entry result
+        ensures* writes_back { sem 𝓛
+            (Lends (the_row T.row) (elements_row T.row) self.entry result
             (λ elements. record { 0 = elements })) }
         ensures shows { result.now ≡ self.old.0 }
     {
@@ -158,7 +160,8 @@ impl<'a, T> IntoIterator for &'a mut Array<T> {
 
     ghost into_iter_gives = { λ a it. (iter_mut_rest it ≡ a.now.0.items) ×
         (length (iter_mut_rest it) < 2 ^ 64) ×
-        EveryRun (iter_mut_steps {A = T}) (λ p. ItemsMapTo p (λ x. x.now) (iter_mut_rest p.from)) };
+        EveryRun (iter_mut_steps {A = T})
+        (λ p. ItemsMapTo p (λ x. x.now) (iter_mut_rest p.from)) };
 
     /// Its elements, in order, each to be changed.
     fn into_iter(self) -> slice::IterMut<'a, T>

@@ -3,8 +3,8 @@
 ghost use Rattle.amqp_base.specs.Meaning.{map_of};
 ghost use Rattle.amqp_base.specs.ReadBack.{both};
 ghost use Rattle.std.specs.Cmp.{IsEquivalence};
-ghost use Rattle.std.specs.Prelude.{◌≡◌, ◌==◌, ◌&&◌, ℕ, List, [], length, option_copied, IfOk};
-ghost use Rattle.std.specs.Prelude.{OnOk, IfErr, OnErr, true, refl};
+ghost use Rattle.std.specs.Prelude.{◌≡◌, ◌==◌, ◌&&◌, ℕ, List, [], length};
+ghost use Rattle.std.specs.Prelude.{option_copied, IfOk, OnOk, IfErr, OnErr, true, refl};
 ghost use Rattle.std.specs.Cmp.{on_per, and_per};
 ghost use Rattle.std.specs.Cmp.Lexicographic.{pointwise, lists_per};
 ghost use Rattle.std.specs.List.{IsDistinct};

@@ -3,7 +3,8 @@
 ghost use Rattle.amqp_base.specs.Meaning.{scalar_of};
 ghost use Rattle.amqp_base.specs.Sorts.{as_symbol};
 ghost use Rattle.amqp_types.specs.Texts.{a_symbol_ref};
-ghost use Rattle.std.specs.Prelude.{◌≡◌, ◌||◌, true, false, refl, IfOk, IfErr, string_bytes};
+ghost use Rattle.std.specs.Prelude.{◌≡◌, ◌||◌, true, false, refl, IfOk, IfErr};
+ghost use Rattle.std.specs.Prelude.{string_bytes};
 ghost use Rattle.amqp_base.specs.declared.error.Error.TheVariants.{OutOfMemory};
 
 use amqp_base::{Error, NeverNull, RoundTrip, Typed};

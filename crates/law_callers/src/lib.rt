@@ -2,7 +2,8 @@
 //! does anything at run time.
 #![tactic(auto)]
 
-ghost use Rattle.std.specs.Prelude.{◌≡◌, ℕ, ◌*◌, ◌≤◌, List, ◌++◌, length, take, Some};
+ghost use Rattle.std.specs.Prelude.{◌≡◌, ℕ, ◌*◌, ◌≤◌, List, ◌++◌, length};
+ghost use Rattle.std.specs.Prelude.{take, Some};
 ghost use Rattle.amqp_base.specs.Item.{Item, scalar, uint, Capped, items};
 ghost use Rattle.amqp_base.specs.Wire.{Front, Wire, lenient, strict, bare};
 ghost use Rattle.amqp_base.specs.Canon.{canon};
@@ -21,7 +22,8 @@ use std::collections::BTreeMap;
 
 /// Where a uint stands at the front of bytes, every item that stands there is that uint.
 pub fn one_uint(_bytes: &[u8])
-    ensures { (v : ℕ) (i : Item) (m n : ℕ) → Front lenient bare _bytes.now (scalar (uint v)) m →
+    ensures { (v : ℕ) (i : Item) (m n : ℕ) →
+        Front lenient bare _bytes.now (scalar (uint v)) m →
         Front lenient bare _bytes.now i n → (scalar (uint v)) ≡ i }
 {
     laws::one_front();
@@ -38,7 +40,8 @@ pub fn cut(_bytes: &[u8])
 /// A canonical text is a strict form, and a wire form where no count is too high.
 pub fn written_is_legal()
     ensures strict { (i : Item) (b : List ℕ) → canon i ≡ Some b → Wire strict bare b i }
-    ensures wire { (i : Item) (b : List ℕ) → canon i ≡ Some b → Capped i → Wire lenient bare b i }
+    ensures wire { (i : Item) (b : List ℕ) → canon i ≡ Some b → Capped i →
+        Wire lenient bare b i }
 {
     laws::canon_strict();
 }
@@ -53,7 +56,8 @@ pub fn one_text()
 
 /// A strict text is skipped exactly, where its value isn't described twice.
 pub fn skipped()
-    ensures { (i : Item) (b y : List ℕ) → Wire strict bare b i → (IsTwiceDescribed i → ⊥) →
+    ensures { (i : Item) (b y : List ℕ) → Wire strict bare b i →
+        (IsTwiceDescribed i → ⊥) →
         raw (b ++ y) ≡ Some (length b) }
 {
     laws::raw_agrees();
@@ -61,7 +65,8 @@ pub fn skipped()
 
 /// So a text that was written is skipped exactly.
 pub fn written_is_skipped()
-    ensures { (i : Item) (b y : List ℕ) → canon i ≡ Some b → (IsTwiceDescribed i → ⊥) →
+    ensures { (i : Item) (b y : List ℕ) → canon i ≡ Some b →
+        (IsTwiceDescribed i → ⊥) →
         raw (b ++ y) ≡ Some (length b) }
 {
     laws::canon_strict();
@@ -105,7 +110,8 @@ pub fn strings_are_read_back()
     ensures { (v : Vec (String Global) Global) (b rest : List ℕ) →
         canon (⟦<Vec<String> as Typed>⟧.meaning.item v Plain) ≡ Some b →
         Capped (⟦<Vec<String> as Typed>⟧.meaning.item v Plain) →
-        ⟦<Vec<String> as Typed>⟧.meaning.means (⟦<Vec<String> as Typed>⟧.meaning.item v Plain) v }
+        ⟦<Vec<String> as Typed>⟧.meaning.means
+        (⟦<Vec<String> as Typed>⟧.meaning.item v Plain) v }
 {
     laws::round_trip::<Vec<String>>();
 }
@@ -115,8 +121,8 @@ pub fn map_is_read_back(_map: &BTreeMap<u32, u32>)
     ensures { (b rest : List ℕ) →
         canon (⟦<BTreeMap<u32, u32> as Typed>⟧.meaning.item _map.now Plain) ≡ Some b →
         Capped (⟦<BTreeMap<u32, u32> as Typed>⟧.meaning.item _map.now Plain) →
-        ⟦<BTreeMap<u32, u32> as Typed>⟧.meaning.means (⟦<BTreeMap<u32, u32> as Typed>⟧.meaning.item
-        _map.now Plain) _map.now }
+        ⟦<BTreeMap<u32, u32> as Typed>⟧.meaning.means
+        (⟦<BTreeMap<u32, u32> as Typed>⟧.meaning.item _map.now Plain) _map.now }
 {
     let _len = _map.len();
     laws::round_trip::<BTreeMap<u32, u32>>();

@@ -47,7 +47,8 @@ use std::alloc::Global;
 /// as `Io(Other)`, where a payload or a body is above 4,294,967,291 bytes, else as `InvalidValue`,
 /// an element that can't stand in its array. `OutOfMemory`: there is no room for the text.
 pub fn to_vec<T: Serialize>(alloc: Global, value: &T) -> Result<Vec<u8>, Error>
-    ensures ok { IfOk result (λ v. canon (T.meaning.item value.now Setting.Plain) ≡ Some v.items) }
+    ensures ok { IfOk result (λ v.
+        canon (T.meaning.item value.now Setting.Plain) ≡ Some v.items) }
     ensures err { IfErr result (λ e.
         (e ≡ Error.OutOfMemory) ⊎ HasNoText (T.meaning.item value.now Setting.Plain) e) }
 {
