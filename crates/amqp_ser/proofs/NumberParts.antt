@@ -2,20 +2,19 @@
 use Rattle.std.proofs.Common.{◌≡◌, inl, inr, ℕ, ◌+◌, min, List, [], ◌∷◌, ◌++◌, length, length-append, refl, sym, ◌∙◌, ap, subst, arith, Option, Some, None, Bool, true, false, Result, Ok, Err, append_assoc}
 use Rattle.std.proofs.lemmas.List.{append-nil}
 use Rattle.amqp_base.specs.Item.{Item, items_of}
-use Rattle.amqp_base.specs.Canon.{canons}
 use Rattle.amqp_base.specs.Shapes.{whole}
 use Rattle.amqp_base.specs.Sizes.{sizes, sizes_in}
 use Rattle.amqp_base.specs.Passes.{CountsMore}
 use Rattle.amqp_base.specs.declared.error.Error.{Error}
 use Rattle.amqp_base.specs.declared.shape.Shape.{Shape}
-use Rattle.amqp_ser.specs.State.{State, Planned, Measured, contents_in, plan_in, measure_in}
-use Rattle.amqp_ser.specs.Law.{Goes, Refused, Kept, measure_after, plan_after}
+use Rattle.amqp_ser.specs.State.{State, Mark, unmarked, first, Planned, Measured, contents_in, plan_in, measure_in}
+use Rattle.amqp_ser.specs.Law.{marked, Goes, Refused, Kept, measure_after, plan_after}
 use Rattle.amqp_ser.specs.Compound.{Open, Back, Begun, Run, Holds, outer_of, parts_text, next_mark}
-use Rattle.amqp_ser.specs.NumberTexts.{AreTexts, HaveTextsOf, WritesNumbers}
+use Rattle.amqp_ser.specs.NumberTexts.{texts_at, AreTexts, HaveTextsOf, WritesNumbers, Stand}
 use Rattle.amqp_ser.proofs.Counting.{goes_more}
 use Rattle.amqp_ser.proofs.Steps.{fits_nil, kept_two}
-use Rattle.amqp_ser.proofs.PartTexts.{true_false}
-use Rattle.amqp_ser.proofs.NumberTexts.{canons_two}
+use Rattle.amqp_ser.proofs.PartTexts.{true_false, bind_some, parts_more}
+use Rattle.amqp_ser.proofs.NumberTexts.{some_is}
 use Rattle.amqp_ser.proofs.Compounds.{Lives, begun_moved, kept_from, kept_open, none_appends, none_extends}
 
 -- numbers that are only counted
@@ -34,9 +33,9 @@ plan_none : (d : Bool) (p q : Option Planned) → p ≡ None → q ≡ p → (b 
 plan_none false p q h e b = refl
 plan_none true p q h e b = rw (e, h) refl
 
-pub counted_all : {A : Type 0} (is : List Item) (s t : State) (d : Bool) (c : Option (List ℕ)) (p q : Option Planned) (m n : Option Measured) (more : ℕ) (y : A) → HaveTextsOf is more → CountsMore m more n → c ≡ None → p ≡ None → q ≡ p → s.contents ≡ contents_in d c → s.plan ≡ plan_in d p → t.plan ≡ plan_in d q → s.measure ≡ measure_in d m → t.measure ≡ measure_in d n
-    → t.faults ≡ s.faults → t.grows ≡ s.grows → t.setting ≡ s.setting → t.mark ≡ s.mark → t.found ≡ s.found → t.ended ≡ s.ended → WritesNumbers is s (Ok y) t
-counted_all is s t d c p q m n more y texts counts untold alone kept contents plan after measure counted faults grows setting mark found ended =
+pub counted_all : {A : Type 0} (k : Mark) (is : List Item) (s t : State) (d : Bool) (c : Option (List ℕ)) (p q : Option Planned) (m n : Option Measured) (more : ℕ) (y : A) → HaveTextsOf k is more → CountsMore m more n → c ≡ None → p ≡ None → q ≡ p → s.contents ≡ contents_in d c → s.plan ≡ plan_in d p → t.plan ≡ plan_in d q → s.measure ≡ measure_in d m → t.measure ≡ measure_in d n
+    → t.faults ≡ s.faults → t.grows ≡ s.grows → t.setting ≡ s.setting → t.mark ≡ s.mark → t.found ≡ s.found → t.ended ≡ s.ended → WritesNumbers k is s (Ok y) t
+counted_all k is s t d c p q m n more y texts counts untold alone kept contents plan after measure counted faults grows setting mark found ended =
     let b = texts.0 in
     let none : s.contents ≡ None = contents ∙ contents_none d c untold in
     record {
@@ -63,36 +62,65 @@ counted_all is s t d c p q m n more y texts counts untold alone kept contents pl
       };
     }
 
--- texts behind parts
-parts_many : (shape : Shape) (xs is : List Item) (a b : List ℕ) → (shape ≡ Shape.Array → ⊥) → parts_text shape (items_of xs) ≡ Some a → canons (items_of is) ≡ Some b → parts_text shape (items_of (xs ++ is)) ≡ Some (a ++ b)
-unfolding parts_text
-parts_many Shape.List xs is a b n h k = canons_two xs is a b h k
-parts_many Shape.Array xs is a b n h k = absurd (n refl)
-parts_many (Shape.Tuple m) xs is a b n h k = canons_two xs is a b h k
-parts_many Shape.Map xs is a b n h k = canons_two xs is a b h k
-parts_many Shape.Fields xs is a b n h k = canons_two xs is a b h k
+unmarked_not : unmarked ≡ first → ⊥
+unmarked_not h = cc
 
-mark_many : (shape : Shape) (xs is : List Item) → (shape ≡ Shape.Array → ⊥) → next_mark shape (xs ++ is) ≡ next_mark shape xs
+-- the mark stays, once it isn't the first element's
+mark_more : (shape : Shape) (xs : List Item) (i : Item) (m : Mark) → (m ≡ first → ⊥) → next_mark shape xs ≡ m → next_mark shape (xs ++ i ∷ []) ≡ m
 unfolding next_mark
-mark_many Shape.List xs is n = refl
-mark_many Shape.Array xs is n = absurd (n refl)
-mark_many (Shape.Tuple m) xs is n = refl
-mark_many Shape.Map xs is n = refl
-mark_many Shape.Fields xs is n = refl
+mark_more Shape.List xs i m n h = h
+mark_more Shape.Array [] i m n h = absurd (n (sym h))
+mark_more Shape.Array (x ∷ xs) i m n h = h
+mark_more (Shape.Tuple k) xs i m n h = h
+mark_more Shape.Map xs i m n h = h
+mark_more Shape.Fields xs i m n h = h
+
+-- texts under one mark behind parts
+record Behind (shape : Shape) (xs : List Item) (m : Mark) (a : List ℕ) : Type 0 where
+  text : parts_text shape (items_of xs) ≡ Some a
+  mark : next_mark shape xs ≡ m
+
+parts_many : (shape : Shape) (xs is : List Item) (m : Mark) (a b : List ℕ) → (m ≡ first → ⊥) → Behind shape xs m a → texts_at m is ≡ Some b → Behind shape (xs ++ is) m (a ++ b)
+unfolding texts_at
+parts_many shape xs [] m a b n h k =
+    let e : [] ≡ b = some_is _ _ k in
+    rw (sym e, append-nil a, append-nil xs) h
+parts_many shape xs (i ∷ is) m a b n h k =
+    let p = bind_some (marked m i) _ _ k in
+    let q = bind_some (texts_at m is) _ _ p.2 in
+    let e : p.0 ++ q.0 ≡ b = some_is _ _ q.2 in
+    let one : Behind shape (xs ++ i ∷ []) m (a ++ p.0) = record {
+      text = parts_more shape xs i a p.0 h.text (subst (λ d. marked d i ≡ Some p.0) (sym h.mark) p.1);
+      mark = mark_more shape xs i m n h.mark;
+    } in
+    let all : Behind shape ((xs ++ i ∷ []) ++ is) m ((a ++ p.0) ++ q.0) = parts_many shape (xs ++ i ∷ []) is m (a ++ p.0) q.0 n one q.1 in
+    subst (λ ys. Behind shape ys m (a ++ b)) (append_assoc xs (i ∷ []) is) (subst (λ c. Behind shape ((xs ++ i ∷ []) ++ is) m c) (append_assoc a p.0 q.0 ∙ ap (λ c. a ++ c) e) all)
+
+-- the mark under which the parts of a compound go on
+stands : (m : Mark) (shape : Shape) (xs : List Item) (now : Mark) → Stand m shape now → now ≡ next_mark shape xs → (next_mark shape xs ≡ m) × (m ≡ first → ⊥)
+unfolding next_mark
+stands m Shape.List xs now (inl o) h = (sym o.1, λ e. unmarked_not (sym o.1 ∙ e))
+stands m Shape.Array xs now (inl o) h = absurd (o.0 refl)
+stands m (Shape.Tuple k) xs now (inl o) h = (sym o.1, λ e. unmarked_not (sym o.1 ∙ e))
+stands m Shape.Map xs now (inl o) h = (sym o.1, λ e. unmarked_not (sym o.1 ∙ e))
+stands m Shape.Fields xs now (inl o) h = (sym o.1, λ e. unmarked_not (sym o.1 ∙ e))
+stands m shape xs now (inr o) h = (sym h ∙ o.0, o.1)
 
 sizes_many : (xs is : List Item) → sizes_in (items_of (xs ++ is)) ≡ sizes_in (items_of xs) ++ sizes_in (items_of is)
 unfolding sizes_in
 sizes_many [] is = refl
 sizes_many (x ∷ xs) is = ap (λ l. sizes x ++ l) (sizes_many xs is) ∙ sym (append_assoc (sizes x) (sizes_in (items_of xs)) (sizes_in (items_of is)))
 
-run_many : (shape : Shape) (xs is : List Item) (u v w : State) (b : List ℕ) → (shape ≡ Shape.Array → ⊥) → Run shape u xs v → AreTexts is b → Goes v b [] w → w.mark ≡ v.mark → w.ended ≡ v.ended → Run shape u (xs ++ is) w
-run_many shape xs is u v w b outside r texts goes mark ended =
+run_many : (shape : Shape) (xs is : List Item) (m : Mark) (u v w : State) (b : List ℕ) → Stand m shape v.mark → Run shape u xs v → AreTexts m is b → Goes v b [] w → w.mark ≡ v.mark → w.ended ≡ v.ended → Run shape u (xs ++ is) w
+run_many shape xs is m u v w b stand r texts goes mark ended =
     let z : sizes_in (items_of xs) ++ [] ≡ sizes_in (items_of (xs ++ is)) = ap (λ l. sizes_in (items_of xs) ++ l) (sym texts.flat) ∙ sym (sizes_many xs is) in
+    let at = stands m shape xs v.mark stand r.mark in
+    let all = parts_many shape xs is m r.bytes b at.1 (record { text = r.text; mark = at.0 }) texts.text in
     record {
       bytes = r.bytes ++ b;
-      text = parts_many shape xs is r.bytes b outside r.text texts.text;
+      text = all.text;
       goes = subst (λ l. Goes u (r.bytes ++ b) l w) z (goes_more u v w r.bytes b (sizes_in (items_of xs)) [] r.goes goes);
-      mark = mark ∙ (r.mark ∙ sym (mark_many shape xs is outside));
+      mark = mark ∙ (r.mark ∙ (at.0 ∙ sym all.mark));
       inside = goes.setting ∙ r.inside;
       answers = ended ∙ r.answers;
     }
@@ -100,22 +128,22 @@ run_many shape xs is u v w b outside r texts goes mark ended =
 kept_by : (o v w t : State) → v ≡ record o { ended = false } → Kept v w → t ≡ record w { ended = true } → Kept o t
 kept_by o v w t at_v k at_t = kept_from o v w t at_v k (ap (λ (y : State). y.contents) at_t) (ap (λ (y : State). y.faults) at_t) (ap (λ (y : State). y.grows) at_t)
 
-pub kept_numbers : {A : Type 0} (is : List Item) (o w t : State) (r : Result A Error) → WritesNumbers is (record o { ended = false }) r w → t ≡ record w { ended = true } → Kept o t
-kept_numbers is o w t r h at_t = kept_by o (record o { ended = false }) w t refl h.appended.kept at_t
+pub kept_numbers : {A : Type 0} (m : Mark) (is : List Item) (o w t : State) (r : Result A Error) → WritesNumbers m is (record o { ended = false }) r w → t ≡ record w { ended = true } → Kept o t
+kept_numbers m is o w t r h at_t = kept_by o (record o { ended = false }) w t refl h.appended.kept at_t
 
-pub kept_refused : {A : Type 0} (is : List Item) (o t : State) (r : Result A Error) → WritesNumbers is (record o { ended = false }) r t → Kept o t
-kept_refused is o t r h = kept_from o (record o { ended = false }) t t refl h.appended.kept refl refl refl
+pub kept_refused : {A : Type 0} (m : Mark) (is : List Item) (o t : State) (r : Result A Error) → WritesNumbers m is (record o { ended = false }) r t → Kept o t
+kept_refused m is o t r h = kept_from o (record o { ended = false }) t t refl h.appended.kept refl refl refl
 
 -- numbers behind the parts of a compound, on the serializer itself
-pub numbers_more : {A : Type 0} (s : State) (shape : Shape) (xs is : List Item) (q p : Open) (b : Back) (o w t : State) (x : A) → Lives q.opened → (q.shape ≡ Shape.Array → ⊥) → q.inner ≡ record o { ended = false } → q.outer ≡ outer_of q.opened o b → WritesNumbers is (record o { ended = false }) (Ok x) w → t ≡ record w { ended = true } → p.inner ≡ record t { ended = false } → p.opened ≡ q.opened → p.outer ≡ outer_of q.opened t b → p.pairs ≡ q.pairs → p.shape ≡ q.shape → p.count ≡ q.count + length is → Holds s shape xs q → Holds s shape (xs ++ is) p
-numbers_more s shape xs is q p b o w t x live outside inner outer wrote at_t after opened back_at pairs same count h =
+pub numbers_more : {A : Type 0} (s : State) (shape : Shape) (xs is : List Item) (m : Mark) (q p : Open) (b : Back) (o w t : State) (x : A) → Lives q.opened → Stand m q.shape o.mark → q.inner ≡ record o { ended = false } → q.outer ≡ outer_of q.opened o b → WritesNumbers m is (record o { ended = false }) (Ok x) w → t ≡ record w { ended = true } → p.inner ≡ record t { ended = false } → p.opened ≡ q.opened → p.outer ≡ outer_of q.opened t b → p.pairs ≡ q.pairs → p.shape ≡ q.shape → p.count ≡ q.count + length is → Holds s shape xs q → Holds s shape (xs ++ is) p
+numbers_more s shape xs is m q p b o w t x live stand inner outer wrote at_t after opened back_at pairs same count h =
     let v : State = record o { ended = false } in
     let a = wrote.appended.ok in
-    let array : (shape ≡ Shape.Array → ⊥) = λ e. outside (h.shape_is ∙ e) in
+    let here : Stand m shape o.mark = subst (λ y. Stand m y o.mark) h.shape_is stand in
     let r : Run shape h.start xs v = subst (λ y. Run shape h.start xs y) inner h.run in
-    let many : Run shape h.start (xs ++ is) w = run_many shape xs is h.start v w wrote.bytes array r wrote.texts a.0 a.1 a.3 in
+    let many : Run shape h.start (xs ++ is) w = run_many shape xs is m h.start v w wrote.bytes here r wrote.texts a.0 a.1 a.3 in
     let moved : record t { ended = false } ≡ w = ap (λ (y : State). record y { ended = false }) at_t ∙ (let e : record w { ended = false } ≡ w = ap (λ z. record w { ended = z }) (sym many.answers) in e) in
-    let kept : Kept o t = kept_numbers is o w t (Ok x) wrote at_t in
+    let kept : Kept o t = kept_numbers m is o w t (Ok x) wrote at_t in
     let begun : Begun shape s q.opened (outer_of q.opened t b) h.start = begun_moved shape s q.opened b o t h.start live kept (subst (λ y. Begun shape s q.opened y h.start) outer h.begun) in
     let len = length-append xs is in
     record {
@@ -129,12 +157,12 @@ numbers_more s shape xs is q p b o w t x live outside inner outer wrote at_t aft
     }
 
 -- numbers that are refused refuse the whole
-pub numbers_refused : {A : Type 0} (s : State) (shape : Shape) (xs is all : List Item) (e : Error) (q : Open) (b : Back) (o t : State) → q.outer ≡ outer_of q.opened o b → WritesNumbers {A = A} is (record o { ended = false }) (Err e) t → Holds s shape xs q → Refused s (whole shape all) e t
-numbers_refused s shape xs is all e q b o t outer refused h =
+pub numbers_refused : {A : Type 0} (s : State) (shape : Shape) (xs is all : List Item) (m : Mark) (e : Error) (q : Open) (b : Back) (o t : State) → q.outer ≡ outer_of q.opened o b → WritesNumbers {A = A} m is (record o { ended = false }) (Err e) t → Holds s shape xs q → Refused s (whole shape all) e t
+numbers_refused s shape xs is all m e q b o t outer refused h =
     let v : State = record o { ended = false } in
     let a = refused.appended in
     let first = kept_open s shape xs q b o outer h in
-    let kept : Kept o t = kept_refused is o t (Err e) refused in
+    let kept : Kept o t = kept_refused m is o t (Err e) refused in
     record {
       kept = kept_two s o t first kept;
       device = λ d. omega (arith, a.device d, first.faults);

@@ -12,6 +12,7 @@ mod map;
 mod maps;
 mod measured;
 mod newtypes;
+mod numbers;
 mod option;
 mod pass;
 mod payloads;

@@ -4,7 +4,7 @@ use Rattle.amqp_ser.proofs.NumberTexts.{texts_none, texts_next}
 use Rattle.amqp_ser.proofs.blocks.few_lengths.Goals as goal
 
 pub loop-value-init : goal.loop-value-init
-loop-value-init g c = record { texts = ([], texts_none, refl); small = omega arith }
+loop-value-init g c = record { texts = ([], texts_none g.P.Texts.mark, refl); small = omega arith }
 
 pub loop-value-preserved : goal.loop-value-preserved
 loop-value-preserved g c =
@@ -14,6 +14,6 @@ loop-value-preserved g c =
     let len = length-append a.0 b.0 in
     let small = b.1.short in
     record {
-      texts = (a.0 ++ b.0, texts_next item c.args.values.now c.loop-value.value-index c.value-item.result a.0 b.0 c.loop-value-test.true c.value-item.is a.1 b.1, omega (arith, a.2, b.2, len));
+      texts = (a.0 ++ b.0, texts_next g.P.Texts.mark item c.args.values.now c.loop-value.value-index c.value-item.result a.0 b.0 c.loop-value-test.true c.value-item.is a.1 b.1, omega (arith, a.2, b.2, len));
       small = omega (arith, small, b.2, c.loop-value.invariant.small);
     }

@@ -5,6 +5,6 @@ use Rattle.amqp_ser.proofs.blocks.few_lengths.Given as goal
 
 abbrev pub invariant-loop-value : goal.invariant-loop-value
 invariant-loop-value g l = record {
-  texts : (b : List ℕ) × AreTexts (map (λ x. g.T.Typed.meaning.item x Plain) (take l.value-index l.values)) b × (l.sum ≡ length b);
+  texts : (b : List ℕ) × AreTexts g.P.Texts.mark (map (λ x. g.T.Typed.meaning.item x Plain) (take l.value-index l.values)) b × (l.sum ≡ length b);
   small : l.sum ≤ l.value-index * 9;
 }

@@ -4,7 +4,7 @@ use Rattle.amqp_ser.specs.NumberTexts.{HaveTextsOf}
 use Rattle.amqp_ser.proofs.blocks.lengths.Given as goal
 
 abbrev pub invariant-loop-rest : goal.invariant-loop-rest
-invariant-loop-rest g l = (front : List g.row.T.Denot) × (l.values ≡ front ++ l.rest) × HaveTextsOf (map (λ x. g.T.Typed.meaning.item x Plain) front) l.sum
+invariant-loop-rest g l = (front : List g.row.T.Denot) × (l.values ≡ front ++ l.rest) × HaveTextsOf g.P.Texts.mark (map (λ x. g.T.Typed.meaning.item x Plain) front) l.sum
 
 abbrev pub decreases-loop-rest : goal.decreases-loop-rest
 decreases-loop-rest g l = length l.rest

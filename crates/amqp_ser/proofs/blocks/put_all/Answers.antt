@@ -5,7 +5,7 @@ use Rattle.amqp_ser.proofs.NumberTexts.{texts_none, texts_next}
 use Rattle.amqp_ser.proofs.blocks.put_all.Goals as goal
 
 pub loop-value-init : goal.loop-value-init
-loop-value-init g c = record { texts = texts_none; long = refl; within = omega arith }
+loop-value-init g c = record { texts = texts_none g.P.Texts.mark; long = refl; within = omega arith }
 
 pub loop-value-preserved : goal.loop-value-preserved
 loop-value-preserved g c =
@@ -15,7 +15,7 @@ loop-value-preserved g c =
     let p = c.put-at.ensures.text in
     let small = p.text.short in
     record {
-      texts = subst (λ b. AreTexts (map item (take (k + 1) vs)) b) (sym p.front) (texts_next item vs k c.value-item.result _ _ c.loop-value-test.true c.value-item.is c.loop-value.invariant.texts p.text);
+      texts = subst (λ b. AreTexts g.P.Texts.mark (map item (take (k + 1) vs)) b) (sym p.front) (texts_next g.P.Texts.mark item vs k c.value-item.result _ _ c.loop-value-test.true c.value-item.is c.loop-value.invariant.texts p.text);
       long = p.long ∙ c.loop-value.invariant.long;
       within = omega (arith, p.ends, small, c.loop-value.invariant.within);
     }

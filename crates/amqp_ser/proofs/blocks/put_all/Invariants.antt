@@ -5,7 +5,7 @@ use Rattle.amqp_ser.proofs.blocks.put_all.Given as goal
 
 abbrev pub invariant-loop-value : goal.invariant-loop-value
 invariant-loop-value g l = record {
-  texts : AreTexts (map (λ x. g.T.Typed.meaning.item x Plain) (take l.value-index l.values)) (take l.at l.block);
+  texts : AreTexts g.P.Texts.mark (map (λ x. g.T.Typed.meaning.item x Plain) (take l.value-index l.values)) (take l.at l.block);
   long : length l.block ≡ length l.initial.block;
   within : l.at ≤ l.value-index * 10;
 }

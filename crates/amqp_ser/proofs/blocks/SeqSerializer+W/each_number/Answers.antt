@@ -24,8 +24,8 @@ returns-in-Err-clause-law g c =
     let law = c.in-Err.ensures.law in
     record {
       ok = tt;
-      err = λ s shape xs all h begins. subst (λ e. Refused s (whole shape all) e t) (sym c.refused.ensures) (numbers_refused s shape xs is all _ (open_state g.W.Write g.W.FaultCount q) (outer_in q.parts.outer) o t refl law h);
-      kept = keeps_lives _ _ q.parts.opened (outer_in q.parts.outer) o t refl refl (kept_refused is o t _ law) law.appended.err;
+      err = λ s shape xs all h begins. subst (λ e. Refused s (whole shape all) e t) (sym c.refused.ensures) (numbers_refused s shape xs is all g.P.Texts.mark _ (open_state g.W.Write g.W.FaultCount q) (outer_in q.parts.outer) o t refl law h);
+      kept = keeps_lives _ _ q.parts.opened (outer_in q.parts.outer) o t refl refl (kept_refused g.P.Texts.mark is o t _ law) law.appended.err;
       stops = record {
         err = broken_lives _ t _ live refl;
         ended = λ h. absurd (true_false (sym h ∙ (inner_answers _ _ _ ∙ c.requires.answers)));
@@ -45,9 +45,9 @@ returns-in-Some-clause-law g c =
     let law = c.in-Ok.ensures.law in
     let len : length (map item vs) ≡ length vs = length-map vs item in
     record {
-      ok = λ s shape xs h. numbers_more s shape xs (map item vs) (open_state g.W.Write g.W.FaultCount q) _ (outer_in q.parts.outer) o w t _ live c.requires.outside (inner_lives _ o _ live ∙ ap (λ z. record o { ended = z }) c.requires.answers) refl law refl (inner_lives _ t _ live ∙ ap (λ z. record t { ended = z }) c.requires.answers) refl refl refl refl (omega (arith, c.in-Some.ensures.1, len)) h;
+      ok = λ s shape xs h. numbers_more s shape xs (map item vs) g.P.Texts.mark (open_state g.W.Write g.W.FaultCount q) _ (outer_in q.parts.outer) o w t _ live c.requires.stand (inner_lives _ o _ live ∙ ap (λ z. record o { ended = z }) c.requires.answers) refl law refl (inner_lives _ t _ live ∙ ap (λ z. record t { ended = z }) c.requires.answers) refl refl refl refl (omega (arith, c.in-Some.ensures.1, len)) h;
       err = tt;
-      kept = keeps_lives _ _ q.parts.opened (outer_in q.parts.outer) o t refl refl (kept_numbers (map item vs) o w t _ law refl) refl;
+      kept = keeps_lives _ _ q.parts.opened (outer_in q.parts.outer) o t refl refl (kept_numbers g.P.Texts.mark (map item vs) o w t _ law refl) refl;
       stops = record {
         err = tt;
         ended = λ h. absurd (true_false (sym h ∙ (inner_answers _ _ _ ∙ c.requires.answers)));
@@ -64,7 +64,7 @@ returns-in-None-clause-law g c =
     let o = state g.W.Write g.W.FaultCount q.ser.now in
     let w = state g.W.Write g.W.FaultCount c.append_numbers.new.self in
     let t : State = record w { ended = true } in
-    let kept = kept_numbers is o w t _ c.in-Ok.ensures.law refl in
+    let kept = kept_numbers g.P.Texts.mark is o w t _ c.in-Ok.ensures.law refl in
     record {
       ok = tt;
       err = λ s shape xs all h begins. full_refuses s t (whole shape all) _ (kept_two s o t (kept_open s shape xs (open_state g.W.Write g.W.FaultCount q) (outer_in q.parts.outer) o refl h) kept) c.no_memory.ensures;

@@ -6,7 +6,7 @@ use Rattle.amqp_ser.proofs.serializer.Serializer.append_blocks.Given as goal
 
 abbrev pub invariant-loop-rest : goal.invariant-loop-rest
 invariant-loop-rest g l = record {
-  written : (front : List g.row.T.Denot) × (l.values ≡ front ++ l.rest) × Written (map (λ x. g.T.Typed.meaning.item x Plain) front) (state g.W.Write g.W.FaultCount l.initial.self) (state g.W.Write g.W.FaultCount l.self);
+  written : (front : List g.row.T.Denot) × (l.values ≡ front ++ l.rest) × Written g.P.Texts.mark (map (λ x. g.T.Typed.meaning.item x Plain) front) (state g.W.Write g.W.FaultCount l.initial.self) (state g.W.Write g.W.FaultCount l.self);
   room : length l.block ≡ 320;
 }
 

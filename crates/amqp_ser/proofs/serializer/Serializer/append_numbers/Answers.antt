@@ -10,4 +10,4 @@ unfolding state
 returns-then-counts g c =
     let item = λ (x : g.row.T.Denot). g.T.Typed.meaning.item x Plain in
     let k = c.counts.ensures in
-    record { law = counted_all (map item c.args.values.now) _ _ c.args.self.now.direct _ _ _ _ _ _ _ c.lengths.ensures.texts (k.counted c.if-counts.true) (k.untold c.if-counts.true) (k.alone c.if-counts.true) k.plan refl refl refl refl refl k.faults k.grows refl refl refl refl }
+    record { law = counted_all g.P.Texts.mark (map item c.args.values.now) _ _ c.args.self.now.direct _ _ _ _ _ _ _ c.lengths.ensures.texts (k.counted c.if-counts.true) (k.untold c.if-counts.true) (k.alone c.if-counts.true) k.plan refl refl refl refl refl k.faults k.grows refl refl refl refl }

@@ -1,6 +1,6 @@
 use Rattle.std.proofs.Common.{arith}
 use Rattle.amqp_ser.proofs.NumberTexts.{small_ulong, wide_ulong}
-use Rattle.amqp_ser.proofs.blocks.some_ulong_text.Goals as goal
+use Rattle.amqp_ser.proofs.numbers.some_ulong_text.Goals as goal
 
 pub returns-then-v-lt256 : goal.returns-then-v-lt256
 returns-then-v-lt256 c = record { text = λ some. (small_ulong c.args.v some c.if-v-lt256.true, omega arith) }

@@ -4,7 +4,7 @@ use Rattle.amqp_base.specs.declared.shape.Setting.TheVariants.{Plain}
 use Rattle.amqp_base.specs.declared.shape.Shape.{Shape}
 use Rattle.amqp_ser.specs.State.{State}
 use Rattle.amqp_ser.specs.Compound.{open_state, Holds, Keeps}
-use Rattle.amqp_ser.proofs.each.each_part.Given as goal
+use Rattle.amqp_ser.proofs.each.each_in_turn.Given as goal
 
 abbrev pub invariant-loop-value : goal.invariant-loop-value
 invariant-loop-value g l = record {

@@ -1,7 +1,7 @@
 use Rattle.std.proofs.Common.{arith}
 use Rattle.amqp_ser.proofs.NumberTexts.{zero_ulong}
-use Rattle.amqp_ser.proofs.blocks.ulong_text.Goals.{then-v-eq0, else-v-eq0}
-use Rattle.amqp_ser.proofs.blocks.ulong_text.Goals as goal
+use Rattle.amqp_ser.proofs.numbers.ulong_text.Goals.{then-v-eq0, else-v-eq0}
+use Rattle.amqp_ser.proofs.numbers.ulong_text.Goals as goal
 
 pub returns-then-v-eq0-2 : goal.returns-then-v-eq0-2
 returns-then-v-eq0-2 c =

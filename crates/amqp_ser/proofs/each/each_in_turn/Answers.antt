@@ -1,11 +1,11 @@
--- The elements one after the other, wherever they stand.
+-- The values one after the other, wherever they stand.
 use Rattle.std.proofs.Common.{◌++◌, map, take, sym, ◌∙◌}
 use Rattle.amqp_base.specs.declared.shape.Setting.TheVariants.{Plain}
 use Rattle.amqp_ser.specs.Compound.{open_state}
 use Rattle.amqp_ser.proofs.PartTexts.{true_false}
 use Rattle.amqp_ser.proofs.Compounds.{keeps_two, inner_answers}
 use Rattle.amqp_ser.proofs.ManyParts.{each_next, each_begins, each_all}
-use Rattle.amqp_ser.proofs.each.each_part.Goals as goal
+use Rattle.amqp_ser.proofs.each.each_in_turn.Goals as goal
 
 pub loop-value-preserved : goal.loop-value-preserved
 unfolding open_state

@@ -3,8 +3,8 @@ use Rattle.std.proofs.lemmas.Int.{ints, to_z-of_z}
 use Rattle.std.specs.Int.{w8, w32}
 use mir.Val.{SFits}
 use Rattle.amqp_ser.proofs.NumberTexts.{small_int, wide_int}
-use Rattle.amqp_ser.proofs.blocks.int_text.Goals.{else-v-geminus128-via-then-v-geminus128+else-v-le127, else-v-geminus128-via-else-v-geminus128}
-use Rattle.amqp_ser.proofs.blocks.int_text.Goals as goal
+use Rattle.amqp_ser.proofs.numbers.int_text.Goals.{else-v-geminus128-via-then-v-geminus128+else-v-le127, else-v-geminus128-via-else-v-geminus128}
+use Rattle.amqp_ser.proofs.numbers.int_text.Goals as goal
 
 pub returns-then-v-le127 : goal.returns-then-v-le127
 returns-then-v-le127 c =
