@@ -35,4 +35,13 @@ impl Count {
     {
         *self = Count::after(self);
     }
+
+    /// Counts so many more.
+    pub fn ticks(&mut self, more: usize)
+        ensures { self.new.n ≡ self.old.n + more }
+    {
+        for _ in 0..more {
+            self.tick();
+        }
+    }
 }

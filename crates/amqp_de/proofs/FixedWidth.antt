@@ -11,7 +11,7 @@ use Rattle.amqp_base.specs.Codes.{Kind, row, code_of}
 use Rattle.amqp_base.specs.SameKind.{same_kind}
 use Rattle.amqp_base.specs.Item.{Scalar, scalar}
 use Rattle.amqp_base.specs.Value.{payload}
-use Rattle.amqp_base.specs.Wire.{lenient, of_data, Data, of_fixed, fixed}
+use Rattle.amqp_base.specs.Wire.{lenient, under, Wire, of_data, Data, of_fixed, fixed}
 use Rattle.amqp_base.proofs.KindPlaces.{same_kind_is, kind_same}
 use Rattle.amqp_de.specs.Law.{IsCause}
 use Rattle.amqp_read.specs.Reading.{Reading, Takes, Stays}
@@ -21,13 +21,16 @@ use Rattle.amqp_de.specs.Steps.{IsData, Rejects}
 use Rattle.amqp_de.proofs.Readings.{unread_rejects, rejects_here, rejects_after}
 use Rattle.amqp_de.proofs.Data.{bytes_there, bytes_short, behind_code}
 
--- as many bytes as the code says
+-- as many bytes as the code says spell an item
+pub fixed_spells : (e : EncodingCodes) (w : ℕ) (x : List ℕ) (v : Scalar) → (row e).category ≡ Fixed w → length x ≡ w → payload e x ≡ Some v → Wire lenient (under e) x (scalar v)
+fixed_spells e w x v k l p = of_data (subst (λ (z : Category). Data lenient e (row e).kind z x (scalar v)) (sym k) (of_fixed (fixed l p)))
+
 pub fixed_is : (b : ℕ) (e : EncodingCodes) (w : ℕ) (x : List ℕ) (v : Scalar) (old new : Reading) → code_of b ≡ Some e → (row e).category ≡ Fixed w → length x ≡ w → payload e x ≡ Some v → Takes old new x → IsData b (scalar v) old new
 fixed_is b e w x v old new c k l p t = record {
   code = e;
   code_is = c;
   text = x;
-  spelled = of_data (subst (λ (z : Category). Data lenient e (row e).kind z x (scalar v)) (sym k) (of_fixed (fixed l p)));
+  spelled = fixed_spells e w x v k l p;
   step = t;
 }
 

@@ -20,6 +20,7 @@ pub mod ArrayData
 pub mod Naming
 pub mod NamedParts
 pub mod NamedElements
+pub mod Many
 pub mod ReadParts
 pub mod Turns
 pub mod Pairs

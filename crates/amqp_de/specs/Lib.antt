@@ -6,6 +6,7 @@ pub mod Places
 pub mod Look
 pub mod Access
 pub mod Seq
+pub mod Many
 pub mod ReadParts
 pub mod ReadPairs
 pub mod Calls

@@ -3,6 +3,7 @@
 
 mod any;
 mod array;
+mod blocks;
 mod chosen;
 mod constructor;
 mod decimals;

@@ -1,7 +1,7 @@
 //! What every reader does.
 
 ghost use Rattle.std.specs.Prelude.{◌≡◌, ◌≢◌, ◌⊎◌, ◌+◌, ◌<◌, ◌≤◌};
-ghost use Rattle.std.specs.Prelude.{ℕ, Bool, true, IsTrue, List, [], ◌∷◌, length, OnOk};
+ghost use Rattle.std.specs.Prelude.{ℕ, Bool, true, false, IsTrue, List, [], ◌∷◌, length, OnOk};
 ghost use Rattle.std.specs.Prelude.{OnErr, IfOk, IfErr, MatchOption};
 ghost use Rattle.amqp_read.specs.Reading.{Reading, Stays, Takes};
 ghost use Rattle.amqp_read.specs.Steps.{Shows, MayCome, Ended, IsShort, Fails, NotTaken};
@@ -110,6 +110,14 @@ pub trait Read: sealed::Sealed + Drop {
             NotSeen true buffers (from + n) (reading self.old) (reading self.new) e) }
         ensures bytes_first { IfErr result (λ e. (e ≡ OutOfMemory) →
             (IsTrue buffers ⊎ Holds (from + n) (reading self.old).to_come)) };
+
+    /// Fills `block` with the next bytes and consumes them, where all of them are at hand; else
+    /// nothing changes. No source is asked.
+    #[doc(hidden)]
+    fn take_at_hand(&mut self, block: &mut [u8]) -> bool
+        ensures len { length block.new ≡ length block.old }
+        ensures taken { IsTrue result → Takes (reading self.old) (reading self.new) block.new }
+        ensures else_kept { result ≡ false → reading self.new ≡ reading self.old };
 
     /// Consumes the next `n` bytes, and keeps none of them; `Io(UnexpectedEof)` where fewer are to
     /// come. A refusal may have consumed some of them.

@@ -186,6 +186,17 @@ impl<'s> Read for SliceReader<'s> {
         }
     }
 
+    #[inline(always)]
+    fn take_at_hand(&mut self, block: &mut [u8]) -> bool {
+        match self.get_byte_slice(block.len()) {
+            Ok(bytes) => {
+                block.copy_from_slice(bytes);
+                true
+            }
+            Err(_) => false,
+        }
+    }
+
     // A refusal changes nothing.
     #[inline(always)]
     fn skip(&mut self, n: usize) -> Result<(), Error>

@@ -1,4 +1,6 @@
 use Rattle.std.proofs.Common.{◌≡◌}
+use Rattle.amqp_de.specs.Access.{Listing}
+use Rattle.amqp_de.specs.Openings.{OpensEither}
 use Rattle.amqp_de.specs.Seq.{listing}
 use Rattle.amqp_de.proofs.NamedElements.{Reach}
 use Rattle.amqp_de.proofs.Sequence.{Sofar}
@@ -7,8 +9,10 @@ use Rattle.amqp_de.proofs.deserialize.VecDeserialize.deserialize.Given as goal
 abbrev pub invariant-items : goal.invariant-items
 invariant-items g l = record {
   same : l.access.de.ghost_name ≡ l.initial.access.de.ghost_name;
-  sofar : Sofar g.T.Typed.meaning.takes g.T.Typed.meaning.means (listing l.initial.access) (listing l.access) l.items.items;
-  reaches : Reach g.T.Typed.meaning.takes g.T.Typed.meaning.refuses (listing l.initial.access) (listing l.access);
+  from : Listing;
+  opened : OpensEither l.fn.de from;
+  sofar : Sofar g.T.Typed.meaning.takes g.T.Typed.meaning.means from (listing l.access) l.items.items;
+  reaches : Reach g.T.Typed.meaning.takes g.T.Typed.meaning.refuses from (listing l.access);
 }
 
 abbrev pub decreases-items : goal.decreases-items

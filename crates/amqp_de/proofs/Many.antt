@@ -1,0 +1,210 @@
+-- Elements that are read many at a time.
+use Rattle.std.proofs.Common.{◌≡◌, ℕ, suc, ◌+◌, ◌≤◌, Bool, false, List, [], ◌∷◌, ◌++◌, length, length-take, length-drop, take, drop, ◌-◌, Option, Some, None, refl, sym, ap, subst, ◌∙◌, arith, append_assoc, IsTrue}
+use Rattle.std.proofs.lemmas.List.{length-append, append-nil, drop-drop}
+use Rattle.std.proofs.Math.Seq.{take-add}
+use Rattle.std.specs.Io.KnownBytes.{Consumes}
+use Rattle.amqp_base.specs.declared.format_code.EncodingCodes.{EncodingCodes}
+use Rattle.amqp_base.specs.Item.{Item, items}
+use Rattle.amqp_base.specs.Meaning.{Meaning}
+use Rattle.amqp_base.specs.Refusing.{Refusing}
+use Rattle.amqp_base.specs.Wire.{Constructor, under, Wire, lenient}
+use Rattle.amqp_base.specs.Laws.{items_under}
+use Rattle.amqp_read.specs.Reading.{Reading, Agree, Takes}
+use Rattle.amqp_de.specs.Decoding.{Decoding, stands_under, behind_descriptor}
+use Rattle.amqp_de.specs.Law.{Front, Spent, free}
+use Rattle.amqp_de.specs.Access.{Listing, Part, Within}
+use Rattle.amqp_de.specs.Many.{AreRead, IsElement, AreElements, PutBehind}
+use Rattle.amqp_de.proofs.PartsRead.{within_less}
+use Rattle.amqp_de.proofs.Sequence.{Sofar, sofar_step}
+use Rattle.amqp_de.proofs.NamedElements.{Reach, reach_step}
+
+-- ---- bytes that were consumed at once, as consumed one part after the other
+
+-- these in front of the known bytes
+abbrev ahead : List ℕ → Option (List ℕ) → Option (List ℕ)
+ahead b None = None
+ahead b (Some s) = Some (b ++ s)
+
+-- where a was consumed of a ++ b
+abbrev pub halfway : Reading → Reading → List ℕ → List ℕ → Reading
+halfway old new a b = record {
+  to_come = ahead b new.to_come;
+  taken = old.taken + length a;
+  received = drop (length a) old.received;
+  faults = new.faults;
+  last_fault = new.last_fault;
+  honest = new.honest;
+  origin = new.origin;
+}
+
+consumed_first : (k l : Option (List ℕ)) (a b : List ℕ) → Consumes k l (a ++ b) → Consumes k (ahead b l) a
+consumed_first None l a b h = tt
+consumed_first (Some s) None a b h = absurd h
+consumed_first (Some s) (Some t) a b h = h ∙ append_assoc a b t
+
+consumed_then : (l : Option (List ℕ)) (b : List ℕ) → Consumes (ahead b l) l b
+consumed_then None b = tt
+consumed_then (Some t) b = refl
+
+agree_first : (s a b : List ℕ) → Agree s (a ++ b) → Agree s a
+agree_first [] a b h = tt
+agree_first (x ∷ s) [] b h = tt
+agree_first (x ∷ s) (y ∷ a) b h = (h.0, agree_first s a b h.1)
+
+agree_rest : (s a b : List ℕ) → Agree s (a ++ b) → Agree (drop (length a) s) b
+agree_rest s [] b h = h
+agree_rest [] (y ∷ a) b h = tt
+agree_rest (x ∷ s) (y ∷ a) b h = agree_rest s a b h.1
+
+drop_two : (s a b : List ℕ) → drop (length (a ++ b)) s ≡ drop (length b) (drop (length a) s)
+drop_two s a b = ap (λ n. drop n s) (length-append a b) ∙ sym (drop-drop (length b) (length a) s)
+
+takes_first : (old new : Reading) (a b : List ℕ) → Takes old new (a ++ b) → Takes old (halfway old new a b) a
+takes_first old new a b t = record {
+  to_come = consumed_first old.to_come new.to_come a b t.to_come;
+  taken = refl;
+  received = refl;
+  agrees = agree_first old.received a b t.agrees;
+  steady = record { honest = t.steady.honest; origin = t.steady.origin; faults = t.steady.faults; taken = omega arith };
+}
+
+takes_rest : (old new : Reading) (a b : List ℕ) → Takes old new (a ++ b) → Takes (halfway old new a b) new b
+takes_rest old new a b t = record {
+  to_come = consumed_then new.to_come b;
+  taken = omega (arith, t.taken, length-append a b);
+  received = t.received ∙ drop_two old.received a b;
+  agrees = agree_rest old.received a b t.agrees;
+  steady = record { honest = refl; origin = refl; faults = omega arith; taken = omega (arith, t.taken, length-append a b) };
+}
+
+-- ---- elements under one code
+
+-- from one state to another by the data of n elements
+pub record Moves (e : EncodingCodes) (b : List ℕ) (n : ℕ) (old new : Listing) : Type 0 where
+  pub step : Takes old.state.reading new.state.reading b
+  pub code : old.state.inherited ≡ under e
+  pub answers : new.state.ended ≡ false
+  pub inherited : new.state.inherited ≡ old.state.inherited
+  pub described : new.state.described ≡ false
+  pub begun : new.state.begun ≡ old.state.begun + n
+  pub left : old.left ≡ n + new.left
+  pub outer : new.outer ≡ old.outer
+  pub limit : new.limit ≡ old.limit
+  pub within : Within old.limit new.state.reading.taken
+
+stands : (d : Decoding) (e : EncodingCodes) → d.inherited ≡ under e → stands_under d ≡ under e
+stands d e h = ap (λ c. behind_descriptor c d.described) h
+
+one_part : {T : Type 0} (m : Meaning T) (e : EncodingCodes) (b : List ℕ) (v : T) (old new : Listing) → IsElement m e b v → Moves e b 1 old new → Part m.takes (λ i. m.means i v) old new
+one_part m e b v old new i k =
+    let here = stands old.state e k.code in
+    record {
+      front = record {
+        item = i.item;
+        text = b;
+        spelled = rw here i.spelled;
+        taken = i.taken;
+        value = i.value;
+        step = k.step;
+        not_ended = k.answers;
+        inherited = k.inherited;
+        described = k.described;
+        begun = rw here (let one = i.one in omega (arith, k.begun, one));
+      };
+      within = k.within;
+      spent = rw here record { most = omega (arith, k.begun, k.step.taken) };
+      left = omega (arith, k.left);
+      outer = k.outer;
+      limit = k.limit;
+    }
+
+-- behind the first of them
+mid_of : (old new : Listing) (a b : List ℕ) (n : ℕ) → Listing
+mid_of old new a b n = record {
+  state = record {
+    reading = halfway old.state.reading new.state.reading a b;
+    ended = false;
+    inherited = old.state.inherited;
+    described = false;
+    begun = old.state.begun + 1;
+  };
+  left = n + new.left;
+  outer = old.outer;
+  limit = old.limit;
+}
+
+pub are_read : {T : Type 0} (m : Meaning T) (e : EncodingCodes) (w : ℕ) (v : T) (vs : List T) (b : List ℕ) (old new : Listing) → AreElements m e w b (v ∷ vs) → Moves e b (length (v ∷ vs)) old new → AreRead m old (v ∷ vs) new
+unfolding mid_of
+are_read m e w v [] b old new h k =
+    let whole : b ≡ h.0 = h.2 ∙ (ap (λ x. h.0 ++ x) h.5 ∙ append-nil h.0) in
+    (new, one_part m e h.0 v old new h.4 (subst (λ x. Moves e x 1 old new) whole k), refl)
+are_read m e w v (x ∷ vs) b old new h k =
+    let n = length (x ∷ vs) in
+    let t : Takes old.state.reading new.state.reading (h.0 ++ h.1) = subst (λ y. Takes old.state.reading new.state.reading y) h.2 k.step in
+    let mid = mid_of old new h.0 h.1 n in
+    let first : Moves e h.0 1 old mid = record {
+      step = takes_first old.state.reading new.state.reading h.0 h.1 t;
+      code = k.code;
+      answers = refl;
+      inherited = refl;
+      described = refl;
+      begun = refl;
+      left = omega (arith, k.left);
+      outer = refl;
+      limit = refl;
+      within = within_less old.limit _ new.state.reading.taken (omega (arith, t.taken, length-append h.0 h.1)) k.within;
+    } in
+    let others : Moves e h.1 n mid new = record {
+      step = takes_rest old.state.reading new.state.reading h.0 h.1 t;
+      code = k.code;
+      answers = k.answers;
+      inherited = k.inherited;
+      described = k.described;
+      begun = omega (arith, k.begun);
+      left = refl;
+      outer = k.outer;
+      limit = k.limit;
+      within = k.within;
+    } in
+    (mid, one_part m e h.0 v old mid h.4 first, are_read m e w x vs h.1 mid new h.5 others)
+
+pub all_read : {T : Type 0} (m : Meaning T) (e : EncodingCodes) (w n : ℕ) (vs : List T) (b : List ℕ) (old new : Listing) → AreElements m e w b vs → length vs ≡ n → (n ≡ 0 → ⊥) → Moves e b n old new → AreRead m old vs new
+all_read m e w n [] b old new h l some k = absurd (some (sym l))
+all_read m e w n (v ∷ vs) b old new h l some k = are_read m e w v vs b old new h (subst (λ x. Moves e b x old new) (sym l) k)
+
+-- one more behind them
+pub elements_last : {T : Type 0} (m : Meaning T) (e : EncodingCodes) (w : ℕ) (b d : List ℕ) (vs : List T) (v : T) → AreElements m e w b vs → length d ≡ w → IsElement m e d v → AreElements m e w (b ++ d) (vs ++ v ∷ [])
+elements_last m e w b d [] v h l i = (d, [], ap (λ x. x ++ d) h ∙ sym (append-nil d), l, i, refl)
+elements_last m e w b d (x ∷ vs) v h l i = (h.0, h.1 ++ d, ap (λ y. y ++ d) h.2 ∙ append_assoc h.0 h.1 d, h.3, h.4, elements_last m e w h.1 d vs v h.5 l i)
+
+-- the data of the next element
+chunk : (b : List ℕ) (at w : ℕ) → take (at + w) b ≡ take at b ++ take (at + w - at) (drop at b)
+chunk b at w = take-add at w b ∙ ap (λ n. take at b ++ take n (drop at b)) (omega arith)
+
+chunk_long : (b : List ℕ) (at w : ℕ) → at + w ≤ length b → length (take (at + w - at) (drop at b)) ≡ w
+chunk_long b at w h = simp (length-take, length-drop) (omega (arith, h))
+
+pub put_more : {T : Type 0} (m : Meaning T) (e : EncodingCodes) (w k at end : ℕ) (b : List ℕ) (before items after : List T) (v : T) → PutBehind m e w (take at b) k before items → end ≡ at + w → at + w ≤ length b → IsElement m e (take (at + w - at) (drop at b)) v → after ≡ items ++ v ∷ []
+    → PutBehind m e w (take end b) (k + 1) before after
+put_more m e w k at end b before items after v p ends room i is = record {
+  values = p.values ++ v ∷ [];
+  meant = subst (λ x. AreElements m e w x (p.values ++ v ∷ [])) (sym (ap (λ n. take n b) ends ∙ chunk b at w)) (elements_last m e w (take at b) _ p.values v p.meant (chunk_long b at w room) i);
+  many = let len = length-append p.values (v ∷ []) in omega (arith, len, p.many);
+  items = is ∙ (ap (λ xs. xs ++ v ∷ []) p.items ∙ append_assoc before p.values (v ∷ []));
+}
+
+-- further elements behind some
+pub read_then : {T : Type 0} (m : Meaning T) (old mid new : Listing) (vs ws : List T) → AreRead m old vs mid → AreRead m mid ws new → AreRead m old (vs ++ ws) new
+read_then m old mid new [] ws h k = subst (λ l. AreRead m l ws new) h k
+read_then m old mid new (v ∷ vs) ws h k = (h.0, h.1, read_then m h.0 mid new vs ws h.2 k)
+
+-- ---- in a loop over the elements
+
+module _ {T : Type 0} (m : Meaning T) (from : Listing) where
+  pub sofar_many : (now next : Listing) (ws vs : List T) → Sofar m.takes m.means from now ws → AreRead m now vs next → Sofar m.takes m.means from next (ws ++ vs)
+  sofar_many now next ws [] s h = rw (append-nil ws) (subst (λ l. Sofar m.takes m.means from l ws) (sym h) s)
+  sofar_many now next ws (v ∷ vs) s h = subst (λ l. Sofar m.takes m.means from next l) (append_assoc ws (v ∷ []) vs) (sofar_many h.0 next (ws ++ v ∷ []) vs (sofar_step m.takes m.means from now h.0 ws v s h.1) h.2)
+
+  pub reach_many : (now next : Listing) (ws vs : List T) → Sofar m.takes m.means from now ws → Reach m.takes m.refuses from now → AreRead m now vs next → Reach m.takes m.refuses from next
+  reach_many now next ws [] s r h = subst (λ l. Reach m.takes m.refuses from l) (sym h) r
+  reach_many now next ws (v ∷ vs) s r h = reach_many h.0 next (ws ++ v ∷ []) vs (sofar_step m.takes m.means from now h.0 ws v s h.1) (reach_step m.takes m.refuses from now h.0 s.reads r h.1) h.2

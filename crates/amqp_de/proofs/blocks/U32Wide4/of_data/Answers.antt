@@ -1,0 +1,19 @@
+use Rattle.std.proofs.Common.{refl, w32}
+use Rattle.amqp_base.specs.Codes.{row}
+use Rattle.amqp_base.specs.Item.{scalar, uint}
+use Rattle.amqp_base.specs.SameKind.{same_kind, place}
+use Rattle.amqp_base.specs.Value.{payload, read}
+use Rattle.amqp_base.specs.declared.format_code.EncodingCodes.TheVariants.{Uint}
+use Rattle.amqp_de.proofs.FixedWidth.{fixed_spells}
+use Rattle.amqp_de.proofs.ByteNumbers.{be_number}
+use Rattle.amqp_de.proofs.blocks.U32Wide4.of_data.Goals as goal
+
+pub returns : goal.returns
+unfolding row payload read same_kind place
+returns c = record {
+  item = scalar (uint c.from_be_bytes.result);
+  spelled = fixed_spells Uint 4 c.args.bytes.now (uint c.from_be_bytes.result) refl c.requires (rw (c.from_be_bytes.ensures, c.copy_from_slice.ensures.after, be_number w32 c.args.bytes.now c.requires) refl);
+  taken = refl;
+  value = refl;
+  one = refl;
+}
