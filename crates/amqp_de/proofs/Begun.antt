@@ -18,8 +18,9 @@ use Rattle.amqp_base.proofs.OneFront.{no_code}
 use Rattle.amqp_read.specs.Reading.{Reading, Takes}
 use Rattle.amqp_de.specs.Decoding.{Decoding, stands_under}
 use Rattle.amqp_base.specs.Parse.{byte_at}
-use Rattle.amqp_de.specs.Steps.{Begins, BeginsNot, Unread, IsDescribed}
-use Rattle.amqp_de.proofs.Readings.{takes_nothing, behind, unread_rejects}
+use Rattle.amqp_de.specs.Steps.{Begins, BeginsNot, IsDescribed}
+use Rattle.amqp_data.specs.Steps.{Unread}
+use Rattle.amqp_data.proofs.Readings.{takes_nothing, behind, unread_rejects}
 
 -- data under the described constructor are none
 no_described_data : {e : EncodingCodes} {k : Kind} {c : Category} {b : List ℕ} {i : Item} → Data lenient e k c b i → e ≡ DescribedType → k ≡ Kind.described → c ≡ Fixed 0 → ⊥

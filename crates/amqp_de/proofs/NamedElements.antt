@@ -14,13 +14,15 @@ use Rattle.amqp_base.specs.Refusals.{StandsFor}
 use Rattle.amqp_base.specs.Refusing.{Refusing, FrontThen, in_room, one_or_other, element_refusal, HeadingThen, seq_refusal}
 use Rattle.amqp_base.specs.Wire.{Constructor, under, under_pair, Wire, lenient}
 use Rattle.amqp_de.specs.Decoding.{Decoding, stands_under}
-use Rattle.amqp_de.specs.Law.{Excused, Named}
-use Rattle.amqp_de.specs.Access.{Listing, Within, limit_at, Part, PartNamed, PassesEnd}
+use Rattle.amqp_data.specs.Excuses.{Excused}
+use Rattle.amqp_de.specs.Law.{Named}
+use Rattle.amqp_de.specs.Access.{Listing, Part, PartNamed, PassesEnd}
+use Rattle.amqp_data.specs.Parts.{Within, limit_at}
 use Rattle.amqp_de.specs.Openings.{OpensElements, OpensEither}
 use Rattle.amqp_de.specs.ReadParts.{PartsRead, RefusesElements}
 use Rattle.amqp_de.proofs.NamedParts.{taken_since}
 use Rattle.amqp_de.proofs.PartsRead.{stands_is}
-use Rattle.amqp_de.proofs.Readings.{behind, excused_before, excused_more}
+use Rattle.amqp_data.proofs.Readings.{behind, excused_before, excused_more}
 
 -- ---- where a message is called for, the answer has its text; else the answer is the same for all
 

@@ -9,11 +9,13 @@ use Rattle.amqp_base.specs.Parse.{Parsed, item_at}
 use Rattle.amqp_base.specs.Refusing.{Refusing, HeaderThen, PartsRefusing, opened_refusal}
 use Rattle.amqp_read.specs.Reading.{Takes}
 use Rattle.amqp_de.specs.Decoding.{Decoding, stands_under}
-use Rattle.amqp_de.specs.Law.{Excused, Named, no_memory}
-use Rattle.amqp_de.specs.Access.{Listing, Within, Opens, OpensExactly, OpensNot, Part, PartNamed, PassesEnd, Plain, NoEnd}
+use Rattle.amqp_data.specs.Excuses.{Excused, no_memory}
+use Rattle.amqp_de.specs.Law.{Named}
+use Rattle.amqp_de.specs.Access.{Listing, Opens, OpensExactly, OpensNot, Part, PartNamed, PassesEnd, Plain, NoEnd}
+use Rattle.amqp_data.specs.Parts.{Within}
 use Rattle.amqp_de.specs.ReadParts.{PartsRead}
 use Rattle.amqp_de.proofs.PartsRead.{end_refused}
-use Rattle.amqp_de.proofs.Readings.{takes_then, behind, excused_before, excused_more}
+use Rattle.amqp_data.proofs.Readings.{takes_then, behind, excused_before, excused_more}
 
 -- what is refused at this place, the whole is refused as; the parts have constructors of their own
 pub record Reaches (whole left : PartsRefusing) (from now : Listing) : Type 0 where

@@ -10,14 +10,15 @@ use Rattle.amqp_base.specs.Refusals.{IsDevice}
 use Rattle.amqp_base.specs.Typing.{all_taken, all_mean, is_seq_of, means_seq, takes_array, means_array}
 use Rattle.amqp_base.specs.Wire.{Wire, lenient}
 use Rattle.amqp_de.specs.Decoding.{Decoding, stands_under}
-use Rattle.amqp_de.specs.Law.{Front, Found, Missed, Named, Excused, no_memory}
+use Rattle.amqp_de.specs.Law.{Front, Found, Missed, Named}
+use Rattle.amqp_data.specs.Excuses.{Excused, no_memory}
 use Rattle.amqp_de.specs.Look.{item_kind, Looks, LooksNot}
 use Rattle.amqp_base.specs.Parse.{code_at}
 use Rattle.amqp_base.specs.Refusing.{Refusing, array_refusal, seq_refusal, no_code, of_array, of_one}
 use Rattle.amqp_de.proofs.Answered.{spent_refused}
 use Rattle.amqp_de.proofs.Naming.{named_behind}
-use Rattle.amqp_de.proofs.Readings.{excused_more}
-use Rattle.amqp_de.proofs.Received.{may_taken}
+use Rattle.amqp_data.proofs.Readings.{excused_more}
+use Rattle.amqp_data.proofs.Received.{may_taken}
 use Rattle.amqp_de.proofs.LookedFirst.{same_place, found_behind, missed_of_kind, missed_unseen}
 use Rattle.amqp_de.proofs.Weaker.{found_of}
 use Rattle.amqp_de.proofs.ReadParts.{or_right}

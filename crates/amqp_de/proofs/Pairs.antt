@@ -8,7 +8,8 @@ use Rattle.amqp_base.specs.Maps.{all_pairs_taken, is_map_of, all_pairs_mean, Mea
 use Rattle.amqp_de.specs.Decoding.{Decoding, as_ended}
 use Rattle.amqp_de.specs.Law.{Found, Missed}
 use Rattle.amqp_base.specs.Parse.{map_data}
-use Rattle.amqp_de.specs.Access.{Listing, HasPairs, Opens, OpensNot, Part, NoPart, AllRead, Ends, behind_end}
+use Rattle.amqp_de.specs.Access.{Listing, Opens, OpensNot, Part, NoPart, AllRead, Ends, behind_end}
+use Rattle.amqp_data.specs.Parts.{HasPairs}
 use Rattle.amqp_de.specs.ReadParts.{and_last, joined}
 use Rattle.amqp_de.specs.ReadPairs.{KeyNext, ValueNext, ended_access, OutOfTurn, NextPair, NoEntry, no_key, no_value, and_pair, PairsRead, KeyRead, MorePair, NoMap}
 use Rattle.amqp_de.proofs.Weaker.{found_as}

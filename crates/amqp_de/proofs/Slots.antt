@@ -12,7 +12,7 @@ use Rattle.amqp_de.specs.ReadParts.{Progress, MoreRead, and_last}
 use Rattle.amqp_de.specs.ReadPairs.{OutOfTurn, ValueNext}
 use Rattle.amqp_de.specs.ReadFields.{Slots, no_slots, slot, awaits, HaveValues, under_name, FieldRead, NoField, unknown, refused, RowRead}
 use Rattle.amqp_de.proofs.PartsRead.{left_of, right_of, join_last, join_none}
-use Rattle.amqp_de.proofs.LookedFirst.{custom_device}
+use Rattle.amqp_data.proofs.FixedWidth.{custom_device}
 
 swap : (a b c : Bool) → (a && (b && c)) ≡ (b && (a && c))
 swap true b c = refl

@@ -4,14 +4,11 @@
 mod any;
 mod array;
 mod chosen;
-mod constructor;
 mod decimals;
 mod deserialize;
 mod deserializer;
 mod fields;
 mod floats;
-mod header;
-mod heading;
 mod leaf;
 mod list;
 mod map;
