@@ -1,5 +1,5 @@
 -- Descriptors, and the constructor of an array's elements.
-use Rattle.std.proofs.Common.{◌≡◌, ℕ, zero, suc, ◌||◌, Bool, true, false, if◌then◌else◌, List, [], ◌∷◌, ◌++◌, length, ◌<◌, Option, Some, None, Result, Ok, Err, refl, sym, ap, subst, ◌∙◌, arith, inl, inr, ◌⊎◌, append_assoc}
+use Rattle.std.proofs.Common.{◌≡◌, ℕ, zero, suc, Bool, true, List, [], ◌∷◌, ◌++◌, length, ◌<◌, Option, Some, None, Result, Ok, Err, refl, sym, ap, subst, ◌∙◌, arith, inl, inr, ◌⊎◌, append_assoc}
 use Rattle.amqp_base.specs.declared.error.Error.{Error}
 use Rattle.amqp_base.specs.declared.error.Error.TheVariants.{InvalidFormatCode, Message, OutOfMemory, Io}
 use Rattle.std.specs.declared.io.ErrorKind.TheVariants.{UnexpectedEof}
@@ -8,16 +8,16 @@ use Rattle.amqp_base.specs.declared.format_code.EncodingCodes.TheVariants.{Descr
 use Rattle.amqp_base.specs.declared.format_code.Category.{Category}
 use Rattle.amqp_base.specs.Codes.{Kind, row, code_of, CodeOf}
 use Rattle.amqp_base.specs.SameKind.{same_kind, place}
-use Rattle.amqp_base.specs.Refusals.{IsCustom, IsDevice, IsMessage, StandsFor}
-use Rattle.amqp_base.specs.Item.{Scalar, Descriptor, name, code, descriptor_item, scalar}
-use Rattle.amqp_base.specs.Wire.{Constructor, under, under_pair, Wire, lenient, ScalarText, code_and_data, ScalarData, Spells, primitive, pair, DescriptorText}
-use Rattle.amqp_base.proofs.KindPlaces.{kind_same, same_kind_is}
+use Rattle.amqp_base.specs.Refusals.{IsCustom, StandsFor}
+use Rattle.amqp_base.specs.Item.{Descriptor, name, code, descriptor_item, scalar}
+use Rattle.amqp_base.specs.Wire.{Constructor, under, under_pair, code_and_data, ScalarData, Spells, primitive, pair, DescriptorText}
+use Rattle.amqp_base.proofs.KindPlaces.{kind_same}
 use Rattle.amqp_base.proofs.OneFront.{no_code}
 use Rattle.amqp_base.proofs.CodeAgain.{code_again}
 use Rattle.amqp_data.proofs.KindCodes.{code_byte}
 use Rattle.amqp_read.specs.Reading.{Reading, Takes}
 use Rattle.amqp_data.specs.Excuses.{Excused, no_memory}
-use Rattle.amqp_base.specs.Parse.{Parsed, ◌>>=◌, byte_at, by_category, data_at, behind_byte, any_code, code_or_refusal, with_rest, descriptor_data, descriptor_at, descriptor_or, described_by, is_descriptor_kind, primitive_at, constructor_behind, constructor_at}
+use Rattle.amqp_base.specs.Parse.{Parsed, ◌>>=◌, byte_at, by_category, data_at, behind_byte, code_or_refusal, with_rest, descriptor_data, descriptor_at, descriptor_or, described_by, is_descriptor_kind, primitive_at, constructor_behind, constructor_at}
 use Rattle.amqp_data.specs.Arrays.{TakesDescriptor, TakesConstructor, TakesPrimitive, PrimitiveOf}
 use Rattle.amqp_data.specs.Steps.{Rejects, IsData, Unread}
 use Rattle.amqp_data.proofs.Readings.{takes_then, rejects_then, rejects_here, rejects_more, unread_rejects, advances_same}

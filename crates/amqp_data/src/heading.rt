@@ -212,11 +212,7 @@ fn array_heading<R: Read>(
 
 /// The data of a list or an array up to its elements.
 #[inline(always)]
-pub fn seq_heading<R: Read>(
-    alloc: Global,
-    reader: &mut R,
-    code: u8,
-) -> Result<Heading, Error>
+pub fn seq_heading<R: Read>(alloc: Global, reader: &mut R, code: u8) -> Result<Heading, Error>
     ensures ok { IfOk result (λ h. Heads code (R.reading reader.old) (R.reading reader.new) h) }
     ensures err { IfErr result (λ e.
         RejectsFor (λ custom. behind_byte (seq_data custom) code) R.buffers

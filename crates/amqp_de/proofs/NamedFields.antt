@@ -14,12 +14,12 @@ use Rattle.amqp_base.specs.NamedFields.{takes_named}
 use Rattle.amqp_base.specs.Typing.{is_of}
 use Rattle.amqp_read.specs.Reading.{Takes}
 use Rattle.amqp_de.specs.Decoding.{Decoding, stands_under}
-use Rattle.amqp_data.specs.Excuses.{Excused, no_memory}
+use Rattle.amqp_data.specs.Excuses.{Excused}
 use Rattle.amqp_de.specs.Law.{Named}
 use Rattle.amqp_de.specs.Look.{Looks, LooksNot}
 use Rattle.amqp_de.specs.Access.{Listing, OpensExactly, Part}
 use Rattle.amqp_de.specs.ReadPairs.{KeyNext, ValueNext, TurnNamed}
-use Rattle.amqp_de.specs.ReadFields.{Slots, no_slots, slot, awaits, all_read, FieldPicked, FieldNamed}
+use Rattle.amqp_de.specs.ReadFields.{Slots, slot, awaits, all_read, FieldPicked, FieldNamed}
 use Rattle.amqp_de.proofs.Naming.{named_behind, named_more}
 use Rattle.amqp_de.proofs.NamedParts.{Reaches, reaches_on, part_told, refused_behind, no_room_as}
 use Rattle.amqp_data.proofs.Readings.{excused_more}

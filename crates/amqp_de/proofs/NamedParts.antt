@@ -1,5 +1,5 @@
 -- Refusals by name, of what is read part by part.
-use Rattle.std.proofs.Common.{◌≡◌, ℕ, zero, suc, ◌+◌, ◌<◌, Bool, true, IsTrue, List, ◌++◌, length, Option, Some, None, Ok, Err, refl, subst, ◌∙◌, arith, inl, inr, ◌⊎◌, false}
+use Rattle.std.proofs.Common.{◌≡◌, ℕ, suc, ◌+◌, Bool, true, IsTrue, List, ◌++◌, length, Some, Ok, Err, refl, subst, ◌∙◌, inl, inr, ◌⊎◌, false}
 use Rattle.amqp_base.specs.declared.error.Error.{Error}
 use Rattle.amqp_base.specs.declared.error.Error.TheVariants.{OutOfMemory}
 use Rattle.amqp_base.specs.declared.format_code.EncodingCodes.{EncodingCodes}

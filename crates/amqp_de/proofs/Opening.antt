@@ -15,7 +15,7 @@ use Rattle.amqp_base.specs.declared.error.Error.TheVariants.{InvalidFormatCode}
 use Rattle.amqp_de.specs.Steps.{Begins, BeginsNot, IsDescribed}
 use Rattle.amqp_data.specs.Steps.{Rejects, ParsesAs}
 use Rattle.amqp_de.specs.Look.{looked_at}
-use Rattle.amqp_de.specs.Access.{Listing, Opens, OpensExactly, OpensNot, OpensHeading}
+use Rattle.amqp_de.specs.Access.{Listing, Opens, OpensNot, OpensHeading}
 use Rattle.amqp_data.specs.Parts.{HasParts, HasPairs, shared_by, cost, OpensData, limit_at}
 use Rattle.amqp_data.proofs.Readings.{advances_then, onward, takes_then, excused_before, excused_more, rejects_more}
 use Rattle.amqp_de.proofs.Answered.{byte_stands, not_refused}

@@ -1,7 +1,7 @@
 -- An access to the parts of an item, and what its calls give.
 use Rattle.std.specs.Prelude.{◌≡◌, ℕ, suc, ◌+◌, ◌*◌, ◌≤◌, ◌<◌, min, Bool, false, List, ◌++◌, length, ◌⊎◌, IsTrue, Option, Some, None, Result, Ok, Err}
 use Rattle.amqp_base.specs.declared.format_code.EncodingCodes.{EncodingCodes}
-use Rattle.amqp_base.specs.Item.{Item, described, Items, count}
+use Rattle.amqp_base.specs.Item.{Item, Items, count}
 use Rattle.amqp_base.specs.Wire.{Constructor, bare, Wire, lenient, Parts}
 use Rattle.amqp_base.specs.Laws.{items_under}
 use Rattle.amqp_base.specs.Refusals.{IsDevice}

@@ -1,4 +1,4 @@
-use Rattle.std.proofs.Common.{◌≡◌, ℕ, ◌*◌, ◌/◌, ◌≤◌, false, List, length, Option, Some, None, arith, ap, subst, Bool}
+use Rattle.std.proofs.Common.{◌≡◌, ℕ, ◌*◌, ◌≤◌, false, List, Option, Some, None, arith, ap, subst, Bool}
 use Rattle.amqp_read.specs.Reading.{Reading}
 use Rattle.amqp_read.specs.Steps.{HasBytes, HasJust, AtHand}
 use Rattle.amqp_de.specs.Decoding.{Decoding}
