@@ -1,8 +1,6 @@
 //! Lengths, and the bytes behind them.
 
 ghost use Rattle.std.specs.Prelude.{◌≡◌, ◌⊎◌, true, IfOk, IfErr, string_bytes};
-ghost use Rattle.amqp_base.specs.Codes.{Kind};
-ghost use Rattle.amqp_base.specs.Item.{binary, string, symbol};
 ghost use Rattle.amqp_base.specs.Parse.{sized_at, text_at};
 ghost use Rattle.amqp_data.specs.Steps.{Payload, Text, Rejects, BytesFirst};
 

@@ -1,10 +1,6 @@
 //! The data of null, booleans, characters, timestamps and uuids.
 #![tactic(auto, unfolding(amqp_base::specs::Codes::row, amqp_base::specs::SameKind::same_kind, amqp_base::specs::SameKind::place, crate::specs::OneCode::is_only))]
 
-ghost use Rattle.std.specs.Prelude.{false};
-ghost use Rattle.amqp_base.specs.Codes.{Kind};
-ghost use Rattle.amqp_base.specs.Item.{null, boolean, char, timestamp, uuid};
-
 use crate::leaf::{Leaf, fixed};
 use crate::numbers::byte;
 use amqp_base::{EncodingCodes, Error};

@@ -1,10 +1,6 @@
 //! The data of numbers with a sign.
 #![tactic(auto, unfolding(amqp_base::specs::Codes::row, amqp_base::specs::SameKind::same_kind, amqp_base::specs::SameKind::place, crate::specs::OneCode::is_only))]
 
-ghost use Rattle.std.specs.Prelude.{false};
-ghost use Rattle.amqp_base.specs.Codes.{Kind};
-ghost use Rattle.amqp_base.specs.Item.{byte, short, int, long};
-
 use crate::leaf::{Leaf, fixed};
 use amqp_base::{EncodingCodes, Error};
 use amqp_read::{Read, read_const_bytes};
