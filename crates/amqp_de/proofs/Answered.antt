@@ -13,11 +13,13 @@ use Rattle.amqp_base.proofs.KindPlaces.{same_kind_is}
 use Rattle.amqp_read.specs.Reading.{Reading}
 use Rattle.amqp_de.specs.Decoding.{Decoding, stands_under}
 use Rattle.amqp_base.specs.Refusing.{scalar_refusal}
-use Rattle.amqp_de.specs.Law.{Found, Missed, Named, Excused, Advances, Spent, free, refused_free}
+use Rattle.amqp_de.specs.Law.{Found, Missed, Named, Spent, free, refused_free}
+use Rattle.amqp_data.specs.Excuses.{Excused, Advances}
 use Rattle.amqp_base.specs.Parse.{Parsed, byte_under, behind_byte, item_at, data_at}
-use Rattle.amqp_de.specs.Steps.{Begins, BeginsNot, IsData, Rejects, Exact, BytesFirst, IsDescribed}
-use Rattle.amqp_de.proofs.Readings.{advances_then, onward, takes_then, behind, excused_before, excused_more}
-use Rattle.amqp_de.proofs.Data.{understands, behind_code}
+use Rattle.amqp_de.specs.Steps.{Begins, BeginsNot, Exact, IsDescribed}
+use Rattle.amqp_data.specs.Steps.{IsData, Rejects, BytesFirst}
+use Rattle.amqp_data.proofs.Readings.{advances_then, onward, takes_then, behind, excused_before, excused_more}
+use Rattle.amqp_data.proofs.Data.{understands, behind_code}
 
 -- the state once the item's data were consumed
 abbrev pub answered : Decoding → Reading → Decoding

@@ -1,6 +1,6 @@
 -- An item is begun by the byte of its code.
-use Rattle.std.proofs.Common.{◌≡◌, ℕ, ◌+◌, ◌<◌, Bool, false, List, [], ◌∷◌, ◌++◌, length, Some, Result, Ok, Err, refl, sym, ap, ◌∙◌, arith, inl, inr, ◌⊎◌, true}
-use Rattle.std.specs.Prelude.{IfOk, IfErr}
+use Rattle.std.proofs.Common.{◌≡◌, ℕ, ◌+◌, ◌<◌, false, List, [], ◌∷◌, ◌++◌, length, Some, Result, Ok, Err, refl, sym, ap, ◌∙◌, arith, inl, inr, ◌⊎◌, true}
+use Rattle.std.specs.Prelude.{IfOk}
 use Rattle.std.specs.declared.io.ErrorKind.TheVariants.{UnexpectedEof}
 use Rattle.amqp_base.specs.declared.error.Error.{Error}
 use Rattle.amqp_base.specs.declared.error.Error.TheVariants.{Io}
@@ -18,8 +18,8 @@ use Rattle.amqp_base.proofs.OneFront.{no_code}
 use Rattle.amqp_read.specs.Reading.{Reading, Takes}
 use Rattle.amqp_de.specs.Decoding.{Decoding, stands_under}
 use Rattle.amqp_base.specs.Parse.{byte_at}
-use Rattle.amqp_de.specs.Steps.{Begins, BeginsNot, Unread, IsDescribed}
-use Rattle.amqp_de.proofs.Readings.{takes_nothing, behind, unread_rejects}
+use Rattle.amqp_de.specs.Steps.{Begins, IsDescribed}
+use Rattle.amqp_data.proofs.Readings.{takes_nothing, behind}
 
 -- data under the described constructor are none
 no_described_data : {e : EncodingCodes} {k : Kind} {c : Category} {b : List ℕ} {i : Item} → Data lenient e k c b i → e ≡ DescribedType → k ≡ Kind.described → c ≡ Fixed 0 → ⊥

@@ -8,10 +8,11 @@ use Rattle.amqp_base.specs.declared.error.Error.{Error}
 use Rattle.amqp_base.specs.declared.error.Error.TheVariants.{InvalidValue}
 use Rattle.amqp_base.proofs.OneFront.{same_wire}
 use Rattle.amqp_de.specs.Decoding.{Decoding, stands_under}
-use Rattle.amqp_de.specs.Law.{Excused, Front, Found, Missed, Named}
+use Rattle.amqp_data.specs.Excuses.{Excused}
+use Rattle.amqp_de.specs.Law.{Front, Found, Missed, Named}
 use Rattle.amqp_de.proofs.Answered.{spent_refused}
 use Rattle.amqp_de.proofs.PartsRead.{missed_more}
-use Rattle.amqp_de.proofs.Readings.{behind, excused_more}
+use Rattle.amqp_data.proofs.Readings.{behind, excused_more}
 use Rattle.amqp_de.proofs.ReadParts.{or_more}
 use Rattle.amqp_de.proofs.Weaker.{found_as}
 

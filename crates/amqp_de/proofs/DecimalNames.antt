@@ -10,15 +10,16 @@ use Rattle.amqp_base.specs.Parse.{Parsed, ◌>>=◌, byte_under, any_code, with_
 use Rattle.amqp_base.specs.Refusals.{IsCustom, IsMessage}
 use Rattle.amqp_base.specs.Refusing.{one_or_other, scalar_refusal, is_other_width, decimal_refusal}
 use Rattle.amqp_base.proofs.KindPlaces.{same_kind_is, kind_same}
-use Rattle.amqp_de.specs.Decimals.{decimal_at, decimal}
+use Rattle.amqp_data.specs.Decimals.{decimal_at, decimal}
 use Rattle.amqp_de.specs.Decoding.{Decoding, stands_under}
-use Rattle.amqp_de.specs.Law.{Excused, Named, no_memory}
+use Rattle.amqp_data.specs.Excuses.{Excused, no_memory}
+use Rattle.amqp_de.specs.Law.{Named}
 use Rattle.amqp_de.specs.Look.{Looks, LooksNot}
 use Rattle.amqp_de.specs.Steps.{Exact}
 use Rattle.amqp_de.proofs.LookedFirst.{excused_kept, same_place}
 use Rattle.amqp_de.proofs.Naming.{by_code}
-use Rattle.amqp_de.proofs.Readings.{excused_more}
-use Rattle.amqp_de.proofs.Received.{keeps_known}
+use Rattle.amqp_data.proofs.Readings.{excused_more}
+use Rattle.amqp_data.proofs.Received.{keeps_known}
 
 the_one : (A B : Type 0) (b : Bool) → b ≡ true → A → one_or_other b A B
 the_one A B b h a = rw h a

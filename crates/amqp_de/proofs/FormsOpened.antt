@@ -10,20 +10,22 @@ use Rattle.amqp_base.specs.NamedFields.{takes_map, takes_struct}
 use Rattle.amqp_base.specs.Wire.{Constructor}
 use Rattle.amqp_read.specs.Reading.{Reading}
 use Rattle.amqp_de.specs.Decoding.{Decoding, stands_under}
-use Rattle.amqp_de.specs.Law.{Excused}
+use Rattle.amqp_data.specs.Excuses.{Excused}
 use Rattle.amqp_de.specs.Look.{looked_at, Looks, LooksNot}
 use Rattle.amqp_base.specs.Parse.{Parsed, ◌>>=◌, byte_under, any_code, with_rest, behind_byte, item_at, code_at, map_data, tuple_data, struct_data}
-use Rattle.amqp_de.specs.Steps.{Rejects, Stops}
-use Rattle.amqp_de.specs.Access.{Listing, HasParts, HasPairs, Opens, OpensExactly}
+use Rattle.amqp_data.specs.Steps.{Rejects}
+use Rattle.amqp_de.specs.Steps.{Stops}
+use Rattle.amqp_de.specs.Access.{Listing, Opens, OpensExactly}
+use Rattle.amqp_data.specs.Parts.{HasParts, HasPairs}
 use Rattle.amqp_de.specs.ReadParts.{NoTuple}
 use Rattle.amqp_de.specs.ReadPairs.{PairsRead, NoMap}
 use Rattle.amqp_de.specs.Forms.{RowOpened, MapOpened, NoStruct}
 use Rattle.amqp_de.proofs.LookedFirst.{same_place, takes_behind, excused_kept, missed_of_kind, missed_unseen}
-use Rattle.amqp_de.proofs.MapHeaders.{map_codes}
+use Rattle.amqp_data.proofs.MapHeaders.{map_codes}
 use Rattle.amqp_de.proofs.Pairs.{pairs_start}
 use Rattle.amqp_de.proofs.ReadParts.{progress_start}
-use Rattle.amqp_de.proofs.Readings.{advances_then, stayed}
-use Rattle.amqp_de.proofs.Received.{keeps_known}
+use Rattle.amqp_data.proofs.Readings.{advances_then, stayed}
+use Rattle.amqp_data.proofs.Received.{keeps_known}
 use Rattle.amqp_de.proofs.StructForms.{struct_is_map, struct_is_row}
 use Rattle.amqp_de.proofs.StructRead.{map_unopened}
 

@@ -8,11 +8,12 @@ use Rattle.amqp_base.specs.Item.{Item, Items, none, more, count}
 use Rattle.amqp_base.specs.Wire.{Constructor}
 use Rattle.amqp_base.specs.Fields.{all_fields}
 use Rattle.amqp_de.specs.Decoding.{Decoding, stands_under, as_ended}
-use Rattle.amqp_de.specs.Law.{Excused}
+use Rattle.amqp_data.specs.Excuses.{Excused}
 use Rattle.amqp_base.specs.Parse.{Parsed, ◌>>=◌, byte_under, any_code, with_rest, behind_byte, item_at, list_data, of_length, tuple_data}
-use Rattle.amqp_de.specs.Access.{Listing, HasParts, Opens, OpensExactly, OpensNot}
+use Rattle.amqp_de.specs.Access.{Listing, Opens, OpensExactly, OpensNot}
+use Rattle.amqp_data.specs.Parts.{HasParts}
 use Rattle.amqp_de.specs.ReadParts.{NoTuple, RefusesTuple}
-use Rattle.amqp_de.proofs.Readings.{onward}
+use Rattle.amqp_data.proofs.Readings.{onward}
 use Rattle.amqp_de.proofs.PartsRead.{right_of, missed_more}
 use Rattle.amqp_de.proofs.ReadParts.{fields_unopened, progress_start, not_taken}
 

@@ -2,22 +2,23 @@
 use Rattle.std.proofs.Common.{◌≡◌, ℕ, ◌≤◌, Bool, true, IsTrue, List, ◌++◌, length, Option, Some, None, refl, sym, ap, ◌∙◌, arith}
 use Rattle.std.specs.Io.KnownBytes.{Keeps, Consumes}
 use Rattle.amqp_base.specs.declared.error.Error.{Error}
-use Rattle.amqp_base.specs.declared.error.Error.TheVariants.{Message, Io, OutOfMemory}
 use Rattle.amqp_base.specs.declared.format_code.EncodingCodes.{EncodingCodes}
 use Rattle.amqp_base.specs.Codes.{Kind, row}
 use Rattle.amqp_base.specs.Item.{Item}
 use Rattle.amqp_base.specs.Typing.{is_of}
-use Rattle.amqp_base.specs.Refusals.{IsCustom, IsDevice}
+use Rattle.amqp_base.specs.Refusals.{IsCustom}
 use Rattle.amqp_base.specs.Wire.{Wire, lenient}
 use Rattle.amqp_read.specs.Reading.{Reading, Takes, Stays}
 use Rattle.amqp_read.specs.Steps.{Looked}
 use Rattle.amqp_de.specs.Decoding.{Decoding, stands_under}
-use Rattle.amqp_de.specs.Law.{Found, Missed, Excused, Overfull, Spent, refused_free, no_memory, faulted, uncounted}
+use Rattle.amqp_de.specs.Law.{Found, Missed, Spent, refused_free}
+use Rattle.amqp_data.specs.Excuses.{Excused, Overfull, no_memory, faulted, uncounted}
 use Rattle.amqp_de.specs.Look.{item_kind, looked_at, Looks, LooksNot}
-use Rattle.amqp_de.proofs.Received.{agree_front, left_behind, keeps_known, may_known}
-use Rattle.amqp_de.proofs.Readings.{advances_then, steady_then, stayed, excused_more}
+use Rattle.amqp_data.proofs.Received.{agree_front, left_behind, keeps_known, may_known}
+use Rattle.amqp_data.proofs.Readings.{advances_then, steady_then, stayed, excused_more}
 use Rattle.amqp_de.proofs.Answered.{of_kind_is, not_refused}
 use Rattle.amqp_de.proofs.Looking.{own_byte, code_stands}
+use Rattle.amqp_data.proofs.FixedWidth.{custom_device}
 
 keeps_overfull : (n : ℕ) (k l : Option (List ℕ)) → Keeps k l → Overfull n l → Overfull n k
 keeps_overfull n None l h o = tt
@@ -112,12 +113,6 @@ missed_unseen takes grows buffers old new e g n = record {
 
 pub missed_look : (k : Kind) (buffers : Bool) (old new : Decoding) (e : Error) → LooksNot buffers old new e → Missed (is_of k) true buffers old new e
 missed_look k buffers old new e n = missed_unseen (is_of k) true buffers old new e (λ b. refl) n
-
-pub custom_device : (text : List ℕ) (e : Error) → IsCustom text e → IsDevice e → ⊥
-custom_device text (Message s) c d = d
-custom_device text OutOfMemory c d = d
-custom_device text (Io k) c d = c
-custom_device text _ c d = d
 
 -- a code of another kind stands there
 pub missed_custom : (k : Kind) (buffers : Bool) (old new : Decoding) (x : EncodingCodes) (text : List ℕ) (e : Error) → Looks old new x → ((row x).kind ≡ k → ⊥) → IsCustom text e → Missed (is_of k) true buffers old new e

@@ -1,5 +1,5 @@
 -- A look at the next item.
-use Rattle.std.proofs.Common.{◌≡◌, ℕ, zero, suc, ◌≤◌, Bool, List, [], ◌∷◌, ◌++◌, length, Option, Some, None, Result, Ok, Err, refl, sym, ap, ◌∙◌, arith, inl, inr, ◌⊎◌, false}
+use Rattle.std.proofs.Common.{◌≡◌, ℕ, ◌≤◌, Bool, List, [], ◌∷◌, ◌++◌, length, Option, Some, None, Result, Ok, Err, refl, sym, ap, ◌∙◌, arith, inl, false}
 use Rattle.std.specs.Prelude.{IfOk, IfErr}
 use Rattle.std.proofs.lemmas.List.{take_all}
 use Rattle.amqp_base.specs.declared.error.Error.{Error}
@@ -7,45 +7,24 @@ use Rattle.amqp_base.specs.declared.error.Error.TheVariants.{InvalidFormatCode}
 use Rattle.amqp_base.specs.declared.format_code.EncodingCodes.{EncodingCodes}
 use Rattle.amqp_base.specs.declared.format_code.EncodingCodes.TheVariants.{DescribedType}
 use Rattle.amqp_base.specs.declared.format_code.Category.{Category}
-use Rattle.amqp_base.specs.Codes.{Kind, row, code_of, CodeOf}
+use Rattle.amqp_base.specs.Codes.{Kind, row, CodeOf}
 use Rattle.amqp_base.specs.Item.{Item, Descriptor}
 use Rattle.amqp_base.specs.Wire.{Constructor, bare, under, under_pair, Wire, lenient, of_code, of_described, of_data, of_pair, Data, of_fixed, of_variable, list0, of_list, of_map, of_array, empty_array}
-use Rattle.amqp_base.proofs.CodeAgain.{code_again}
 use Rattle.amqp_read.specs.Reading.{Reading}
 use Rattle.std.specs.Io.KnownBytes.{Keeps}
 use Rattle.amqp_read.specs.Steps.{Looked, Shows, MayCome}
 use Rattle.amqp_de.specs.Decoding.{Decoding, stands_under}
-use Rattle.amqp_base.specs.Parse.{Parsed, any_code, code_or_refusal, behind_byte, code_at}
+use Rattle.amqp_base.specs.Parse.{Parsed, any_code, behind_byte, code_at}
 use Rattle.amqp_de.specs.Look.{item_kind, looked_at, Peeks, PeeksNot, Looks}
-use Rattle.amqp_de.proofs.Received.{keeps_known, shown_known, shown_first}
-use Rattle.amqp_de.proofs.Readings.{steady_same, stayed}
-use Rattle.amqp_de.proofs.Data.{any_code_is, data_kind}
-use Rattle.amqp_de.proofs.KindCodes.{code_byte}
-use Rattle.amqp_de.proofs.FixedWidth.{not_device}
-
-described_byte : any_code (row DescribedType).byte ≡ Ok DescribedType
-unfolding any_code row
-described_byte = refl
-
-pub any_again : (e : EncodingCodes) → any_code (row e).byte ≡ Ok e
-any_again e = tell (code_again e)
-  where
-    tell : (code_of (row e).byte ≡ Some e) ⊎ (e ≡ DescribedType) → any_code (row e).byte ≡ Ok e
-    tell (inl p) = any_code_is (row e).byte e p
-    tell (inr p) = rw p described_byte
+use Rattle.amqp_data.proofs.Received.{keeps_known, shown_known, shown_first}
+use Rattle.amqp_data.proofs.Readings.{steady_same, stayed}
+use Rattle.amqp_data.proofs.Data.{any_code_is, data_kind}
+use Rattle.amqp_data.proofs.FixedWidth.{not_device}
+use Rattle.amqp_data.proofs.CodeBytes.{any_again, any_none}
 
 -- codes have bytes of their own
 pub same_byte : (d e : EncodingCodes) → (row d).byte ≡ (row e).byte → d ≡ e
 same_byte d e h = cc (any_again d, any_again e, h)
-
-pub any_none : (b : ℕ) → ((d : EncodingCodes) → (row d).byte ≡ b → ⊥) → any_code b ≡ Err InvalidFormatCode
-unfolding any_code row
-any_none zero n = absurd (n DescribedType refl)
-any_none (suc b) n = tell (code_of (suc b)) refl
-  where
-    tell : (o : Option EncodingCodes) → code_of (suc b) ≡ o → code_or_refusal (code_of (suc b)) ≡ Err InvalidFormatCode
-    tell (Some e) h = absurd (n e (code_byte (suc b) e h))
-    tell None h = rw h refl
 
 code_here : (b : ℕ) (e : EncodingCodes) (s rest : List ℕ) → s ≡ b ∷ rest → any_code b ≡ Ok e → code_at bare s ≡ Ok (e, rest)
 code_here b e s rest h p = rw (h, p) refl

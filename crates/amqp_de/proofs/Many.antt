@@ -12,7 +12,8 @@ use Rattle.amqp_base.specs.Laws.{items_under}
 use Rattle.amqp_read.specs.Reading.{Reading, Agree, Takes}
 use Rattle.amqp_de.specs.Decoding.{Decoding, stands_under, behind_descriptor}
 use Rattle.amqp_de.specs.Law.{Front, Spent, free}
-use Rattle.amqp_de.specs.Access.{Listing, Part, Within}
+use Rattle.amqp_data.specs.Parts.{Within}
+use Rattle.amqp_de.specs.Access.{Listing, Part}
 use Rattle.amqp_de.specs.Many.{AreRead, IsElement, AreElements, PutBehind}
 use Rattle.amqp_de.proofs.PartsRead.{within_less}
 use Rattle.amqp_de.proofs.Sequence.{Sofar, sofar_step}

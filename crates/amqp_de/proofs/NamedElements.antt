@@ -1,5 +1,5 @@
 -- Refusals by name, of lists and arrays.
-use Rattle.std.proofs.Common.{◌≡◌, ℕ, zero, suc, ◌+◌, ◌-◌, ◌<◌, ◌≤◌, Bool, true, false, if◌then◌else◌, IsTrue, List, [], ◌∷◌, ◌++◌, length, Option, Some, None, Result, Ok, Err, nat_lt, refl, sym, ap, subst, ◌∙◌, arith, inl, inr, ◌⊎◌}
+use Rattle.std.proofs.Common.{◌≡◌, ℕ, zero, suc, ◌+◌, ◌-◌, ◌<◌, ◌≤◌, Bool, true, false, if◌then◌else◌, IsTrue, List, ◌++◌, length, Option, Some, None, Ok, Err, nat_lt, refl, sym, ap, subst, ◌∙◌, arith, inl, inr, ◌⊎◌}
 use Rattle.std.proofs.lemmas.List.{length-append}
 use borrow.Author.Tests.{ltb-true}
 use Rattle.std.proofs.lemmas.Bool.{le-ltb, lt-ltb, ltb-false}
@@ -7,20 +7,22 @@ use Rattle.amqp_base.specs.declared.error.Error.{Error}
 use Rattle.amqp_base.specs.declared.error.Error.TheVariants.{Message, Io, InvalidFormatCode, InvalidValue, InvalidUtf8Encoding, SequenceLengthMismatch, InvalidLength, OutOfMemory}
 use Rattle.amqp_base.specs.declared.format_code.EncodingCodes.{EncodingCodes}
 use Rattle.amqp_base.specs.declared.format_code.EncodingCodes.TheVariants.{Array8, Array32}
-use Rattle.amqp_base.specs.Codes.{row, code_of}
-use Rattle.amqp_base.specs.Item.{Scalar, Descriptor, Item, Items}
-use Rattle.amqp_base.specs.Parse.{Parsed, ◌>>=◌, Heading, byte_at, byte_under, any_code, behind_byte, by_category, item_at, list_data, header_at, bytes_at, descriptor_data, descriptor_at, descriptor_or, described_by, is_descriptor_kind, primitive_at, constructor_at, constructor_behind, with_rest, code_or_refusal, of_room, elements_behind, array_at, seq_data, empty_heading, list_heading}
+use Rattle.amqp_base.specs.Codes.{row}
+use Rattle.amqp_base.specs.Item.{Descriptor, Item, Items}
+use Rattle.amqp_base.specs.Parse.{Parsed, ◌>>=◌, byte_at, byte_under, any_code, behind_byte, by_category, item_at, list_data, header_at, descriptor_data, descriptor_at, descriptor_or, described_by, is_descriptor_kind, primitive_at, constructor_at, constructor_behind, with_rest, of_room, elements_behind, array_at, seq_data, list_heading}
 use Rattle.amqp_base.specs.Refusals.{StandsFor}
-use Rattle.amqp_base.specs.Refusing.{Refusing, FrontThen, in_room, one_or_other, element_refusal, HeadingThen, seq_refusal}
-use Rattle.amqp_base.specs.Wire.{Constructor, under, under_pair, Wire, lenient}
+use Rattle.amqp_base.specs.Refusing.{Refusing, in_room, element_refusal, HeadingThen, seq_refusal}
+use Rattle.amqp_base.specs.Wire.{Constructor, under_pair, Wire, lenient}
 use Rattle.amqp_de.specs.Decoding.{Decoding, stands_under}
-use Rattle.amqp_de.specs.Law.{Excused, Named}
-use Rattle.amqp_de.specs.Access.{Listing, Within, limit_at, Part, PartNamed, PassesEnd}
+use Rattle.amqp_data.specs.Excuses.{Excused}
+use Rattle.amqp_de.specs.Law.{Named}
+use Rattle.amqp_de.specs.Access.{Listing, Part, PartNamed, PassesEnd}
+use Rattle.amqp_data.specs.Parts.{Within, limit_at}
 use Rattle.amqp_de.specs.Openings.{OpensElements, OpensEither}
 use Rattle.amqp_de.specs.ReadParts.{PartsRead, RefusesElements}
 use Rattle.amqp_de.proofs.NamedParts.{taken_since}
 use Rattle.amqp_de.proofs.PartsRead.{stands_is}
-use Rattle.amqp_de.proofs.Readings.{behind, excused_before, excused_more}
+use Rattle.amqp_data.proofs.Readings.{behind, excused_before, excused_more}
 
 -- ---- where a message is called for, the answer has its text; else the answer is the same for all
 

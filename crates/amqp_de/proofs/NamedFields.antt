@@ -14,14 +14,15 @@ use Rattle.amqp_base.specs.NamedFields.{takes_named}
 use Rattle.amqp_base.specs.Typing.{is_of}
 use Rattle.amqp_read.specs.Reading.{Takes}
 use Rattle.amqp_de.specs.Decoding.{Decoding, stands_under}
-use Rattle.amqp_de.specs.Law.{Excused, Named, no_memory}
+use Rattle.amqp_data.specs.Excuses.{Excused}
+use Rattle.amqp_de.specs.Law.{Named}
 use Rattle.amqp_de.specs.Look.{Looks, LooksNot}
 use Rattle.amqp_de.specs.Access.{Listing, OpensExactly, Part}
 use Rattle.amqp_de.specs.ReadPairs.{KeyNext, ValueNext, TurnNamed}
-use Rattle.amqp_de.specs.ReadFields.{Slots, no_slots, slot, awaits, all_read, FieldPicked, FieldNamed}
+use Rattle.amqp_de.specs.ReadFields.{Slots, slot, awaits, all_read, FieldPicked, FieldNamed}
 use Rattle.amqp_de.proofs.Naming.{named_behind, named_more}
 use Rattle.amqp_de.proofs.NamedParts.{Reaches, reaches_on, part_told, refused_behind, no_room_as}
-use Rattle.amqp_de.proofs.Readings.{excused_more}
+use Rattle.amqp_data.proofs.Readings.{excused_more}
 
 -- a part of another type, whatever it means
 pub part_as : {takes other : Item → Bool} {means : Item → Type 0} {old new : Listing} → ((i : Item) → IsTrue (takes i) → IsTrue (other i)) → Part takes means old new → Part other (λ i. Unit {0}) old new

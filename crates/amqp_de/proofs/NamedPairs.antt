@@ -7,9 +7,10 @@ use Rattle.amqp_base.specs.Parse.{map_data}
 use Rattle.amqp_base.specs.Refusing.{Refusing, PartsRefusing, turn_refusal, map_refusal}
 use Rattle.amqp_de.specs.Decoding.{Decoding}
 use Rattle.amqp_de.specs.Law.{Named}
-use Rattle.amqp_de.specs.Access.{Listing, HasPairs, Opens, OpensExactly, Part, PartNamed}
+use Rattle.amqp_de.specs.Access.{Listing, Opens, OpensExactly, Part, PartNamed}
+use Rattle.amqp_data.specs.Parts.{HasPairs}
 use Rattle.amqp_de.specs.ReadParts.{PartsRead}
-use Rattle.amqp_de.specs.ReadPairs.{NextPair, NoEntry, no_key, no_value, PairsRead, TurnNamed, EntryTurnNamed, key_named, value_named}
+use Rattle.amqp_de.specs.ReadPairs.{NextPair, NoEntry, no_key, no_value, PairsRead, EntryTurnNamed, key_named, value_named}
 use Rattle.amqp_de.proofs.NamedParts.{Reaches, reaches_on, part_told, refused_behind, taken_since}
 use Rattle.amqp_de.proofs.Pairs.{key_more}
 

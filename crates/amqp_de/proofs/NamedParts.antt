@@ -1,5 +1,5 @@
 -- Refusals by name, of what is read part by part.
-use Rattle.std.proofs.Common.{◌≡◌, ℕ, zero, suc, ◌+◌, ◌<◌, Bool, true, IsTrue, List, ◌++◌, length, Option, Some, None, Ok, Err, refl, subst, ◌∙◌, arith, inl, inr, ◌⊎◌, false}
+use Rattle.std.proofs.Common.{◌≡◌, ℕ, suc, ◌+◌, Bool, true, IsTrue, List, ◌++◌, length, Some, Ok, Err, refl, subst, ◌∙◌, inl, inr, ◌⊎◌, false}
 use Rattle.amqp_base.specs.declared.error.Error.{Error}
 use Rattle.amqp_base.specs.declared.error.Error.TheVariants.{OutOfMemory}
 use Rattle.amqp_base.specs.declared.format_code.EncodingCodes.{EncodingCodes}
@@ -9,11 +9,13 @@ use Rattle.amqp_base.specs.Parse.{Parsed, item_at}
 use Rattle.amqp_base.specs.Refusing.{Refusing, HeaderThen, PartsRefusing, opened_refusal}
 use Rattle.amqp_read.specs.Reading.{Takes}
 use Rattle.amqp_de.specs.Decoding.{Decoding, stands_under}
-use Rattle.amqp_de.specs.Law.{Excused, Named, no_memory}
-use Rattle.amqp_de.specs.Access.{Listing, Within, Opens, OpensExactly, OpensNot, Part, PartNamed, PassesEnd, Plain, NoEnd}
+use Rattle.amqp_data.specs.Excuses.{Excused, no_memory}
+use Rattle.amqp_de.specs.Law.{Named}
+use Rattle.amqp_de.specs.Access.{Listing, Opens, OpensExactly, OpensNot, Part, PartNamed, PassesEnd, Plain, NoEnd}
+use Rattle.amqp_data.specs.Parts.{Within}
 use Rattle.amqp_de.specs.ReadParts.{PartsRead}
 use Rattle.amqp_de.proofs.PartsRead.{end_refused}
-use Rattle.amqp_de.proofs.Readings.{takes_then, behind, excused_before, excused_more}
+use Rattle.amqp_data.proofs.Readings.{takes_then, behind, excused_before, excused_more}
 
 -- what is refused at this place, the whole is refused as; the parts have constructors of their own
 pub record Reaches (whole left : PartsRefusing) (from now : Listing) : Type 0 where

@@ -7,12 +7,14 @@ use Rattle.amqp_base.specs.Wire.{Constructor, bare, Wire, lenient}
 use Rattle.amqp_base.specs.Parse.{Parsed, ◌>>=◌, item_at, list_data, of_length, tuple_data}
 use Rattle.amqp_base.specs.Refusing.{Refusing, awaited_count, row_part_refusal, opened_refusal, row_refusal}
 use Rattle.amqp_de.specs.Decoding.{Decoding, stands_under}
-use Rattle.amqp_de.specs.Law.{Excused, Named}
-use Rattle.amqp_de.specs.Access.{Listing, HasParts, Opens, OpensExactly, OpensNot, Part, PartNamed, Plain}
+use Rattle.amqp_data.specs.Excuses.{Excused}
+use Rattle.amqp_de.specs.Law.{Named}
+use Rattle.amqp_de.specs.Access.{Listing, Opens, OpensExactly, OpensNot, Part, PartNamed, Plain}
+use Rattle.amqp_data.specs.Parts.{HasParts}
 use Rattle.amqp_de.specs.ReadFields.{ElementsNamed}
 use Rattle.amqp_de.proofs.JustSoMany.{tuple_item, tuple_exactly, other_length}
 use Rattle.amqp_de.proofs.NamedParts.{plain_on, part_told, reaches_start, refused_behind, stands_bare}
-use Rattle.amqp_de.proofs.Readings.{behind, excused_before, excused_more}
+use Rattle.amqp_data.proofs.Readings.{behind, excused_before, excused_more}
 
 module _ {t : Item → Bool} {r : Refusing} {bs : List Bool} {ts : List (Item → Bool)} {rs : List {1} Refusing} {a b buffers : Bool} {old : Listing} {last : Decoding} {e : Error} where
   -- the first field had its value before

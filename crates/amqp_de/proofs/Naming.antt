@@ -1,5 +1,5 @@
 -- Refusals by the names that the bytes call for.
-use Rattle.std.proofs.Common.{◌≡◌, ℕ, Bool, ◌||◌, IsTrue, List, length, Option, Some, None, Result, Ok, Err, IfErr, IsErrAnd, refl, sym, ap, subst, ◌∙◌, arith, inl, inr, ◌⊎◌}
+use Rattle.std.proofs.Common.{◌≡◌, ℕ, Bool, ◌||◌, IsTrue, List, length, Result, Ok, Err, IfErr, IsErrAnd, refl, sym, ap, subst, ◌∙◌, arith, inl, inr, ◌⊎◌}
 use Rattle.amqp_base.specs.declared.error.Error.{Error}
 use Rattle.amqp_base.specs.declared.error.Error.TheVariants.{InvalidValue}
 use Rattle.amqp_base.specs.declared.format_code.EncodingCodes.{EncodingCodes}
@@ -11,13 +11,15 @@ use Rattle.std.proofs.lemmas.Bool.{le-ltb}
 use Rattle.amqp_base.specs.Item.{null, Item}
 use Rattle.amqp_base.specs.Wire.{Constructor}
 use Rattle.amqp_base.specs.Parse.{Parsed, ◌>>=◌, byte_under, any_code, with_rest, behind_byte, item_at, code_at, data_at}
-use Rattle.amqp_base.specs.Refusing.{Refusing, any_refusal, scalar_refusal, option_refusal}
+use Rattle.amqp_base.specs.Refusing.{Refusing, scalar_refusal, option_refusal}
 use Rattle.amqp_de.specs.Decoding.{Decoding, stands_under, as_ended}
-use Rattle.amqp_de.specs.Law.{Excused, Found, Named}
+use Rattle.amqp_data.specs.Excuses.{Excused}
+use Rattle.amqp_de.specs.Law.{Found, Named}
 use Rattle.amqp_de.specs.Look.{Looks, LooksNot}
-use Rattle.amqp_de.specs.Access.{Listing, PartNamed, PassesEnd, Within}
-use Rattle.amqp_de.proofs.Readings.{behind, excused_more}
-use Rattle.amqp_de.proofs.Received.{keeps_known}
+use Rattle.amqp_de.specs.Access.{Listing, PartNamed, PassesEnd}
+use Rattle.amqp_data.specs.Parts.{Within}
+use Rattle.amqp_data.proofs.Readings.{behind, excused_more}
+use Rattle.amqp_data.proofs.Received.{keeps_known}
 use Rattle.amqp_de.proofs.LookedFirst.{excused_kept, same_place}
 use Rattle.amqp_de.proofs.ReadParts.{or_right}
 

@@ -1,5 +1,5 @@
 -- An item that may be null.
-use Rattle.std.proofs.Common.{◌≡◌, Bool, false, ◌||◌, IsTrue, Some, None, refl, sym, ap, ◌∙◌}
+use Rattle.std.proofs.Common.{◌≡◌, Bool, false, ◌||◌, IsTrue, Some, refl, sym, ap, ◌∙◌}
 use Rattle.amqp_base.specs.declared.error.Error.{Error}
 use Rattle.amqp_base.specs.declared.format_code.EncodingCodes.{EncodingCodes}
 use Rattle.amqp_base.specs.declared.format_code.EncodingCodes.TheVariants.{Null}
@@ -12,9 +12,9 @@ use Rattle.amqp_base.specs.Wire.{Wire, lenient}
 use Rattle.amqp_de.specs.Decoding.{Decoding, stands_under}
 use Rattle.amqp_de.specs.Law.{Front, Found, Missed}
 use Rattle.amqp_de.specs.Look.{item_kind, Looks, LooksNot}
-use Rattle.amqp_de.proofs.Received.{may_taken}
+use Rattle.amqp_data.proofs.Received.{may_taken}
 use Rattle.amqp_de.proofs.LookedFirst.{same_place, found_behind, missed_of_kind, missed_unseen}
-use Rattle.amqp_de.proofs.Weaker.{found_as, found_of}
+use Rattle.amqp_de.proofs.Weaker.{found_of}
 use Rattle.amqp_de.proofs.ReadParts.{or_right}
 
 pub null_code : (e : EncodingCodes) → (row e).kind ≡ Kind.null → e ≡ Null

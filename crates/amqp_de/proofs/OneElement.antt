@@ -1,26 +1,26 @@
 -- An array, or any other item as its one element.
-use Rattle.std.proofs.Common.{◌≡◌, ◌⊎◌, ℕ, Bool, true, false, List, [], ◌∷◌, Ok, Err, IsTrue, refl, sym, inl, inr, ◌∙◌}
+use Rattle.std.proofs.Common.{◌≡◌, ◌⊎◌, ℕ, Bool, true, List, [], ◌∷◌, Ok, Err, IsTrue, refl, sym, inl, inr, ◌∙◌}
 use Rattle.amqp_base.specs.declared.error.Error.{Error}
 use Rattle.amqp_base.specs.declared.error.Error.TheVariants.{OutOfMemory}
 use Rattle.amqp_base.specs.declared.format_code.EncodingCodes.{EncodingCodes}
 use Rattle.amqp_base.specs.Codes.{Kind, row}
 use Rattle.amqp_base.specs.Canon.{kind_of}
-use Rattle.amqp_base.specs.Item.{Scalar, null, boolean, ubyte, ushort, uint, ulong, byte, short, int, long, float, double, decimal32, decimal64, decimal128, char, timestamp, uuid, binary, string, symbol, Item, scalar, list, map, array, described, more, none}
+use Rattle.amqp_base.specs.Item.{Scalar, null, boolean, ubyte, ushort, uint, ulong, byte, short, int, long, float, double, decimal32, decimal64, decimal128, char, timestamp, uuid, binary, string, symbol, Item, scalar, list, map, array, described}
 use Rattle.amqp_base.specs.Refusals.{IsDevice}
-use Rattle.amqp_base.specs.Typing.{all_taken, all_mean, is_seq_of, means_seq, takes_array, means_array}
+use Rattle.amqp_base.specs.Typing.{is_seq_of, means_seq, takes_array, means_array}
 use Rattle.amqp_base.specs.Wire.{Wire, lenient}
 use Rattle.amqp_de.specs.Decoding.{Decoding, stands_under}
-use Rattle.amqp_de.specs.Law.{Front, Found, Missed, Named, Excused, no_memory}
+use Rattle.amqp_de.specs.Law.{Front, Found, Missed, Named}
+use Rattle.amqp_data.specs.Excuses.{Excused, no_memory}
 use Rattle.amqp_de.specs.Look.{item_kind, Looks, LooksNot}
 use Rattle.amqp_base.specs.Parse.{code_at}
 use Rattle.amqp_base.specs.Refusing.{Refusing, array_refusal, seq_refusal, no_code, of_array, of_one}
 use Rattle.amqp_de.proofs.Answered.{spent_refused}
 use Rattle.amqp_de.proofs.Naming.{named_behind}
-use Rattle.amqp_de.proofs.Readings.{excused_more}
-use Rattle.amqp_de.proofs.Received.{may_taken}
+use Rattle.amqp_data.proofs.Readings.{excused_more}
+use Rattle.amqp_data.proofs.Received.{may_taken}
 use Rattle.amqp_de.proofs.LookedFirst.{same_place, found_behind, missed_of_kind, missed_unseen}
 use Rattle.amqp_de.proofs.Weaker.{found_of}
-use Rattle.amqp_de.proofs.ReadParts.{or_right}
 
 scalar_kind : (v : Scalar) → kind_of v ≡ Kind.array → ⊥
 scalar_kind null h = absurd cc

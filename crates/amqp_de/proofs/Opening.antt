@@ -8,15 +8,18 @@ use Rattle.amqp_base.specs.Wire.{Constructor, bare, under, under_pair, Wire, len
 use Rattle.amqp_base.specs.Refusals.{IsDevice}
 use Rattle.amqp_read.specs.Reading.{Reading}
 use Rattle.amqp_de.specs.Decoding.{Decoding, stands_under}
-use Rattle.amqp_de.specs.Law.{Excused, free}
+use Rattle.amqp_data.specs.Excuses.{Excused}
+use Rattle.amqp_de.specs.Law.{free}
 use Rattle.amqp_base.specs.Parse.{Parsed, byte_under, behind_byte, item_at, seq_data}
 use Rattle.amqp_base.specs.declared.error.Error.TheVariants.{InvalidFormatCode}
-use Rattle.amqp_de.specs.Steps.{Begins, BeginsNot, IsDescribed, Rejects, ParsesAs}
+use Rattle.amqp_de.specs.Steps.{Begins, BeginsNot, IsDescribed}
+use Rattle.amqp_data.specs.Steps.{Rejects, ParsesAs}
 use Rattle.amqp_de.specs.Look.{looked_at}
-use Rattle.amqp_de.specs.Access.{Listing, HasParts, HasPairs, shared_by, cost, OpensData, Opens, OpensExactly, OpensNot, OpensHeading, limit_at}
-use Rattle.amqp_de.proofs.Readings.{advances_then, onward, takes_then, excused_before, excused_more, rejects_more}
+use Rattle.amqp_de.specs.Access.{Listing, Opens, OpensNot, OpensHeading}
+use Rattle.amqp_data.specs.Parts.{HasParts, HasPairs, shared_by, cost, OpensData, limit_at}
+use Rattle.amqp_data.proofs.Readings.{advances_then, onward, takes_then, excused_before, excused_more, rejects_more}
 use Rattle.amqp_de.proofs.Answered.{byte_stands, not_refused}
-use Rattle.amqp_de.proofs.Data.{behind_code}
+use Rattle.amqp_data.proofs.Data.{behind_code}
 
 pub list_plain : (i : Item) (is : Items) → HasParts i is → IsDescribed i → ⊥
 list_plain (list is) js p d = d

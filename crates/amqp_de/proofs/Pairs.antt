@@ -1,16 +1,17 @@
 -- Reading a map, key by key and value by value.
-use Rattle.std.proofs.Common.{◌≡◌, ◌%◌, Bool, true, ◌&&◌, List, [], ◌∷◌, ◌++◌, Some, Result, Ok, Err, IfOk, IfErr, refl, sym, ap, ◌∙◌, arith, IsTrue}
+use Rattle.std.proofs.Common.{◌≡◌, ◌%◌, Bool, true, ◌&&◌, List, [], ◌∷◌, ◌++◌, Result, Ok, Err, IfOk, IfErr, refl, sym, ap, ◌∙◌, arith, IsTrue}
 use Rattle.std.proofs.lemmas.List.Sums.{fold-append}
 use Rattle.amqp_base.specs.declared.error.Error.{Error}
-use Rattle.amqp_base.specs.declared.error.Error.TheVariants.{InvalidValue, OutOfMemory}
+use Rattle.amqp_base.specs.declared.error.Error.TheVariants.{OutOfMemory}
 use Rattle.amqp_base.specs.Item.{Item, scalar, list, map, array, described, Items, more, Pairs, no_pairs, pair, in_turn}
 use Rattle.amqp_base.specs.Maps.{all_pairs_taken, is_map_of, all_pairs_mean, MeansPairs, means_map}
 use Rattle.amqp_de.specs.Decoding.{Decoding, as_ended}
 use Rattle.amqp_de.specs.Law.{Found, Missed}
 use Rattle.amqp_base.specs.Parse.{map_data}
-use Rattle.amqp_de.specs.Access.{Listing, HasPairs, Opens, OpensNot, Part, NoPart, AllRead, Ends, behind_end}
+use Rattle.amqp_de.specs.Access.{Listing, Opens, OpensNot, Part, NoPart, AllRead, behind_end}
+use Rattle.amqp_data.specs.Parts.{HasPairs}
 use Rattle.amqp_de.specs.ReadParts.{and_last, joined}
-use Rattle.amqp_de.specs.ReadPairs.{KeyNext, ValueNext, ended_access, OutOfTurn, NextPair, NoEntry, no_key, no_value, and_pair, PairsRead, KeyRead, MorePair, NoMap}
+use Rattle.amqp_de.specs.ReadPairs.{KeyNext, ValueNext, OutOfTurn, NextPair, NoEntry, no_key, no_value, and_pair, PairsRead, KeyRead, MorePair, NoMap}
 use Rattle.amqp_de.proofs.Weaker.{found_as}
 use Rattle.amqp_de.proofs.Turns.{and_pairs, pair_turn, one_turn, key_and_value, own_value}
 use Rattle.amqp_de.proofs.PartsRead as read

@@ -10,12 +10,14 @@ use Rattle.amqp_base.specs.Refusals.{IsDevice}
 use Rattle.amqp_base.proofs.Lists.{rest}
 use Rattle.amqp_base.proofs.OneFront.{same_wire}
 use Rattle.amqp_de.specs.Decoding.{Decoding, stands_under, behind_descriptor, as_ended}
-use Rattle.amqp_de.specs.Law.{Front, Found, Missed, Excused, Advances, no_memory, Spent, free, refused_free}
-use Rattle.amqp_de.specs.Access.{Listing, Within, items_of_all, cost, Opens, OpensNot, Part, NoPart, Ends, behind_end}
+use Rattle.amqp_de.specs.Law.{Front, Found, Missed, Spent, free, refused_free}
+use Rattle.amqp_data.specs.Excuses.{Excused, Advances, no_memory}
+use Rattle.amqp_de.specs.Access.{Listing, Opens, OpensNot, Part, NoPart, Ends, behind_end}
+use Rattle.amqp_data.specs.Parts.{Within, items_of_all, cost}
 use Rattle.amqp_de.specs.ReadParts.{PartsRead, and_last, joined}
 use Rattle.amqp_base.specs.Parse.{Parsed}
 use Rattle.amqp_base.specs.declared.format_code.EncodingCodes.{EncodingCodes}
-use Rattle.amqp_de.proofs.Readings.{takes_nothing, advances_then, onward, takes_then, behind, excused_before, excused_more}
+use Rattle.amqp_data.proofs.Readings.{takes_nothing, advances_then, onward, takes_then, behind, excused_before, excused_more}
 use Rattle.amqp_de.proofs.Answered.{free_refused, one_refused}
 
 pub both : (a b : Bool) → IsTrue a → IsTrue b → IsTrue (a && b)

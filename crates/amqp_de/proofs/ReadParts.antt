@@ -4,10 +4,11 @@ use Rattle.amqp_base.specs.declared.error.Error.{Error}
 use Rattle.amqp_base.specs.declared.error.Error.TheVariants.{SequenceLengthMismatch}
 use Rattle.amqp_base.specs.Item.{Item, scalar, list, map, array, described, Items, none, more, count}
 use Rattle.amqp_base.specs.Fields.{all_fields, takes_fields, all_meanings, means_fields}
-use Rattle.amqp_de.specs.Decoding.{Decoding, stands_under, as_ended}
+use Rattle.amqp_de.specs.Decoding.{Decoding, as_ended}
 use Rattle.amqp_de.specs.Law.{Found, Missed}
-use Rattle.amqp_base.specs.Parse.{item_at, list_data}
-use Rattle.amqp_de.specs.Access.{Listing, HasParts, Opens, OpensNot, Part, NoPart, AllRead, NoEnd, Ends, behind_end}
+use Rattle.amqp_base.specs.Parse.{list_data}
+use Rattle.amqp_de.specs.Access.{Listing, Opens, OpensNot, Part, NoPart, AllRead, NoEnd, Ends, behind_end}
+use Rattle.amqp_data.specs.Parts.{HasParts}
 use Rattle.amqp_de.specs.declared.list.Access.{Access}
 use Rattle.amqp_de.specs.declared.list.Open.{Open}
 use Rattle.amqp_de.specs.ReadParts.{open_list, Progress, MoreRead, and_last, joined}

@@ -8,7 +8,8 @@ use Rattle.amqp_de.specs.Decoding.{Decoding, as_ended}
 use Rattle.amqp_de.specs.Law.{Found, Missed}
 use Rattle.amqp_base.specs.Parse.{seq_data}
 use Rattle.amqp_base.specs.Refusals.{StandsFor}
-use Rattle.amqp_de.specs.Access.{Listing, HasElements, Opens, OpensNot, Part, NoPart, Ends, behind_end}
+use Rattle.amqp_de.specs.Access.{Listing, Opens, OpensNot, Part, NoPart, Ends, behind_end}
+use Rattle.amqp_data.specs.Parts.{HasElements}
 use Rattle.amqp_de.specs.ReadParts.{PartsRead, RefusesElements, and_last, joined}
 use Rattle.amqp_de.proofs.PartsRead as read
 use Rattle.amqp_de.proofs.PartsRead.{both, left_of, right_of}

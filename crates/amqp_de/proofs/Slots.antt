@@ -1,5 +1,5 @@
 -- The fields of a struct, and the next value that is read for one of them.
-use Rattle.std.proofs.Common.{◌≡◌, ℕ, Bool, true, false, ◌&&◌, List, Option, Some, None, Result, Ok, Err, OnOk, IfErr, refl, subst}
+use Rattle.std.proofs.Common.{◌≡◌, ℕ, Bool, true, false, ◌&&◌, List, Option, Some, None, refl, subst}
 use Rattle.std.specs.Str.{bytes_eq}
 use Rattle.amqp_base.specs.declared.error.Error.{Error}
 use Rattle.amqp_base.specs.Item.{Item, Items, none, more, Pairs}
@@ -12,7 +12,7 @@ use Rattle.amqp_de.specs.ReadParts.{Progress, MoreRead, and_last}
 use Rattle.amqp_de.specs.ReadPairs.{OutOfTurn, ValueNext}
 use Rattle.amqp_de.specs.ReadFields.{Slots, no_slots, slot, awaits, HaveValues, under_name, FieldRead, NoField, unknown, refused, RowRead}
 use Rattle.amqp_de.proofs.PartsRead.{left_of, right_of, join_last, join_none}
-use Rattle.amqp_de.proofs.LookedFirst.{custom_device}
+use Rattle.amqp_data.proofs.FixedWidth.{custom_device}
 
 swap : (a b c : Bool) → (a && (b && c)) ≡ (b && (a && c))
 swap true b c = refl

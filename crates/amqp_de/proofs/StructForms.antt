@@ -12,12 +12,13 @@ use Rattle.amqp_base.specs.NamedFields.{takes_map, takes_struct, means_map, mean
 use Rattle.amqp_de.specs.Decoding.{Decoding, as_ended}
 use Rattle.amqp_de.specs.Law.{Found, Missed}
 use Rattle.amqp_de.specs.Look.{item_kind, Looks, LooksNot}
-use Rattle.amqp_de.specs.Access.{Listing, HasParts, Opens}
+use Rattle.amqp_de.specs.Access.{Listing, Opens}
+use Rattle.amqp_data.specs.Parts.{HasParts}
 use Rattle.amqp_de.specs.ReadParts.{Progress}
 use Rattle.amqp_de.proofs.LookedFirst.{found_behind, missed_of_kind, missed_unseen}
 use Rattle.amqp_de.proofs.Weaker.{found_as}
 use Rattle.amqp_de.proofs.JustSoMany.{count_fields}
-use Rattle.amqp_de.proofs.MapHeaders.{map_codes}
+use Rattle.amqp_data.proofs.MapHeaders.{map_codes}
 use Rattle.amqp_de.proofs.ReadParts.{progress_start, not_taken}
 
 pub no_map_code : (x : EncodingCodes) → (x ≡ Map8 → ⊥) → (x ≡ Map32 → ⊥) → (row x).kind ≡ Kind.map → ⊥

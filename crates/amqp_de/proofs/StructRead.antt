@@ -10,7 +10,8 @@ use Rattle.amqp_base.specs.Refusals.{IsDevice}
 use Rattle.amqp_base.specs.Typing.{is_of}
 use Rattle.amqp_de.specs.Decoding.{Decoding, as_ended}
 use Rattle.amqp_de.specs.Law.{Found, Missed}
-use Rattle.amqp_de.specs.Access.{Listing, HasPairs, Opens, OpensNot, Part, behind_end}
+use Rattle.amqp_de.specs.Access.{Listing, Opens, OpensNot, Part, behind_end}
+use Rattle.amqp_data.specs.Parts.{HasPairs}
 use Rattle.amqp_base.specs.Parse.{map_data}
 use Rattle.amqp_de.specs.ReadParts.{PartsRead, and_last, joined}
 use Rattle.amqp_de.specs.ReadPairs.{KeyNext, ValueNext, OutOfTurn, and_pair, PairsRead}

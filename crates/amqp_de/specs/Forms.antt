@@ -8,10 +8,11 @@ use Rattle.amqp_base.specs.NamedFields.{takes_struct}
 use Rattle.amqp_base.specs.Structs.{is_described_name}
 use Rattle.amqp_de.specs.Decoding.{Decoding, stands_under, as_ended}
 use Rattle.amqp_de.specs.Law.{Missed}
-use Rattle.amqp_de.specs.Access.{Listing, HasParts, HasPairs, Opens, OpensExactly}
+use Rattle.amqp_de.specs.Access.{Listing, Opens, OpensExactly}
+use Rattle.amqp_data.specs.Parts.{HasParts, HasPairs}
 use Rattle.amqp_base.specs.Parse.{item_at, tuple_data, struct_data}
 use Rattle.amqp_de.specs.Seq.{listing, at_open}
-use Rattle.amqp_de.specs.Steps.{Rejects}
+use Rattle.amqp_data.specs.Steps.{Rejects}
 use Rattle.amqp_de.specs.ReadParts.{Progress, NoTuple, open_list}
 use Rattle.amqp_base.specs.Meaning.{Meaning}
 use Rattle.amqp_de.specs.Calls.{NextElement, KeyAnswer, ValueAnswer, EntryAnswer}

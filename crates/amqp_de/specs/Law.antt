@@ -1,26 +1,15 @@
 -- The law of reading that every type keeps.
-use Rattle.std.specs.Prelude.{◌≡◌, ◌⊎◌, ℕ, ◌+◌, ◌*◌, ◌^◌, ◌<◌, ◌≤◌, Bool, false, IsTrue, List, ◌++◌, length, Option, Some, None, ⊤}
-use Rattle.std.specs.declared.io.ErrorKind.TheVariants.{Other}
+use Rattle.std.specs.Prelude.{◌≡◌, ◌⊎◌, ℕ, ◌+◌, ◌*◌, ◌<◌, ◌≤◌, Bool, false, IsTrue, List, ◌++◌, Some}
 use Rattle.amqp_base.specs.declared.error.Error.{Error}
-use Rattle.amqp_base.specs.declared.error.Error.TheVariants.{Io, OutOfMemory}
+use Rattle.amqp_base.specs.declared.error.Error.TheVariants.{OutOfMemory}
 use Rattle.amqp_base.specs.Item.{Item}
 use Rattle.amqp_base.specs.Wire.{Wire, lenient, Constructor, bare, under, under_pair}
 use Rattle.amqp_base.specs.Laws.{items_under}
 use Rattle.amqp_base.specs.Refusals.{IsDevice}
 use Rattle.amqp_base.specs.Refusing.{Refusing}
-use Rattle.amqp_read.specs.Reading.{Reading, Takes}
-use Rattle.std.specs.Io.KnownBytes.{Consumes}
-use Rattle.amqp_base.specs.Faults.{IsFault}
+use Rattle.amqp_read.specs.Reading.{Takes}
 use Rattle.amqp_de.specs.Decoding.{Decoding, stands_under}
-
--- Some of the bytes to come were consumed, and the others are to come still.
-pub record Advances (old new : Reading) : Type 0 where
-  pub consumed : List ℕ
-  pub rest : Consumes old.to_come new.to_come consumed
-  pub taken : new.taken ≡ old.taken + length consumed
-  pub honest : new.honest ≡ old.honest
-  pub origin : new.origin ≡ old.origin
-  pub faults : old.faults ≤ new.faults
+use Rattle.amqp_data.specs.Excuses.{Advances, Excused}
 
 -- A front of the bytes to come spells an item that the type takes, and means the value. Just this front was consumed,
 -- nothing behind it was received, and just its items were begun.
@@ -35,22 +24,6 @@ pub record Front (takes : Item → Bool) (means : Item → Type 0) (old new : De
   pub inherited : new.inherited ≡ old.inherited
   pub described : new.described ≡ false
   pub begun : new.begun ≡ old.begun + items_under (stands_under old) item
-
--- what no bytes call for: a device's fault, or want of memory
-abbrev pub IsCause : Error → Type 0
-IsCause OutOfMemory = ⊤
-IsCause e = IsDevice e
-
--- the reader's bytes can't all be counted
-abbrev pub Overfull : ℕ → Option (List ℕ) → Type 0
-Overfull n None = ⊤
-Overfull n (Some s) = 2 ^ 64 ≤ n + length s
-
--- a refusal that the bytes do not call for
-pub data Excused (grows buffers : Bool) (old new : Reading) (e : Error) : Type 0 where
-  no_memory : e ≡ OutOfMemory → IsTrue grows → Excused grows buffers old new e
-  faulted : IsFault new.last_fault e → old.faults < new.faults → IsTrue buffers → Excused grows buffers old new e
-  uncounted : e ≡ Io Other → IsTrue buffers → Overfull old.taken old.to_come → Excused grows buffers old new e
 
 -- how many items an item without bytes may begin
 abbrev pub free : Constructor → ℕ

@@ -2,7 +2,6 @@ pub mod Decoding
 pub mod Law
 pub mod Steps
 pub mod Scalars
-pub mod Places
 pub mod Look
 pub mod Access
 pub mod Seq
@@ -12,7 +11,5 @@ pub mod ReadPairs
 pub mod Calls
 pub mod ReadFields
 pub mod Forms
-pub mod OneCode
 pub mod Decimals
-pub mod Arrays
 pub mod Openings

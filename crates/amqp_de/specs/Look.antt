@@ -12,7 +12,7 @@ use Rattle.amqp_read.specs.Reading.{Reading, Stays}
 use Rattle.amqp_read.specs.Steps.{Looked, Shows, MayCome}
 use Rattle.amqp_de.specs.Decoding.{Decoding, stands_under}
 use Rattle.amqp_base.specs.Parse.{code_at}
-use Rattle.amqp_de.specs.Steps.{Rejects}
+use Rattle.amqp_data.specs.Steps.{Rejects}
 
 -- the kind of an item
 abbrev pub item_kind : Item → Kind

@@ -1,6 +1,7 @@
 -- Which form of a sequence was opened.
 use Rattle.std.specs.Prelude.{Bool, true, false}
-use Rattle.amqp_de.specs.Access.{Listing, HasElements, Opens, OpensHeading}
+use Rattle.amqp_de.specs.Access.{Listing, Opens, OpensHeading}
+use Rattle.amqp_data.specs.Parts.{HasElements}
 use Rattle.amqp_de.specs.Decoding.{Decoding}
 use Rattle.amqp_de.specs.Seq.{at_open}
 use Rattle.amqp_de.specs.declared.seq.OpenedSeq.{OpenedSeq}

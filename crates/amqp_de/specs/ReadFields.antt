@@ -9,7 +9,7 @@ use Rattle.amqp_base.specs.NamedFields.{takes_named, means_named}
 use Rattle.amqp_base.specs.Refusals.{IsDevice}
 use Rattle.amqp_base.specs.Refusing.{Refusing, awaited_count, row_part_refusal, awaited_behind, taken_under, refused_under, value_refusal}
 use Rattle.amqp_de.specs.Decoding.{Decoding}
-use Rattle.amqp_de.specs.Law.{Excused}
+use Rattle.amqp_data.specs.Excuses.{Excused}
 use Rattle.amqp_de.specs.Access.{Listing, Part, Plain}
 use Rattle.amqp_de.specs.ReadParts.{Progress, joined}
 use Rattle.amqp_de.specs.ReadPairs.{OutOfTurn, ValueNext}

@@ -8,7 +8,8 @@ use Rattle.amqp_de.specs.Decoding.{Decoding, as_ended}
 use Rattle.amqp_de.specs.Law.{Missed}
 use Rattle.amqp_base.specs.Parse.{map_data}
 use Rattle.amqp_base.specs.Refusing.{Refusing}
-use Rattle.amqp_de.specs.Access.{Listing, HasPairs, Opens, OpensNot, Part, NoPart, PartNamed}
+use Rattle.amqp_de.specs.Access.{Listing, Opens, OpensNot, Part, NoPart, PartNamed}
+use Rattle.amqp_data.specs.Parts.{HasPairs}
 use Rattle.amqp_de.specs.ReadParts.{PartsRead, and_last}
 
 -- A key comes next where as many keys as values are left; else the value of the last key.

@@ -11,9 +11,10 @@ use Rattle.amqp_de.specs.Law.{Missed}
 use Rattle.amqp_base.specs.Parse.{item_at, tuple_data, seq_data}
 use Rattle.amqp_base.specs.Refusals.{StandsFor}
 use Rattle.amqp_base.specs.Typing.{is_seq_of}
-use Rattle.amqp_de.specs.Steps.{Rejects}
+use Rattle.amqp_data.specs.Steps.{Rejects}
 use Rattle.amqp_de.specs.Seq.{listing, seq_listing}
-use Rattle.amqp_de.specs.Access.{Listing, Within, HasParts, HasElements, Opens, OpensNot, items_of_all, cost}
+use Rattle.amqp_de.specs.Access.{Listing, Opens, OpensNot}
+use Rattle.amqp_data.specs.Parts.{Within, HasParts, HasElements, items_of_all, cost}
 use Rattle.amqp_de.specs.declared.list.Access.{Access}
 use Rattle.amqp_de.specs.declared.list.Open.{Open}
 use Rattle.amqp_de.specs.declared.seq.SeqAccess.{SeqAccess}

@@ -8,7 +8,8 @@ use Rattle.amqp_base.specs.Typing.{is_of}
 use Rattle.amqp_de.specs.Decoding.{Decoding, stands_under}
 use Rattle.amqp_de.specs.Law.{Found, Missed, Named}
 use Rattle.amqp_base.specs.Parse.{item_at, data_at}
-use Rattle.amqp_de.specs.Steps.{Exact, BytesFirst, Stops}
+use Rattle.amqp_de.specs.Steps.{Exact, Stops}
+use Rattle.amqp_data.specs.Steps.{BytesFirst}
 
 -- The item of the kind at the front is read as its value, in any of its encodings; else the answer is the refusal that the
 -- bytes call for, and ends the deserializer.

@@ -1,6 +1,6 @@
 -- What contracts see of the accesses.
 use Rattle.std.specs.Borrow.{MutBor}
-use Rattle.amqp_de.specs.Places.{constructor_of, limit_of}
+use Rattle.amqp_data.specs.Places.{constructor_of, limit_of}
 use Rattle.amqp_de.specs.Access.{Listing}
 use Rattle.amqp_de.specs.Decoding.{Decoding}
 use Rattle.amqp_de.specs.declared.deserializer.Deserializer.{Deserializer}

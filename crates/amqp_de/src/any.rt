@@ -5,8 +5,8 @@ ghost use Rattle.amqp_de.specs.Look.{Looks, LooksNot, Peeks, PeeksNot};
 ghost use Rattle.amqp_de.specs.Steps.{Stops};
 
 use crate::Deserializer;
-use crate::constructor::Constructor;
 use amqp_base::{EncodingCodes, Error};
+use amqp_data::Constructor;
 use amqp_read::Read;
 use std::convert::TryFrom;
 use std::io::ErrorKind;

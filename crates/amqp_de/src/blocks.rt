@@ -6,16 +6,16 @@ ghost use Rattle.amqp_base.specs.declared.format_code.EncodingCodes.{EncodingCod
 ghost use Rattle.amqp_base.specs.declared.format_code.EncodingCodes.TheVariants.{Uint, Ulong};
 ghost use Rattle.amqp_base.specs.declared.format_code.EncodingCodes.TheVariants.{Int};
 ghost use Rattle.amqp_base.specs.Wire.{under};
-ghost use Rattle.amqp_de.specs.Access.{Within};
+ghost use Rattle.amqp_data.specs.Parts.{Within};
 ghost use Rattle.amqp_de.specs.Many.{ReadsMany, ReadsSome, IsElement, PutBehind};
-ghost use Rattle.amqp_de.specs.Places.{limit_of, constructor_of};
+ghost use Rattle.amqp_data.specs.Places.{limit_of, constructor_of};
 ghost use Rattle.amqp_de.specs.ReadParts.{open_list};
 ghost use Rattle.amqp_de.specs.Seq.{at_open};
 
-use crate::constructor::{Constructor, Limit};
 use crate::list::{Access, Elements, Open};
 use crate::{Deserialize, Deserializer};
 use amqp_base::{EncodingCodes, Error, Typed};
+use amqp_data::{Constructor, Limit};
 use amqp_read::Read;
 
 /// So many elements are read at a time.

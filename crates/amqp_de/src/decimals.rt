@@ -7,43 +7,20 @@ ghost use Rattle.amqp_base.specs.Item.{scalar};
 ghost use Rattle.amqp_base.specs.Typing.{is_of};
 ghost use Rattle.amqp_base.specs.Refusing.{decimal_refusal};
 ghost use Rattle.amqp_base.specs.SameKind.{is_decimal_kind};
-ghost use Rattle.amqp_de.specs.Decimals.{is_decimal, decimal_at, decimal};
+ghost use Rattle.amqp_de.specs.Decimals.{is_decimal};
+ghost use Rattle.amqp_data.specs.Decimals.{decimal_at, decimal};
 ghost use Rattle.amqp_de.specs.Decoding.{stands_under};
 ghost use Rattle.amqp_de.specs.Law.{Found, Missed, Named};
-ghost use Rattle.amqp_de.specs.OneCode.{alone};
-ghost use Rattle.amqp_base.specs.Parse.{item_at, behind_byte};
-ghost use Rattle.amqp_de.specs.Steps.{IsData, Rejects, Exact, Stops};
+ghost use Rattle.amqp_data.specs.OneCode.{alone};
+ghost use Rattle.amqp_base.specs.Parse.{item_at};
+ghost use Rattle.amqp_de.specs.Steps.{Exact, Stops};
 
 use crate::{Deserialize, Deserializer};
 use amqp_base::{EncodingCodes, Error};
-use amqp_read::{Read, read_const_bytes};
+use amqp_data::decimal_data;
+use amqp_read::Read;
 use amqp_types::{Dec32, Dec64, Dec128, Decimal};
 use std::alloc::Global;
-
-/// The data of a decimal's code, given its byte.
-#[inline(always)]
-fn data<R: Read>(reader: &mut R, code: u8) -> Result<Decimal, Error>
-    ensures ok { IfOk result (λ d.
-        IsData code (scalar (decimal d)) (R.reading reader.old) (R.reading reader.new)) }
-    ensures err { IfErr result (λ e. Rejects R.buffers R.buffers (behind_byte decimal_at code)
-        (R.reading reader.old) (R.reading reader.new) e) }
-{
-    match code {
-        0x74 => match read_const_bytes::<R, 4>(reader) {
-            Ok(bytes) => Ok(Decimal::Dec32(Dec32::from(bytes))),
-            Err(e) => Err(e),
-        },
-        0x84 => match read_const_bytes::<R, 8>(reader) {
-            Ok(bytes) => Ok(Decimal::Dec64(Dec64::from(bytes))),
-            Err(e) => Err(e),
-        },
-        0x94 => match read_const_bytes::<R, 16>(reader) {
-            Ok(bytes) => Ok(Decimal::Dec128(Dec128::from(bytes))),
-            Err(e) => Err(e),
-        },
-        _ => Err(Error::InvalidFormatCode),
-    }
-}
 
 impl<R: Read> Deserializer<R> {
     /// A decimal of any of the three widths (part 1, sections 1.6.13 to 1.6.15): its 4, 8 or 16
@@ -65,7 +42,7 @@ impl<R: Read> Deserializer<R> {
             return Err(Error::InvalidValue);
         }
         match self.begin() {
-            Ok(code) => match data(&mut self.reader, code) {
+            Ok(code) => match decimal_data(&mut self.reader, code) {
                 Ok(value) => {
                     self.ended = false;
                     Ok(value)

@@ -4,13 +4,13 @@ ghost use Rattle.std.specs.Prelude.{◌≡◌, ◌*◌, ◌≤◌, true, false, 
 ghost use Rattle.std.specs.Prelude.{IfErr};
 ghost use Rattle.amqp_read.specs.Steps.{HasBytes};
 ghost use Rattle.amqp_de.specs.Calls.{IsRead, IsRefused, IsNamed};
+ghost use Rattle.amqp_data.specs.Places.{least_width};
 ghost use Rattle.amqp_de.specs.Many.{ReadsMany};
-ghost use Rattle.amqp_de.specs.Places.{least_width};
 ghost use Rattle.amqp_de.specs.ReadParts.{open_list};
 
-use crate::constructor::least_width;
 use crate::{Deserializer, ListAccess};
 use amqp_base::{Error, Typed};
+use amqp_data::least_width;
 use amqp_read::Read;
 use amqp_types::{Binary, Double, Float, Symbol, Timestamp, Uuid};
 use std::alloc::Global;

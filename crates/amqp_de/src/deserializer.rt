@@ -1,15 +1,13 @@
 //! The deserializer: a reader, and where in an item it stands.
 
-ghost use Rattle.std.specs.Prelude.{◌≡◌, ◌<◌, true, false, IfOk, IfErr, [], ◌∷◌};
+ghost use Rattle.std.specs.Prelude.{◌≡◌, true, false, IfOk, IfErr};
 ghost use Rattle.amqp_base.specs.Wire.{bare};
-ghost use Rattle.amqp_read.specs.Reading.{Takes};
 ghost use Rattle.amqp_de.specs.Decoding.{Decoding};
-ghost use Rattle.amqp_de.specs.Steps.{Begins, BeginsNot, Unread};
+ghost use Rattle.amqp_de.specs.Steps.{Begins, BeginsNot};
 
-use crate::constructor::Constructor;
 use amqp_base::{Count, Error};
+use amqp_data::{Constructor, byte};
 use amqp_read::Read;
-use std::io::ErrorKind;
 use std::marker::Model;
 
 /// Reads values from a reader, one after the other.
@@ -33,7 +31,7 @@ pub struct Deserializer<R: Read> {
 
 impl<R: Read> Model for Deserializer<R> {
     ghost use Rattle.amqp_de.specs.Decoding.{Decoding};
-    ghost use Rattle.amqp_de.specs.Places.{constructor_of};
+    ghost use Rattle.amqp_data.specs.Places.{constructor_of};
 
     ghost Value = { Decoding };
 
@@ -109,20 +107,5 @@ impl<R: Read> Deserializer<R> {
                 Ok(0)
             }
         }
-    }
-}
-
-/// Consumes the next byte.
-#[inline(always)]
-pub(crate) fn byte<R: Read>(reader: &mut R) -> Result<u8, Error>
-    ensures ok { IfOk result (λ b.
-        Takes (R.reading reader.old) (R.reading reader.new) (b ∷ [])) }
-    ensures err { IfErr result (λ e.
-        Unread R.buffers R.buffers 1 (R.reading reader.old) (R.reading reader.new) e) }
-{
-    match reader.next() {
-        Ok(Some(byte)) => Ok(byte),
-        Ok(None) => Err(Error::Io(ErrorKind::UnexpectedEof)),
-        Err(e) => Err(e),
     }
 }

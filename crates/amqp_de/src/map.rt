@@ -4,7 +4,8 @@ ghost use Rattle.std.specs.Prelude.{◌≡◌, ◌%◌, Bool, true, false, Optio
 ghost use Rattle.std.specs.Prelude.{Err, IfOk, IfErr};
 ghost use Rattle.std.specs.Borrow.{sem, RestsIfErr};
 ghost use Rattle.amqp_base.specs.Item.{Item, no_pairs, map};
-ghost use Rattle.amqp_de.specs.Access.{HasPairs, Opens, OpensExactly, OpensNot, Plain};
+ghost use Rattle.amqp_data.specs.Parts.{HasPairs};
+ghost use Rattle.amqp_de.specs.Access.{Opens, OpensExactly, OpensNot, Plain};
 ghost use Rattle.amqp_base.specs.Parse.{map_data};
 ghost use Rattle.amqp_de.specs.Seq.{listing, at_open};
 ghost use Rattle.amqp_de.specs.ReadParts.{open_list};
@@ -13,11 +14,10 @@ ghost use Rattle.amqp_de.specs.contracts.deserializer.Deserializer.{the_row};
 ghost use Rattle.amqp_de.specs.Calls.{KeyAnswer, ValueAnswer, EntryAnswer, KeyNamed, ValueNamed};
 ghost use Rattle.amqp_de.specs.Calls.{EntryNamed};
 
-use crate::constructor::Constructor;
-use crate::header::map_count;
 use crate::list::{Access, Entries, Open};
 use crate::{Deserialize, Deserializer, MapAccess};
 use amqp_base::Error;
+use amqp_data::{Constructor, map_count};
 use amqp_read::Read;
 use std::alloc::Global;
 use std::mem;

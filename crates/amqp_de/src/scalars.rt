@@ -1,111 +1,14 @@
 //! Null, booleans, characters, timestamps and uuids.
-#![tactic(auto, unfolding(amqp_base::specs::Codes::row, amqp_base::specs::SameKind::same_kind, amqp_base::specs::SameKind::place, crate::specs::OneCode::is_only))]
 
-ghost use Rattle.std.specs.Prelude.{false};
 ghost use Rattle.amqp_base.specs.Codes.{Kind};
-ghost use Rattle.amqp_base.specs.Item.{scalar, null, boolean, char, timestamp, uuid};
+ghost use Rattle.amqp_base.specs.Item.{null, boolean, char, timestamp, uuid};
 ghost use Rattle.amqp_de.specs.Scalars.{ReadsScalar};
 
 use crate::Deserializer;
-use crate::deserializer::byte;
-use crate::leaf::{Leaf, fixed};
-use amqp_base::{EncodingCodes, Error};
+use amqp_base::Error;
+use amqp_data::{AsBoolean, AsChar, AsNull, AsTimestamp, AsUuid};
 use amqp_read::Read;
 use amqp_types::{Timestamp, Uuid};
-
-#[derive(Drop)]
-struct AsNull;
-
-impl Leaf for AsNull {
-    ghost use Rattle.std.specs.Prelude.{false, refl};
-    ghost use Rattle.amqp_base.specs.Codes.{Kind};
-    ghost use Rattle.amqp_base.specs.Item.{null};
-
-    type Value = ();
-
-    ghost kind = { Kind.null };
-
-    ghost shows = { λ _. null };
-
-    ghost grows = { false };
-
-    ghost of_kind = { λ _. refl };
-
-    #[inline(always)]
-    fn read<R: Read>(self, reader: &mut R, code: u8) -> Result<(), Error> {
-        let _ = reader;
-        match code {
-            0x40 => Ok(()),
-            _ => Err(Error::InvalidFormatCode),
-        }
-    }
-}
-
-#[derive(Drop)]
-struct AsBoolean;
-
-impl Leaf for AsBoolean {
-    ghost use Rattle.std.specs.Prelude.{false, refl};
-    ghost use Rattle.amqp_base.specs.Codes.{Kind};
-    ghost use Rattle.amqp_base.specs.Item.{boolean};
-
-    type Value = bool;
-
-    ghost kind = { Kind.boolean };
-
-    ghost shows = { boolean };
-
-    ghost grows = { false };
-
-    ghost of_kind = { λ _. refl };
-
-    #[inline(always)]
-    fn read<R: Read>(self, reader: &mut R, code: u8) -> Result<bool, Error> {
-        match code {
-            0x56 => match byte(reader) {
-                Ok(byte) => match byte {
-                    0 => Ok(false),
-                    1 => Ok(true),
-                    _ => Err(Error::InvalidValue),
-                },
-                Err(e) => Err(e),
-            },
-            0x41 => Ok(true),
-            0x42 => Ok(false),
-            _ => Err(Error::InvalidFormatCode),
-        }
-    }
-}
-
-#[derive(Drop)]
-struct AsChar;
-
-impl Leaf for AsChar {
-    ghost use Rattle.std.specs.Prelude.{false, refl};
-    ghost use Rattle.amqp_base.specs.Codes.{Kind};
-    ghost use Rattle.amqp_base.specs.Item.{char};
-
-    type Value = char;
-
-    ghost kind = { Kind.char };
-
-    ghost shows = { char };
-
-    ghost grows = { false };
-
-    ghost of_kind = { λ _. refl };
-
-    #[inline(always)]
-    fn read<R: Read>(self, reader: &mut R, code: u8) -> Result<char, Error> {
-        match fixed::<R, 4>(reader, code, EncodingCodes::Char) {
-            Ok(bytes) => match char::from_u32(u32::from_be_bytes(bytes)) {
-                Some(character) => Ok(character),
-                None => Err(Error::InvalidValue),
-            },
-            Err(e) => Err(e),
-        }
-    }
-}
 
 impl<R: Read> Deserializer<R> {
     /// Null (part 1, section 1.6.1): a code without data.
@@ -178,59 +81,5 @@ impl<R: Read> Deserializer<R> {
         ensures { ReadsScalar Kind.uuid uuid R.buffers R.buffers self.old result self.new }
     {
         self.leaf(AsUuid)
-    }
-}
-
-#[derive(Drop)]
-struct AsTimestamp;
-
-impl Leaf for AsTimestamp {
-    ghost use Rattle.std.specs.Prelude.{false, refl};
-    ghost use Rattle.amqp_base.specs.Codes.{Kind};
-    ghost use Rattle.amqp_base.specs.Item.{timestamp};
-
-    type Value = Timestamp;
-
-    ghost kind = { Kind.timestamp };
-
-    ghost shows = { timestamp };
-
-    ghost grows = { false };
-
-    ghost of_kind = { λ _. refl };
-
-    #[inline(always)]
-    fn read<R: Read>(self, reader: &mut R, code: u8) -> Result<Timestamp, Error> {
-        match fixed::<R, 8>(reader, code, EncodingCodes::Timestamp) {
-            Ok(bytes) => Ok(Timestamp::from_milliseconds(i64::from_be_bytes(bytes))),
-            Err(e) => Err(e),
-        }
-    }
-}
-
-#[derive(Drop)]
-struct AsUuid;
-
-impl Leaf for AsUuid {
-    ghost use Rattle.std.specs.Prelude.{false, refl};
-    ghost use Rattle.amqp_base.specs.Codes.{Kind};
-    ghost use Rattle.amqp_base.specs.Item.{uuid};
-
-    type Value = Uuid;
-
-    ghost kind = { Kind.uuid };
-
-    ghost shows = { uuid };
-
-    ghost grows = { false };
-
-    ghost of_kind = { λ _. refl };
-
-    #[inline(always)]
-    fn read<R: Read>(self, reader: &mut R, code: u8) -> Result<Uuid, Error> {
-        match fixed::<R, 16>(reader, code, EncodingCodes::Uuid) {
-            Ok(bytes) => Ok(Uuid::from(bytes)),
-            Err(e) => Err(e),
-        }
     }
 }

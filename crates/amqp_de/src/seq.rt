@@ -2,20 +2,20 @@
 
 ghost use Rattle.std.specs.Prelude.{◌≡◌, ◌+◌, Ok, Err, IfOk, IfErr};
 ghost use Rattle.std.specs.Borrow.{sem, RestsIfErr};
-ghost use Rattle.amqp_de.specs.Access.{Ends, shared_by};
+ghost use Rattle.amqp_de.specs.Access.{Ends};
+ghost use Rattle.amqp_data.specs.Parts.{shared_by};
 ghost use Rattle.amqp_de.specs.Decoding.{as_ended};
 ghost use Rattle.amqp_de.specs.Openings.{OpensElements, OpensEither, OpensSeq, is_array};
-ghost use Rattle.amqp_de.specs.Places.{constructor_of};
+ghost use Rattle.amqp_data.specs.Places.{constructor_of};
 ghost use Rattle.amqp_de.specs.ReadParts.{RefusesElements, open_list, open_seq};
 ghost use Rattle.amqp_de.specs.Seq.{lender_of, seq_listing, at_open};
 ghost use Rattle.amqp_de.specs.contracts.deserializer.Deserializer.{the_row};
 ghost use Rattle.amqp_de.specs.Calls.{NextElement};
 
-use crate::constructor::Constructor;
-use crate::heading::{Heading, seq_heading};
 use crate::list::{Access, Elements, Ended, ListAccess, Open};
 use crate::{Deserialize, Deserializer};
 use amqp_base::Error;
+use amqp_data::{Constructor, Heading, seq_heading};
 use amqp_read::Read;
 use std::alloc::Global;
 use std::mem;

@@ -24,7 +24,8 @@ use Rattle.amqp_base.specs.declared.shape.Shape.{Shape}
 use Rattle.amqp_base.proofs.OneFront.{same_wire}
 use Rattle.amqp_read.specs.Reading.{Reading}
 use Rattle.amqp_de.specs.Decoding.{Decoding}
-use Rattle.amqp_de.specs.Law.{Found, Missed, Named, Excused, no_memory, faulted, uncounted}
+use Rattle.amqp_de.specs.Law.{Found, Missed, Named}
+use Rattle.amqp_data.specs.Excuses.{Excused, no_memory, faulted, uncounted}
 use Rattle.amqp_probe.specs.Codec.{Decoded, Recodes, Recoded, TakesNone, IsRefused, takes, refuses, kept, kept_all, as_list, as_array, put_pair, put_pairs}
 use Rattle.amqp_probe.specs.declared.kind.Kind.{Kind}
 use Rattle.amqp_probe.specs.declared.kind.Kind.TheVariants.{MapStringU32}

@@ -110,10 +110,7 @@ impl<'a, W: Sink> SeqSerializer<'a, W> {
 
 impl<W: Sink> Serializer<W> {
     /// Writes numbers. Where they are only counted, no text of theirs is made.
-    fn append_numbers<P: Texts<T>, T: Typed + Copy>(
-        &mut self,
-        values: &[T],
-    ) -> Result<(), Refusal>
+    fn append_numbers<P: Texts<T>, T: Typed + Copy>(&mut self, values: &[T]) -> Result<(), Refusal>
         ensures law { WritesNumbers P.mark (map (λ v. T.meaning.item v Setting.Plain) values.now)
             (state W.Write W.FaultCount self.old) (as_error result)
             (state W.Write W.FaultCount self.new) }
@@ -130,10 +127,7 @@ impl<W: Sink> Serializer<W> {
     }
 
     /// Writes numbers, by blocks.
-    fn append_blocks<P: Texts<T>, T: Typed + Copy>(
-        &mut self,
-        values: &[T],
-    ) -> Result<(), Refusal>
+    fn append_blocks<P: Texts<T>, T: Typed + Copy>(&mut self, values: &[T]) -> Result<(), Refusal>
         ensures law { WritesNumbers P.mark (map (λ v. T.meaning.item v Setting.Plain) values.now)
             (state W.Write W.FaultCount self.old) (as_error result)
             (state W.Write W.FaultCount self.new) }

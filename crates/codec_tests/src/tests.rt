@@ -15,6 +15,7 @@ mod fixed;
 mod format_code;
 mod lists;
 mod looks;
+mod many_elements;
 mod map_calls;
 mod maps;
 mod measured;

@@ -11,7 +11,8 @@ use Rattle.amqp_base.specs.declared.error.Error.TheVariants.{OutOfMemory}
 use Rattle.amqp_base.proofs.OneFront.{same_wire}
 use Rattle.amqp_read.specs.Reading.{Reading}
 use Rattle.amqp_de.specs.Decoding.{Decoding, stands_under}
-use Rattle.amqp_de.specs.Law.{Front, Found, Missed, Named, Excused, no_memory, faulted, uncounted}
+use Rattle.amqp_de.specs.Law.{Front, Found, Missed, Named}
+use Rattle.amqp_data.specs.Excuses.{Excused, no_memory, faulted, uncounted}
 use Rattle.amqp_base.specs.Typing.{OneValue}
 use Rattle.amqp_base.specs.Meaning.{Meaning}
 use Rattle.serde_amqp.specs.Headline.{ReadFrom, ReadsAll, Answered, SameAgain, NamedFrom}

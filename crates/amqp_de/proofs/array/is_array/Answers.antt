@@ -1,6 +1,6 @@
 use Rattle.std.proofs.Common.{refl}
 use Rattle.amqp_base.specs.Codes.{row}
-use Rattle.amqp_de.proofs.ArrayData.{array_codes}
+use Rattle.amqp_data.proofs.ArrayData.{array_codes}
 use Rattle.amqp_de.proofs.array.is_array.Goals as goal
 
 pub returns-in-Array8-clause-yes : goal.returns-in-Array8-clause-yes

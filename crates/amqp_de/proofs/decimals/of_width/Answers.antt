@@ -1,6 +1,7 @@
 use Rattle.std.proofs.Common.{◌≡◌, ℕ, arith, refl, subst, ◌∙◌, inl, inr, ◌⊎◌}
 use Rattle.amqp_base.specs.Codes.{row}
-use Rattle.amqp_de.specs.Decimals.{is_decimal, decimal}
+use Rattle.amqp_de.specs.Decimals.{is_decimal}
+use Rattle.amqp_data.specs.Decimals.{decimal}
 use Rattle.amqp_de.proofs.DecimalNames.{named_other, named_unseen, named_width}
 use Rattle.amqp_de.proofs.DecimalRead.{IsDecimalByte, of_decimal, other_width, own_width, by_byte, width_read, width_found}
 use Rattle.amqp_de.proofs.LookedFirst.{missed_behind, missed_look, missed_custom}

@@ -4,8 +4,8 @@ use Rattle.amqp_base.specs.Item.{scalar, uint}
 use Rattle.amqp_base.specs.SameKind.{same_kind, place}
 use Rattle.amqp_base.specs.Value.{payload, read}
 use Rattle.amqp_base.specs.declared.format_code.EncodingCodes.TheVariants.{Uint}
-use Rattle.amqp_de.proofs.FixedWidth.{fixed_spells}
-use Rattle.amqp_de.proofs.ByteNumbers.{be_number}
+use Rattle.amqp_data.proofs.FixedWidth.{fixed_spells}
+use Rattle.amqp_data.proofs.ByteNumbers.{be_number}
 use Rattle.amqp_de.proofs.blocks.U32Wide4.of_data.Goals as goal
 
 pub returns : goal.returns

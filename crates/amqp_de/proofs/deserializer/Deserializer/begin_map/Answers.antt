@@ -1,8 +1,8 @@
 use Rattle.std.proofs.Common.{rules, arith, ◌≡◌, false, None}
 use Rattle.amqp_base.specs.Wire.{bare}
-use Rattle.amqp_de.specs.Access.{HasPairs}
+use Rattle.amqp_data.specs.Parts.{HasPairs}
 use Rattle.amqp_base.specs.Parse.{map_data}
-use Rattle.amqp_de.proofs.MapHeaders.{map_parses}
+use Rattle.amqp_data.proofs.MapHeaders.{map_parses}
 use Rattle.amqp_de.proofs.Opening.{map_plain, opens, opens_no_item, opens_no_data}
 use Rattle.amqp_de.proofs.deserializer.Deserializer.begin_map.Goals as goal
 

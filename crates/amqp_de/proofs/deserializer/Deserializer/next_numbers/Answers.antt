@@ -1,8 +1,8 @@
 -- The numbers that were taken at once are the next elements.
 use Rattle.std.proofs.Common.{rules, ℕ, ◌⊎◌, inl, inr, ◌≡◌, ◌+◌, ◌*◌, ◌≤◌, ◌<◌, refl, arith, length, subst, sym, ap, ◌∙◌, ◌++◌}
 use Rattle.amqp_read.specs.Reading.{Takes}
-use Rattle.amqp_de.specs.Access.{Within}
-use Rattle.amqp_de.specs.Places.{limit_of}
+use Rattle.amqp_data.specs.Parts.{Within}
+use Rattle.amqp_data.specs.Places.{limit_of}
 use Rattle.amqp_de.proofs.Many.{all_read, Moves}
 use Rattle.amqp_de.proofs.deserializer.Deserializer.next_numbers.Goals as goal
 

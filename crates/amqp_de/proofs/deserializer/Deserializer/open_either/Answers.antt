@@ -1,9 +1,10 @@
 use Rattle.std.proofs.Common.{rules, ap, ◌∙◌, ◌≡◌, true, false}
 use Rattle.amqp_base.specs.Parse.{seq_data}
-use Rattle.amqp_de.specs.Access.{HasElements}
+use Rattle.amqp_data.specs.Parts.{HasElements}
 use Rattle.amqp_de.specs.Decoding.{Decoding}
-use Rattle.amqp_de.specs.Places.{constructor_of}
-use Rattle.amqp_de.proofs.ArrayData.{elements_plain, seq_parses, elements_opened}
+use Rattle.amqp_data.specs.Places.{constructor_of}
+use Rattle.amqp_de.proofs.ElementsOpened.{elements_plain, elements_opened}
+use Rattle.amqp_data.proofs.ArrayData.{seq_parses}
 use Rattle.amqp_de.proofs.Opening.{opens_no_item, opens_no_data, opens_not_more}
 use Rattle.amqp_de.proofs.Sequence.{elements_unopened}
 use Rattle.amqp_de.proofs.deserializer.Deserializer.open_either.Goals as goal

@@ -1,9 +1,9 @@
 use Rattle.std.proofs.Common.{rules, arith, refl, ◌≡◌, false, None}
 use Rattle.amqp_base.specs.Wire.{bare}
 use Rattle.amqp_de.proofs.Opening.{list_plain, opens, opens_no_item, opens_no_data}
-use Rattle.amqp_de.specs.Access.{HasParts}
+use Rattle.amqp_data.specs.Parts.{HasParts}
 use Rattle.amqp_base.specs.Parse.{list_data}
-use Rattle.amqp_de.proofs.Headers.{list_parses}
+use Rattle.amqp_data.proofs.Headers.{list_parses}
 use Rattle.amqp_de.proofs.deserializer.Deserializer.open_list.Goals as goal
 
 pub returns-in-Ok-list_count-clause-ok : goal.returns-in-Ok-list_count-clause-ok

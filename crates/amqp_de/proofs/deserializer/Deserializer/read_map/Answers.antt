@@ -1,7 +1,7 @@
 use Rattle.std.proofs.Common.{rules, refl, ap, ◌∙◌, true, false}
 use Rattle.amqp_de.specs.Access.{Listing, behind_end}
 use Rattle.amqp_de.specs.ReadParts.{open_list}
-use Rattle.amqp_de.proofs.LookedFirst.{custom_device}
+use Rattle.amqp_data.proofs.FixedWidth.{custom_device}
 use Rattle.amqp_de.proofs.ReadParts.{missed_on, missed_at, missed_dropped, found_at}
 use Rattle.amqp_de.proofs.Naming.{named_on}
 use Rattle.amqp_de.proofs.NamedParts.{reaches_start, unopened_as, no_end, taken_since}

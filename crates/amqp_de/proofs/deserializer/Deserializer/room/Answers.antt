@@ -1,8 +1,8 @@
-use Rattle.std.proofs.Common.{◌≡◌, ℕ, ◌*◌, ◌/◌, ◌≤◌, false, List, length, Option, Some, None, arith, ap, subst, Bool}
+use Rattle.std.proofs.Common.{◌≡◌, ℕ, ◌*◌, ◌≤◌, false, List, Option, Some, None, arith, ap, subst, Bool}
 use Rattle.amqp_read.specs.Reading.{Reading}
 use Rattle.amqp_read.specs.Steps.{HasBytes, HasJust, AtHand}
 use Rattle.amqp_de.specs.Decoding.{Decoding}
-use Rattle.amqp_de.specs.Places.{least_width}
+use Rattle.amqp_data.specs.Places.{least_width}
 use Rattle.amqp_de.proofs.deserializer.Deserializer.room.Goals as goal
 
 -- so many bytes are at hand

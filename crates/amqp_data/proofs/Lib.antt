@@ -1,0 +1,14 @@
+pub mod Received
+pub mod Readings
+pub mod Data
+pub mod FixedWidth
+pub mod KindCodes
+pub mod Sized
+pub mod ByteNumbers
+pub mod OnlyCode
+pub mod Headers
+pub mod MapHeaders
+pub mod Descriptors
+pub mod ArrayData
+pub mod CodeBytes
+pub mod DecimalData

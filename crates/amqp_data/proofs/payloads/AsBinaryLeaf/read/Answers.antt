@@ -1,0 +1,42 @@
+use Rattle.std.proofs.Common.{refl, arith}
+use Rattle.amqp_base.specs.Codes.{Kind, row, code_of}
+use Rattle.amqp_base.specs.SameKind.{same_kind, place}
+use Rattle.amqp_base.specs.Item.{binary}
+use Rattle.amqp_base.specs.Value.{payload, read}
+use Rattle.amqp_base.specs.declared.format_code.EncodingCodes.TheVariants.{Vbin8, Vbin32}
+use Rattle.amqp_data.proofs.FixedWidth.{other_refused}
+use Rattle.amqp_data.proofs.KindCodes.{not_code}
+use Rattle.amqp_data.proofs.Sized.{sized_ok, sized_err, data_first, other_first}
+use Rattle.amqp_data.proofs.payloads.AsBinaryLeaf.read.Goals as goal
+
+pub returns-in-160-clause-ok : goal.returns-in-160-clause-ok
+unfolding row code_of payload read
+returns-in-160-clause-ok g c = sized_ok (λ v. v.items) binary c.args.code Vbin8 1 c.payload.result _ _ (rw c.in-160.is refl) refl (λ b. refl) c.payload.ensures.ok
+
+pub returns-in-160-clause-err : goal.returns-in-160-clause-err
+unfolding row code_of
+returns-in-160-clause-err g c = sized_err Kind.binary g.R.Read.buffers c.args.code Vbin8 1 c.payload.result _ _ (rw c.in-160.is refl) refl refl c.payload.ensures.err
+
+pub returns-in-176-clause-ok : goal.returns-in-176-clause-ok
+unfolding row code_of payload read
+returns-in-176-clause-ok g c = sized_ok (λ v. v.items) binary c.args.code Vbin32 4 c.payload-in-176.result _ _ (rw c.in-176.is refl) refl (λ b. refl) c.payload-in-176.ensures.ok
+
+pub returns-in-176-clause-err : goal.returns-in-176-clause-err
+unfolding row code_of
+returns-in-176-clause-err g c = sized_err Kind.binary g.R.Read.buffers c.args.code Vbin32 4 c.payload-in-176.result _ _ (rw c.in-176.is refl) refl refl c.payload-in-176.ensures.err
+
+pub returns-in_default-clause-err : goal.returns-in_default-clause-err
+unfolding row same_kind place
+returns-in_default-clause-err g c = other_refused Kind.binary c.args.code _ (λ h. absurd cc) (not_code c.args.code Kind.binary (λ h. omega arith, (λ h. omega arith, tt)))
+
+-- memory is asked for last
+pub returns-in-160-clause-bytes_first : goal.returns-in-160-clause-bytes_first
+unfolding row code_of
+returns-in-160-clause-bytes_first g c = λ _. data_first Kind.binary g.R.Read.buffers c.args.code Vbin8 1 c.payload.result _ (rw c.in-160.is refl) refl refl (λ e. absurd cc e) c.payload.ensures.bytes_first
+
+pub returns-in-176-clause-bytes_first : goal.returns-in-176-clause-bytes_first
+unfolding row code_of
+returns-in-176-clause-bytes_first g c = λ _. data_first Kind.binary g.R.Read.buffers c.args.code Vbin32 4 c.payload-in-176.result _ (rw c.in-176.is refl) refl refl (λ e. absurd cc e) c.payload-in-176.ensures.bytes_first
+
+pub returns-in_default-clause-bytes_first : goal.returns-in_default-clause-bytes_first
+returns-in_default-clause-bytes_first g c = λ _. other_first g.R.Read.buffers _ _ _ (λ m. absurd cc m)

@@ -1,0 +1,12 @@
+use Rattle.std.proofs.Common.{refl, w16}
+use Rattle.amqp_base.specs.Codes.{row}
+use Rattle.amqp_base.specs.Item.{ushort}
+use Rattle.amqp_base.specs.Value.{payload, read}
+use Rattle.amqp_data.proofs.ByteNumbers.{be_number}
+use Rattle.amqp_data.proofs.unsigned.AsUshortLeaf.read.Goals as goal
+
+pub returns-in-Ok-clause-ok : goal.returns-in-Ok-clause-ok
+unfolding row payload read
+returns-in-Ok-clause-ok g c =
+    let o = c.in-Ok.ensures.ok in
+    o.is (ushort c.from_be_bytes.result) (rw (c.from_be_bytes.ensures, be_number w16 c.in-Ok.bytes o.len) refl)

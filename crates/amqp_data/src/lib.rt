@@ -1,0 +1,27 @@
+//! The data behind a format code: headers, element constructors, payloads, the data of each
+//! primitive type. A private layer: users reach it through `amqp_de`.
+#![tactic(auto)]
+
+mod constructor;
+mod decimals;
+mod floats;
+mod header;
+mod heading;
+mod leaf;
+mod numbers;
+mod payloads;
+mod scalars;
+mod signed;
+mod unsigned;
+
+pub use constructor::{Constructor, Descriptor, Limit, least_width};
+pub use decimals::decimal_data;
+pub use floats::{AsDouble, AsFloat};
+pub use header::{list_count, map_count};
+pub use heading::{Heading, seq_heading};
+pub use leaf::Leaf;
+pub use numbers::byte;
+pub use payloads::{AsBinary, AsString, AsSymbol};
+pub use scalars::{AsBoolean, AsChar, AsNull, AsTimestamp, AsUuid};
+pub use signed::{AsByte, AsInt, AsLong, AsShort};
+pub use unsigned::{AsUbyte, AsUint, AsUlong, AsUshort};

@@ -1,0 +1,172 @@
+//! Compounds end, and their serializer answers again.
+
+ghost use Rattle.std.specs.Prelude.{◌≡◌, Bool, List, true, IfErr, OnOk, OnErr, Err, Some};
+ghost use Rattle.amqp_base.specs.Item.{Item};
+ghost use Rattle.amqp_base.specs.Shapes.{whole};
+ghost use Rattle.amqp_ser.specs.State.{State, Planned, Measured, state};
+ghost use Rattle.amqp_ser.specs.Law.{Wrote, Refused, Kept};
+ghost use Rattle.amqp_ser.specs.Appending.{as_error};
+ghost use Rattle.amqp_ser.specs.Compound.{open_parts, Holds, Complete, back, outer_in};
+ghost use Rattle.amqp_ser.specs.Compound.{EndsMeasured, EndsWritten};
+
+use crate::Serializer;
+use crate::compound::{Outer, Parts};
+use crate::pass::Opened;
+use crate::serializer::{Refusal, no_memory, refused};
+use amqp_base::{Error, Pass, Shape, Sink, Size};
+use std::io::ErrorKind;
+
+impl<W: Sink> Serializer<W> {
+    /// Writes the whole that has these parts, on a serializer that their compound holds. It answers
+    /// again where that succeeds.
+    ///
+    /// `Io(Other)`: the parts have more than 4,294,967,291 bytes. `InvalidValue`: a part was
+    /// refused, or the array that the whole is to stand in has elements under another constructor.
+    #[inline(always)]
+    pub(crate) fn close(&mut self, parts: Parts) -> Result<(), Error>
+        ensures ok { (pairs : Bool) →
+            OnOk result ((s : State) (shape : Shape) (xs : List Item) →
+            Holds s shape xs (open_parts pairs (state W.Write W.FaultCount self.old) parts) →
+            Complete pairs xs → Wrote s (whole shape xs) (state W.Write W.FaultCount self.new)) }
+        ensures err { (pairs : Bool) →
+            IfErr result (λ e. (s : State) (shape : Shape) (xs : List Item) →
+            Holds s shape xs (open_parts pairs (state W.Write W.FaultCount self.old) parts) →
+            Complete pairs xs →
+            Refused s (whole shape xs) e (state W.Write W.FaultCount self.new)) }
+        ensures kept { Kept (state W.Write W.FaultCount self.old)
+            (state W.Write W.FaultCount self.new) }
+        ensures stays_ended { OnErr result ((state W.Write W.FaultCount self.old).ended ≡ true →
+            (state W.Write W.FaultCount self.new).ended ≡ true) }
+        ensures ended { parts.buffer.ended ≡ true → result ≡ Err Error.InvalidValue }
+    {
+        let Parts {
+            shape,
+            buffer,
+            count,
+            opened,
+            outer,
+        } = parts;
+        if buffer.ended {
+            return Err(refused(Refusal::InvalidValue));
+        }
+        match self.writer.pass() {
+            Pass::Buffers => match opened {
+                Opened::Buffered => {
+                    let body = buffer.into_inner();
+                    match self.finish(shape, count, &body) {
+                        Ok(()) => Ok(()),
+                        Err(e) => Err(refused(e)),
+                    }
+                }
+                _ => Err(no_memory()),
+            },
+            Pass::Measures => match opened {
+                Opened::Measured { at, before } => {
+                    match self.close_measured(shape, count, outer, at, before) {
+                        Ok(()) => Ok(()),
+                        Err(e) => Err(refused(e)),
+                    }
+                }
+                _ => Err(no_memory()),
+            },
+            Pass::Writes => match opened {
+                Opened::Written { size, from } => self.close_written(count, outer, size, from),
+                _ => Err(no_memory()),
+            },
+        }
+    }
+
+    /// Ends a compound that was measured: its size stands where it opened, and its header counts.
+    #[inline(always)]
+    fn close_measured(
+        &mut self,
+        shape: Shape,
+        count: usize,
+        outer: Outer,
+        at: usize,
+        before: usize,
+    ) -> Result<(), Refusal>
+        ensures law { (m : Measured) →
+            (state W.Write W.FaultCount self.old).measure ≡ Some m →
+            EndsMeasured shape at before count m
+            (back (outer_in outer) (state W.Write W.FaultCount self.old)) (as_error result)
+            (state W.Write W.FaultCount self.new) }
+        ensures kept { Kept (state W.Write W.FaultCount self.old)
+            (state W.Write W.FaultCount self.new) }
+        ensures stays_ended { OnErr result ((state W.Write W.FaultCount self.old).ended ≡ true →
+            (state W.Write W.FaultCount self.new).ended ≡ true) }
+    {
+        self.restore(outer);
+        if !self.direct {
+            return Err(Refusal::Io(ErrorKind::OutOfMemory));
+        }
+        let end = match self.writer.so_far() {
+            Some(end) => end,
+            None => return Err(Refusal::Io(ErrorKind::OutOfMemory)),
+        };
+        if end >= usize::MAX {
+            return Err(Refusal::Io(ErrorKind::OutOfMemory));
+        }
+        if end < before {
+            return Err(Refusal::Io(ErrorKind::OutOfMemory));
+        }
+        let size = Size {
+            length: end - before,
+            count,
+        };
+        if !self.writer.close_measured(at, size) {
+            return Err(Refusal::Io(ErrorKind::OutOfMemory));
+        }
+        self.ended = false;
+        self.head(shape, size)
+    }
+
+    /// Ends a compound that was written behind its header, which it has to agree with.
+    #[inline(always)]
+    fn close_written(
+        &mut self,
+        count: usize,
+        outer: Outer,
+        size: Size,
+        from: usize,
+    ) -> Result<(), Error>
+        ensures law { (p : Planned) → (state W.Write W.FaultCount self.old).plan ≡ Some p →
+            EndsWritten count size from p
+            (back (outer_in outer) (state W.Write W.FaultCount self.old)) result
+            (state W.Write W.FaultCount self.new) }
+        ensures kept { Kept (state W.Write W.FaultCount self.old)
+            (state W.Write W.FaultCount self.new) }
+        ensures stays_ended { OnErr result ((state W.Write W.FaultCount self.old).ended ≡ true →
+            (state W.Write W.FaultCount self.new).ended ≡ true) }
+    {
+        self.restore(outer);
+        let end = match self.writer.so_far() {
+            Some(end) => end,
+            None => return Err(no_memory()),
+        };
+        if from.checked_add(size.length) == Some(end) && count == size.count {
+            self.ended = false;
+            return Ok(());
+        }
+        Err(refused(Refusal::InvalidValue))
+    }
+
+    /// The serializer is as it was before the compound opened.
+    #[inline(always)]
+    fn restore(&mut self, outer: Outer)
+        ensures { state W.Write W.FaultCount self.new ≡
+            back (outer_in outer) (state W.Write W.FaultCount self.old) }
+    {
+        match outer {
+            Outer::Had {
+                setting,
+                mark,
+                found,
+            } => {
+                self.setting = setting;
+                self.mark = mark;
+                self.found = found;
+            }
+        }
+    }
+}

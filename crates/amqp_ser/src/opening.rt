@@ -1,0 +1,169 @@
+//! Compounds are opened: buffered, measured, or written behind their header.
+
+ghost use Rattle.std.specs.Prelude.{◌≡◌, [], true, false, IfOk, OnOk};
+ghost use Rattle.amqp_base.specs.Shapes.{setting_inside};
+ghost use Rattle.amqp_ser.specs.State.{state, mark_of, found_of};
+ghost use Rattle.amqp_ser.specs.Compound.{open_parts, is_map, Holds, RefusesOpen, next_mark};
+ghost use Rattle.amqp_ser.specs.Compound.{outer_in};
+
+use crate::Serializer;
+use crate::compound::{Outer, Parts, first_mark, setting_inside};
+use crate::pass::Opened;
+use crate::serializer::{Mark, Refusal, no_memory, refused};
+use amqp_base::{Error, Pass, Setting, Shape, Sink};
+use std::alloc::Global;
+
+impl<W: Sink> Serializer<W> {
+    /// Opens a compound, that holds its serializer from then on.
+    ///
+    /// `OutOfMemory`: there is no memory for its buffer.
+    #[inline(always)]
+    pub(crate) fn begin(&mut self, alloc: Global, shape: Shape) -> Result<Parts, Error>
+        ensures ok { IfOk result (λ p. Holds (state W.Write W.FaultCount self.old) shape []
+            (open_parts (is_map shape) (state W.Write W.FaultCount self.new) p)) }
+        ensures held { OnOk result ((state W.Write W.FaultCount self.new).ended ≡ true) }
+        ensures err { RefusesOpen shape (state W.Write W.FaultCount self.old) result
+            (state W.Write W.FaultCount self.new) }
+    {
+        if self.ended {
+            return Err(refused(Refusal::InvalidValue));
+        }
+        match self.writer.pass() {
+            Pass::Buffers => self.begin_buffered(alloc, shape),
+            Pass::Measures => self.begin_measured(alloc, shape),
+            Pass::Writes => self.begin_written(alloc, shape),
+        }
+    }
+
+    /// Opens a compound whose parts go to a buffer.
+    #[inline(always)]
+    fn begin_buffered(&mut self, alloc: Global, shape: Shape) -> Result<Parts, Error>
+        requires answers { self.old.ended ≡ false }
+        ensures ok { IfOk result (λ p. Holds (state W.Write W.FaultCount self.old) shape []
+            (open_parts (is_map shape) (state W.Write W.FaultCount self.new) p)) }
+        ensures held { OnOk result ((state W.Write W.FaultCount self.new).ended ≡ true) }
+        ensures err { RefusesOpen shape (state W.Write W.FaultCount self.old) result
+            (state W.Write W.FaultCount self.new) }
+    {
+        self.ended = true;
+        if self.direct {
+            return Err(no_memory());
+        }
+        match Parts::new(alloc, shape) {
+            Ok(parts) => Ok(parts),
+            Err(_) => Err(no_memory()),
+        }
+    }
+
+    /// Opens a compound that is measured, with a place for its size.
+    #[inline(always)]
+    fn begin_measured(&mut self, alloc: Global, shape: Shape) -> Result<Parts, Error>
+        requires answers { self.old.ended ≡ false }
+        ensures ok { IfOk result (λ p. Holds (state W.Write W.FaultCount self.old) shape []
+            (open_parts (is_map shape) (state W.Write W.FaultCount self.new) p)) }
+        ensures held { OnOk result ((state W.Write W.FaultCount self.new).ended ≡ true) }
+        ensures err { RefusesOpen shape (state W.Write W.FaultCount self.old) result
+            (state W.Write W.FaultCount self.new) }
+    {
+        if !self.direct {
+            self.ended = true;
+            return Err(no_memory());
+        }
+        let before = match self.writer.so_far() {
+            Some(before) => before,
+            None => {
+                self.ended = true;
+                return Err(no_memory());
+            }
+        };
+        if before >= usize::MAX {
+            self.ended = true;
+            return Err(no_memory());
+        }
+        match self.writer.open_measured() {
+            Some(at) => Ok(self.lend(alloc, shape, Opened::Measured { at, before })),
+            None => {
+                self.ended = true;
+                Err(no_memory())
+            }
+        }
+    }
+
+    /// Opens a compound that is written behind its header.
+    #[inline(always)]
+    fn begin_written(&mut self, alloc: Global, shape: Shape) -> Result<Parts, Error>
+        requires answers { self.old.ended ≡ false }
+        ensures ok { IfOk result (λ p. Holds (state W.Write W.FaultCount self.old) shape []
+            (open_parts (is_map shape) (state W.Write W.FaultCount self.new) p)) }
+        ensures held { OnOk result ((state W.Write W.FaultCount self.new).ended ≡ true) }
+        ensures err { RefusesOpen shape (state W.Write W.FaultCount self.old) result
+            (state W.Write W.FaultCount self.new) }
+    {
+        if !self.direct {
+            self.ended = true;
+            return Err(no_memory());
+        }
+        let size = match self.writer.next_size() {
+            Some(size) => size,
+            None => {
+                self.ended = true;
+                return Err(no_memory());
+            }
+        };
+        match self.head(shape, size) {
+            Ok(()) => {}
+            Err(e) => return Err(refused(e)),
+        }
+        match self.writer.so_far() {
+            Some(from) => Ok(self.lend(alloc, shape, Opened::Written { size, from })),
+            None => {
+                self.ended = true;
+                Err(no_memory())
+            }
+        }
+    }
+
+    /// The parts that come stand on the serializer itself, until their compound ends.
+    #[inline(always)]
+    fn lend(&mut self, alloc: Global, shape: Shape, opened: Opened) -> Parts
+        ensures shape { result.shape ≡ shape }
+        ensures count { result.count ≡ 0 }
+        ensures opened { result.opened ≡ opened }
+        ensures answers { result.buffer.ended ≡ false }
+        ensures setting { (outer_in result.outer).setting ≡ self.old.setting }
+        ensures mark { (outer_in result.outer).mark ≡ mark_of self.old.mark }
+        ensures found { (outer_in result.outer).found ≡ found_of self.old.found }
+        ensures state { state W.Write W.FaultCount self.new ≡
+            record (state W.Write W.FaultCount self.old) {
+              setting = setting_inside shape;
+              mark = next_mark shape [];
+              found = None;
+              ended = true;
+            } }
+    {
+        let outer = Outer::Had {
+            setting: self.setting,
+            mark: self.mark,
+            found: self.found,
+        };
+        self.setting = setting_inside(shape);
+        self.mark = first_mark(shape);
+        self.found = None;
+        self.ended = true;
+        let buffer = Serializer {
+            writer: Vec::new(alloc),
+            setting: Setting::Plain,
+            mark: Mark::Unmarked,
+            found: None,
+            ended: false,
+            direct: false,
+        };
+        Parts {
+            shape,
+            buffer,
+            count: 0,
+            opened,
+            outer,
+        }
+    }
+}

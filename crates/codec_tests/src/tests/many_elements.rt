@@ -1,0 +1,143 @@
+//! Arrays and lists of more numbers than are read or written at a time.
+
+use super::answer::{Answer, UNEXPECTED_EOF, answer_of};
+use super::bytes::{is_read_as, is_text};
+use Answer::{InvalidFormatCode, InvalidValue, Taken};
+use amqp_de::{Deserialize, Deserializer};
+use amqp_read::{Read, SliceReader};
+use amqp_ser::Serialize;
+use amqp_types::Array;
+use std::alloc::Global;
+
+/// The front of an array of a hundred uints. Its size covers the count, the constructor and four
+/// bytes an element.
+const UINTS: &[u8] = b"\xf0\x00\x00\x01\x95\x00\x00\x00\x64\x70";
+
+const INTS: &[u8] = b"\xf0\x00\x00\x01\x95\x00\x00\x00\x64\x71";
+
+/// The same of ulongs, of eight bytes each.
+const ULONGS: &[u8] = b"\xf0\x00\x00\x03\x25\x00\x00\x00\x64\x80";
+
+/// The size of these covers sixty-six elements and two bytes.
+const TOO_SHORT: &[u8] = b"\xf0\x00\x00\x01\x0f\x00\x00\x00\x64\x70";
+
+/// Uints of one byte each.
+const NARROW: &[u8] = b"\xe0\x66\x64\x52";
+
+/// The front of a list of 0, and of ninety-nine uints of two bytes each.
+const LIST: &[u8] = b"\xc0\xc8\x64\x43";
+
+/// The front, and behind it the numbers from `first` up to 99, each behind `before`.
+fn counted(alloc: Global, front: &[u8], first: u8, before: &[u8]) -> Option<Vec<u8>> {
+    let mut bytes = Vec::new(alloc);
+    let mut is_so = bytes.extend_from_slice(front).is_ok();
+    for n in first..100 {
+        is_so = bytes.extend_from_slice(before).is_ok() && is_so;
+        is_so = bytes.push(n).is_ok() && is_so;
+    }
+    if is_so { Some(bytes) } else { None }
+}
+
+/// The numbers from 0 to 99.
+fn hundred<T: From<u8> + Drop>(alloc: Global) -> Option<Vec<T>> {
+    let mut numbers = Vec::new(alloc);
+    let mut is_so = true;
+    for n in 0..100u8 {
+        is_so = numbers.push(T::from(n)).is_ok() && is_so;
+    }
+    if is_so { Some(numbers) } else { None }
+}
+
+/// The array of them is written as the bytes, which are read as the array.
+fn is_array<'s, T>(alloc: Global, bytes: &'s [u8]) -> bool
+where
+    T: From<u8> + PartialEq + Serialize + Deserialize<SliceReader<'s>>,
+{
+    match hundred::<T>(alloc) {
+        Some(numbers) => is_text(alloc, &Array(numbers), bytes),
+        None => false,
+    }
+}
+
+/// The list of them is written as the bytes, which are read as the list.
+fn is_list(alloc: Global, bytes: &[u8]) -> bool {
+    match hundred::<u32>(alloc) {
+        Some(numbers) => is_text(alloc, &numbers, bytes),
+        None => false,
+    }
+}
+
+/// The bytes are read as they are.
+fn is_vector(alloc: Global, bytes: &[u8]) -> bool {
+    match hundred::<u32>(alloc) {
+        Some(numbers) => is_read_as(alloc, bytes, &numbers),
+        None => false,
+    }
+}
+
+#[test]
+fn a_hundred_numbers_are_written_and_read(rt: HostRuntime) {
+    let alloc = rt.alloc();
+    let uints = counted(alloc, UINTS, 0, b"\0\0\0");
+    assert!(rt; matches!(&uints, Some(bytes) if is_array::<u32>(alloc, bytes.as_slice())));
+    assert!(rt; matches!(&uints, Some(bytes) if is_vector(alloc, bytes.as_slice())));
+    let ints = counted(alloc, INTS, 0, b"\0\0\0");
+    assert!(rt; matches!(&ints, Some(bytes) if is_array::<i32>(alloc, bytes.as_slice())));
+    let ulongs = counted(alloc, ULONGS, 0, b"\0\0\0\0\0\0\0");
+    assert!(rt; matches!(&ulongs, Some(bytes) if is_array::<u64>(alloc, bytes.as_slice())));
+    let narrow = counted(alloc, NARROW, 0, b"");
+    assert!(rt; matches!(&narrow, Some(bytes) if is_vector(alloc, bytes.as_slice())));
+    let list = counted(alloc, LIST, 1, b"\x52");
+    assert!(rt; matches!(&list, Some(bytes) if is_list(alloc, bytes.as_slice())));
+}
+
+/// The type answers so to the bytes, of which it takes so many.
+fn stops<'s, T: Deserialize<SliceReader<'s>>>(
+    alloc: Global,
+    bytes: &'s [u8],
+    answer: Answer,
+    taken: usize,
+) -> bool {
+    let mut de = Deserializer::new(SliceReader::new(bytes));
+    let told = answer_of(&T::deserialize(alloc, &mut de));
+    told == answer && de.into_reader().bytes_consumed() == taken
+}
+
+/// A list or an array is read from the front of the bytes, and 99 behind it.
+fn reads_on(alloc: Global, bytes: &[u8]) -> bool {
+    let mut de = Deserializer::new(SliceReader::new(bytes));
+    let first = answer_of(&Vec::<u32>::deserialize(alloc, &mut de));
+    let behind = matches!(&u32::deserialize(alloc, &mut de), Ok(99));
+    first == Taken && behind
+}
+
+/// The same of the bytes with 99 behind them.
+fn goes_on(alloc: Global, bytes: Option<Vec<u8>>) -> bool {
+    match bytes {
+        Some(bytes) => {
+            let mut bytes = bytes;
+            let is_longer = bytes.extend_from_slice(b"\x52\x63").is_ok();
+            reads_on(alloc, bytes.as_slice()) && is_longer
+        }
+        None => false,
+    }
+}
+
+#[test]
+fn a_refusal_among_many_is_the_first_that_is_called_for(rt: HostRuntime) {
+    let alloc = rt.alloc();
+    let uints = counted(alloc, UINTS, 0, b"\0\0\0");
+    // two bytes of the seventy-first element
+    assert!(rt; matches!(&uints, Some(bytes) if
+        stops::<Vec<u32>>(alloc, &bytes.as_slice()[..292], UNEXPECTED_EOF, 290)));
+    assert!(rt; matches!(&uints, Some(bytes) if
+        stops::<Vec<i32>>(alloc, bytes.as_slice(), InvalidFormatCode, 10)));
+    assert!(rt; matches!(&uints, Some(bytes) if
+        stops::<Vec<u32>>(alloc, bytes.as_slice(), Taken, 410)));
+    // the sixty-seventh element goes past the end
+    let short = counted(alloc, TOO_SHORT, 0, b"\0\0\0");
+    assert!(rt; matches!(&short, Some(bytes) if
+        stops::<Vec<u32>>(alloc, bytes.as_slice(), InvalidValue, 278)));
+    // an item behind the array has a constructor of its own
+    assert!(rt; goes_on(alloc, uints));
+}
