@@ -1,17 +1,14 @@
 -- Elements that are read many at a time.
-use Rattle.std.proofs.Common.{◌≡◌, ℕ, suc, ◌+◌, ◌≤◌, Bool, false, List, [], ◌∷◌, ◌++◌, length, length-take, length-drop, take, drop, ◌-◌, Option, Some, None, refl, sym, ap, subst, ◌∙◌, arith, append_assoc, IsTrue}
+use Rattle.std.proofs.Common.{◌≡◌, ℕ, ◌+◌, ◌≤◌, false, List, [], ◌∷◌, ◌++◌, length, length-take, length-drop, take, drop, ◌-◌, Option, Some, None, refl, sym, ap, subst, ◌∙◌, arith, append_assoc}
 use Rattle.std.proofs.lemmas.List.{length-append, append-nil, drop-drop}
 use Rattle.std.proofs.Math.Seq.{take-add}
 use Rattle.std.specs.Io.KnownBytes.{Consumes}
 use Rattle.amqp_base.specs.declared.format_code.EncodingCodes.{EncodingCodes}
-use Rattle.amqp_base.specs.Item.{Item, items}
+use Rattle.amqp_base.specs.Item.{items}
 use Rattle.amqp_base.specs.Meaning.{Meaning}
-use Rattle.amqp_base.specs.Refusing.{Refusing}
-use Rattle.amqp_base.specs.Wire.{Constructor, under, Wire, lenient}
-use Rattle.amqp_base.specs.Laws.{items_under}
+use Rattle.amqp_base.specs.Wire.{under}
 use Rattle.amqp_read.specs.Reading.{Reading, Agree, Takes}
 use Rattle.amqp_de.specs.Decoding.{Decoding, stands_under, behind_descriptor}
-use Rattle.amqp_de.specs.Law.{Front, Spent, free}
 use Rattle.amqp_data.specs.Parts.{Within}
 use Rattle.amqp_de.specs.Access.{Listing, Part}
 use Rattle.amqp_de.specs.Many.{AreRead, IsElement, AreElements, PutBehind}

@@ -9,10 +9,9 @@ use Rattle.std.specs.declared.io.ErrorKind.TheVariants.{OutOfMemory as NoMemory}
 use Rattle.amqp_base.specs.Faults.{Extends, refusal_of, IsFault}
 use Rattle.amqp_base.specs.declared.error.Error.{Error}
 use Rattle.amqp_base.specs.declared.error.Error.TheVariants.{OutOfMemory, Io}
-use Rattle.amqp_base.specs.Sizes.{Size}
 use Rattle.amqp_base.specs.Passes.{Plans, Measures}
 use Rattle.amqp_ser.specs.State.{State, Planned, Measured, contents_in, plan_in, measure_in}
-use Rattle.amqp_ser.specs.Law.{Goes, fits, is_next, plan_after, measure_after, Kept, IsDevice}
+use Rattle.amqp_ser.specs.Law.{fits, is_next, plan_after, measure_after, Kept, IsDevice}
 use Rattle.amqp_ser.specs.Appending.{Appended}
 
 pub appends_more : (a b c : Option (List ℕ)) (xs ys : List ℕ) → Appends a b xs → Appends b c ys → Appends a c (xs ++ ys)

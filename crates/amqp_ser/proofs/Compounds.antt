@@ -1,6 +1,6 @@
 -- The steps of a compound.
-use Rattle.std.proofs.Common.{◌≡◌, get_or, map, take, drop, suc, add-one, drop-cons, ℕ, ◌+◌, ◌<◌, ◌≤◌, ◌^◌, List, [], ◌∷◌, ◌++◌, length, refl, sym, ◌∙◌, ap, arith, Option, Some, None, true, false, Bool, if◌then◌else◌, Result, Ok, Err, OnOk, IfErr, inl, inr, subst, length-append, append_assoc, min, ◌==◌, ◌%◌, ◌&&◌, ◌⊎◌}
-use Rattle.std.proofs.lemmas.List.{take-append-drop, take_all, take_more, map-append, append-nil}
+use Rattle.std.proofs.Common.{◌≡◌, get_or, map, take, drop, suc, add-one, drop-cons, ℕ, ◌+◌, ◌<◌, ◌≤◌, List, [], ◌∷◌, ◌++◌, length, refl, sym, ◌∙◌, ap, arith, Option, Some, None, true, false, Bool, if◌then◌else◌, Result, Ok, Err, OnOk, IfErr, inl, inr, subst, length-append, append_assoc, ◌==◌, ◌%◌, ◌&&◌, ◌⊎◌}
+use Rattle.std.proofs.lemmas.List.{take-append-drop, take_all, map-append, append-nil}
 use Rattle.std.proofs.lemmas.Bool.{eq-eqb, eqb-true}
 use Rattle.std.specs.Io.KnownBytes.{Appends}
 use Rattle.amqp_base.specs.Item.{Item, items_of, count}
@@ -14,14 +14,14 @@ use Rattle.amqp_base.specs.declared.shape.Setting.{Setting}
 use Rattle.amqp_base.specs.declared.error.Error.TheVariants.{OutOfMemory}
 use Rattle.amqp_base.specs.declared.shape.Setting.TheVariants.{Plain}
 use Rattle.amqp_base.specs.declared.shape.Shape.{Shape}
-use Rattle.amqp_ser.specs.State.{State, Planned, Measured, Mark, unmarked, first, other, answering, size_in, contents_in}
+use Rattle.amqp_ser.specs.State.{State, Planned, Mark, unmarked, first, other, answering, size_in, contents_in}
 use Rattle.amqp_ser.specs.declared.pass.Opened.{Opened}
 use Rattle.amqp_base.specs.Faults.{Extends}
 use Rattle.amqp_ser.proofs.Counting.{goes_more, next_refused}
 use Rattle.amqp_ser.specs.Law.{text_for, fits, is_next, begins, same_size, marked, found_after, Goes, Wrote, Refused, Kept, IsDevice, Unwritten, unwritten}
 use Rattle.amqp_ser.specs.Appending.{Pays}
 use Rattle.amqp_ser.specs.Compound.{Keeps, Open, Empty, Begun, Buffers, Lent, Run, Holds, Complete, is_map, awaits_value, BeginsWith, whole_text, shape_code, parts_text, next_mark, other_of, turned}
-use Rattle.amqp_ser.proofs.Bytes.{extends_same, appends_more, appends_none}
+use Rattle.amqp_ser.proofs.Bytes.{extends_same, appends_none}
 use Rattle.amqp_ser.proofs.Steps.{Free, fits_free, wrote_pays, refused_pays, kept_two}
 use Rattle.amqp_base.specs.Faults.{IsFault}
 use Rattle.amqp_base.specs.declared.fault.Size.{Size as CodeSize}

@@ -1,7 +1,7 @@
 -- The fields of a struct, as parts of its compound.
-use Rattle.std.proofs.Common.{◌≡◌, ℕ, List, [], ◌∷◌, ◌++◌, refl, sym, ◌∙◌, ap, subst, append_assoc, false, Bool, Result, Ok, Err, OnOk, IfErr, length, Some}
+use Rattle.std.proofs.Common.{◌≡◌, ℕ, List, [], ◌∷◌, ◌++◌, refl, sym, ◌∙◌, ap, subst, append_assoc, false, Bool, Result, Ok, Err, OnOk, IfErr}
 use Rattle.std.proofs.lemmas.Result.{IfErr-weaker}
-use Rattle.amqp_base.specs.Item.{Item, items_of}
+use Rattle.amqp_base.specs.Item.{Item}
 use Rattle.amqp_base.specs.Shapes.{whole}
 use Rattle.amqp_base.specs.Structs.{FieldItem, named, struct_shape, struct_item, field_parts, fields_parts}
 use Rattle.amqp_base.specs.declared.error.Error.{Error}
@@ -10,7 +10,7 @@ use Rattle.amqp_base.specs.declared.shape.Setting.{Setting}
 use Rattle.amqp_base.specs.declared.shape.Setting.TheVariants.{Plain, Symbol, DescribedList, DescribedMap, DescribedBasic}
 use Rattle.amqp_ser.specs.State.{State}
 use Rattle.amqp_ser.specs.Law.{Wrote, Refused}
-use Rattle.amqp_ser.specs.Compound.{Open, Holds, HoldsFields, RefusesNamed, Complete, BeginsWith, is_map, parts_text}
+use Rattle.amqp_ser.specs.Compound.{Open, Holds, HoldsFields, RefusesNamed, Complete, BeginsWith, is_map}
 use Rattle.amqp_ser.proofs.Compounds.{begins_rest, begins_front}
 
 -- no name is without its value

@@ -1,7 +1,6 @@
 -- A compound that is opened.
-use Rattle.std.proofs.Common.{◌≡◌, ◌<◌, ◌≤◌, ◌+◌, ◌^◌, ℕ, List, [], ◌∷◌, ◌++◌, length, min, set, refl, sym, ◌∙◌, ap, subst, arith, Option, Some, None, true, false, Bool, Result, Ok, Err}
+use Rattle.std.proofs.Common.{◌≡◌, ◌<◌, ◌^◌, ℕ, List, [], ◌∷◌, ◌++◌, length, min, set, refl, sym, ◌∙◌, ap, subst, arith, Option, Some, None, true, false, Bool, Ok}
 use Rattle.std.proofs.lemmas.List.{append-nil}
-use Rattle.amqp_base.specs.Item.{Item}
 use Rattle.amqp_base.specs.Wire.{Constructor, under}
 use Rattle.amqp_base.specs.Shapes.{setting_inside}
 use Rattle.amqp_base.specs.Sizes.{Size}

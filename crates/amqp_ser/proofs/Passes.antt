@@ -1,5 +1,5 @@
 -- A compound that was opened in a pass: its end.
-use Rattle.std.proofs.Common.{◌≡◌, ◌<◌, ◌≤◌, ◌+◌, ◌-◌, ℕ, List, [], ◌∷◌, ◌++◌, length, drop, set, map, OnErr, min, suc, zero, refl, sym, ◌∙◌, ap, subst, arith, Option, Some, None, true, false, Bool, ◌&&◌, ◌==◌, Result, Ok, Err, OnOk, IfErr, inl, inr, ◌⊎◌, append_assoc, length-append}
+use Rattle.std.proofs.Common.{◌≡◌, ◌<◌, ◌≤◌, ◌+◌, ◌-◌, ℕ, List, [], ◌∷◌, ◌++◌, length, drop, set, min, suc, refl, sym, ◌∙◌, ap, subst, arith, Option, Some, None, true, false, Bool, ◌&&◌, ◌==◌, Result, Ok, Err, OnOk, IfErr, inl, inr, append_assoc, length-append}
 use Rattle.std.proofs.lemmas.List.{append-nil}
 use Rattle.std.proofs.lemmas.Bool.{eq-eqb, eqb-true}
 use Rattle.amqp_base.specs.Item.{Item, items_of, pair, map as map_item}
@@ -8,16 +8,14 @@ use Rattle.amqp_base.specs.Canon.{◌>>=◌, when, kind_code}
 use Rattle.amqp_base.specs.Shapes.{whole, pairs_of}
 use Rattle.amqp_base.specs.Sizes.{Size, sizes, sizes_in, size_of}
 use Rattle.amqp_base.specs.declared.error.Error.{Error}
-use Rattle.amqp_base.specs.declared.error.Error.TheVariants.{OutOfMemory, InvalidValue}
 use Rattle.amqp_base.specs.declared.shape.Shape.{Shape}
 use Rattle.amqp_ser.specs.State.{State, Mark, Planned, Measured, size_in}
-use Rattle.amqp_ser.specs.Law.{fits, is_next, begins, same_size, plan_after, measure_after, marked, found_after, Goes, Kept, IsDevice, unwritten, why_unwritten, Wrote, Refused}
+use Rattle.amqp_ser.specs.Law.{fits, is_next, begins, same_size, plan_after, measure_after, marked, found_after, Kept, IsDevice, unwritten, why_unwritten, Wrote, Refused}
 use Rattle.amqp_ser.specs.Appending.{Pays}
 use Rattle.amqp_ser.specs.declared.pass.Opened.{Opened}
 use Rattle.amqp_base.specs.declared.fault.Size.{Size as CodeSize}
-use Rattle.amqp_ser.specs.Compound.{Open, Back, back, RefusesOpen, Holds, Begun, Measures, Writes, Lent, Complete, is_map, whole_text, head_text, parts_text, shape_code, back_measured, EndsMeasured, EndsWritten}
+use Rattle.amqp_ser.specs.Compound.{Open, Back, back, RefusesOpen, Holds, Begun, Measures, Writes, Lent, Complete, is_map, head_text, parts_text, shape_code, back_measured, EndsMeasured, EndsWritten}
 use Rattle.amqp_ser.proofs.Steps.{fits_nil, wrote_pays, refused_pays, kept_two}
-use Rattle.amqp_ser.proofs.PartTexts.{bind_some, true_false}
 use Rattle.amqp_ser.proofs.WhyTexts.{body_why}
 use Rattle.amqp_ser.proofs.Lengths.{parts_fit}
 use Rattle.amqp_ser.proofs.TextOf.{whole_none}

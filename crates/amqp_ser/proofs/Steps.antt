@@ -9,9 +9,9 @@ use Rattle.amqp_base.specs.declared.error.Error.TheVariants.{OutOfMemory}
 use Rattle.amqp_base.specs.Faults.{IsFault}
 use Rattle.amqp_ser.specs.State.{State, Planned}
 use Rattle.amqp_ser.proofs.Counting.{goes_more}
-use Rattle.amqp_ser.specs.Law.{marked, text_for, found_after, fits, is_next, Goes, Wrote, Refused, Kept, IsDevice, why_unwritten}
+use Rattle.amqp_ser.specs.Law.{marked, text_for, found_after, fits, is_next, Wrote, Refused, Kept, IsDevice, why_unwritten}
 use Rattle.amqp_ser.specs.Appending.{Appended, Pays}
-use Rattle.amqp_ser.proofs.Bytes.{appends_more, extends_more, extends_same}
+use Rattle.amqp_ser.proofs.Bytes.{extends_more, extends_same}
 
 apart : true ≡ false → ⊥
 apart e = cc

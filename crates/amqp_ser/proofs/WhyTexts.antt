@@ -1,10 +1,9 @@
 -- Why a whole isn't written: by its first part that has no text, else by its body.
-use Rattle.std.proofs.Common.{◌≡◌, ℕ, List, [], ◌∷◌, ◌++◌, length, refl, ap, subst, Option, Some, None, true, false, Bool}
+use Rattle.std.proofs.Common.{◌≡◌, ℕ, List, [], ◌∷◌, ◌++◌, length, refl, subst, Option, Some, None, true}
 use Rattle.amqp_base.specs.Item.{Item, items_of}
 use Rattle.amqp_base.specs.Shapes.{whole, pairs_of}
 use Rattle.amqp_base.specs.Wire.{Constructor}
-use Rattle.amqp_base.specs.Canon.{canon, canons, pair_canons, body, bodies, array_body, kind_code, constructor_text, is_under}
-use Rattle.amqp_base.specs.declared.error.Error.{Error}
+use Rattle.amqp_base.specs.Canon.{canon, canons, body, bodies, array_body, kind_code, constructor_text, is_under}
 use Rattle.amqp_base.specs.declared.shape.Shape.{Shape}
 use Rattle.amqp_ser.specs.State.{unmarked, first, other}
 use Rattle.amqp_ser.specs.Texts.{marked, placed, other_of, unwritten, why_unwritten, why_part, why_pair}

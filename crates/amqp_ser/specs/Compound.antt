@@ -1,5 +1,5 @@
 -- What contracts see of an open compound.
-use Rattle.std.specs.Prelude.{◌≡◌, ◌⊎◌, ◌-◌, ◌<◌, Ok, ℕ, ◌==◌, ◌&&◌, ◌≤◌, ◌+◌, ◌%◌, ◌++◌, min, set, nat_le, Bool, true, false, if◌then◌else◌, List, [], ◌∷◌, length, Option, Some, None, Result, Err, IfErr, OnErr, OnOk}
+use Rattle.std.specs.Prelude.{◌≡◌, ◌⊎◌, ◌-◌, ◌<◌, Ok, ℕ, ◌==◌, ◌&&◌, ◌≤◌, ◌+◌, ◌%◌, ◌++◌, set, nat_le, Bool, true, false, if◌then◌else◌, List, [], ◌∷◌, length, Option, Some, None, Result, Err, IfErr, OnErr, OnOk}
 use Rattle.std.specs.Int.{bytes_high_first}
 use Rattle.std.specs.declared.io.Write as Write
 use Rattle.std.specs.declared.vec.Vec.{Vec}

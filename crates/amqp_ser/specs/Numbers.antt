@@ -1,5 +1,5 @@
 -- Values that are numbers.
-use Rattle.std.specs.Prelude.{◌≡◌, ℤ, List, map, ⊤}
+use Rattle.std.specs.Prelude.{◌≡◌, List, map, ⊤}
 use Rattle.amqp_base.specs.Item.{Item, scalar, uint, ulong, int}
 use Rattle.amqp_ser.specs.declared.serialize.Numbers.{Numbers}
 

@@ -1,5 +1,5 @@
 -- One number after the other.
-use Rattle.std.proofs.Common.{◌≡◌, ℕ, ◌+◌, ◌*◌, ◌<◌, ◌≤◌, ◌⊎◌, inl, inr, refl, sym, ap, subst, ◌∙◌, arith, [], take, length, List}
+use Rattle.std.proofs.Common.{◌≡◌, ℕ, ◌+◌, ◌*◌, ◌<◌, ◌≤◌, ◌⊎◌, inl, inr, refl, sym, ap, subst, ◌∙◌, arith, [], take, length}
 use Rattle.std.proofs.lemmas.List.{append-nil, take_all}
 use Rattle.amqp_de.specs.Many.{PutBehind}
 use Rattle.amqp_de.proofs.Many.{put_more}

@@ -1,5 +1,5 @@
 use Rattle.std.proofs.Common.{refl, ap, ◌∙◌}
-use Rattle.amqp_ser.specs.State.{State, state}
+use Rattle.amqp_ser.specs.State.{state}
 use Rattle.amqp_ser.specs.Compound.{outer_in}
 use Rattle.amqp_ser.proofs.Steps.{kept_two}
 use Rattle.amqp_ser.proofs.Compounds.{direct_more, direct_refused, inner_lives, keeps_lives, kept_open, full_refuses}

@@ -1,5 +1,5 @@
 -- The first value, and the others behind it.
-use Rattle.std.proofs.Common.{◌≡◌, map, subst, Err}
+use Rattle.std.proofs.Common.{map, subst, Err}
 use Rattle.amqp_base.specs.declared.shape.Setting.TheVariants.{Plain}
 use Rattle.amqp_ser.specs.State.{state}
 use Rattle.amqp_ser.specs.Compound.{open_state, WritesEach}

@@ -1,14 +1,13 @@
 -- The elements outside arrays, which are counted behind the last.
-use Rattle.std.proofs.Common.{◌≡◌, ◌+◌, refl, ◌++◌, map, take, sym, ap, ◌∙◌, subst, arith, false, length}
+use Rattle.std.proofs.Common.{◌≡◌, refl, ◌++◌, map, take, sym, ap, ◌∙◌, subst, arith, false}
 use Rattle.amqp_base.specs.declared.shape.Shape.{Shape}
 use Rattle.amqp_base.specs.declared.shape.Setting.TheVariants.{Plain}
-use Rattle.amqp_ser.specs.State.{State, state}
+use Rattle.amqp_ser.specs.State.{state}
 use Rattle.amqp_ser.specs.Law.{Wrote, Refused}
 use Rattle.amqp_ser.specs.Compound.{open_state, outer_in, outside_in}
 use Rattle.amqp_ser.proofs.PartTexts.{true_false}
-use Rattle.amqp_ser.proofs.Steps.{kept_two}
-use Rattle.amqp_ser.proofs.Compounds.{Lives, plain_more, plain_begins, keeps_two, keeps_lives, kept_open, full_refuses, inner_lives, inner_answers, broken_lives, direct_more, direct_refused, part_outside}
-use Rattle.amqp_ser.proofs.ManyParts.{each_next, each_begins, each_all, counted}
+use Rattle.amqp_ser.proofs.Compounds.{Lives, plain_more, plain_begins, keeps_two, keeps_lives, inner_lives, inner_answers, broken_lives, direct_more, direct_refused, part_outside}
+use Rattle.amqp_ser.proofs.ManyParts.{each_next, each_begins, counted}
 use Rattle.amqp_ser.proofs.each.each_outside.Goals as goal
 
 pub loop-value-preserved : goal.loop-value-preserved

@@ -1,5 +1,5 @@
 -- Some elements after the other.
-use Rattle.std.proofs.Common.{◌≡◌, ◌++◌, [], refl, sym, ap, subst, ◌∙◌, append_assoc}
+use Rattle.std.proofs.Common.{◌++◌, [], refl, sym, ap, subst, ◌∙◌, append_assoc}
 use Rattle.std.proofs.lemmas.List.{append-nil}
 use Rattle.amqp_de.specs.Many.{AreRead}
 use Rattle.amqp_de.specs.ReadParts.{open_list}

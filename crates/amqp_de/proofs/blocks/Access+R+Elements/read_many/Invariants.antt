@@ -1,4 +1,4 @@
-use Rattle.std.proofs.Common.{ℕ, ◌≡◌, List, ◌++◌}
+use Rattle.std.proofs.Common.{◌≡◌, List, ◌++◌}
 use Rattle.amqp_de.specs.Many.{AreRead}
 use Rattle.amqp_de.specs.Seq.{listing}
 use Rattle.amqp_de.proofs.blocks.Access+R+Elements.read_many.Given as goal

@@ -1,11 +1,10 @@
-use Rattle.std.proofs.Common.{◌≡◌, refl, rules, length, to_z, of_z, w32}
+use Rattle.std.proofs.Common.{refl, rules, to_z, of_z, w32}
 use mir.Val.{SFits}
 use Rattle.amqp_base.specs.Codes.{row}
 use Rattle.amqp_base.specs.Item.{scalar, int}
 use Rattle.amqp_base.specs.SameKind.{same_kind, place}
 use Rattle.amqp_base.specs.Value.{payload, read}
 use Rattle.amqp_base.specs.declared.format_code.EncodingCodes.TheVariants.{Int}
-use Rattle.amqp_de.specs.Many.{IsElement}
 use Rattle.amqp_data.proofs.FixedWidth.{fixed_spells}
 use Rattle.amqp_data.proofs.ByteNumbers.{be_signed}
 use Rattle.amqp_de.proofs.blocks.I32Wide4.of_data.Goals as goal

@@ -1,9 +1,9 @@
 -- The numbers that were taken at once are the next elements.
-use Rattle.std.proofs.Common.{rules, ℕ, ◌⊎◌, inl, inr, ◌≡◌, ◌+◌, ◌*◌, ◌≤◌, ◌<◌, refl, arith, length, subst, sym, ap, ◌∙◌, ◌++◌}
+use Rattle.std.proofs.Common.{rules, ℕ, ◌⊎◌, inl, inr, ◌≡◌, ◌+◌, ◌*◌, ◌<◌, refl, arith, length, subst, sym, ap, ◌∙◌, ◌++◌}
 use Rattle.amqp_read.specs.Reading.{Takes}
 use Rattle.amqp_data.specs.Parts.{Within}
 use Rattle.amqp_data.specs.Places.{limit_of}
-use Rattle.amqp_de.proofs.Many.{all_read, Moves}
+use Rattle.amqp_de.proofs.Many.{all_read}
 use Rattle.amqp_de.proofs.deserializer.Deserializer.next_numbers.Goals as goal
 
 some_bytes : (n w : ℕ) → (w ≡ 4) ⊎ (w ≡ 8) → (n ≡ 0 → ⊥) → 0 < n * w

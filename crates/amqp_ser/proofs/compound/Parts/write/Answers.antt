@@ -1,5 +1,5 @@
 use Rattle.amqp_ser.specs.State.{state}
-use Rattle.std.proofs.Common.{arith, refl, inl}
+use Rattle.std.proofs.Common.{refl}
 use Rattle.amqp_ser.proofs.Compounds.{element_more, element_refused, element_full}
 use Rattle.amqp_ser.proofs.compound.Parts.write.Goals as goal
 

@@ -1,4 +1,4 @@
-use Rattle.std.proofs.Common.{◌≡◌, length}
+use Rattle.std.proofs.Common.{length}
 use Rattle.amqp_ser.specs.State.{state}
 use Rattle.amqp_ser.proofs.Bytes.{Going}
 use Rattle.amqp_ser.proofs.serializer.Serializer.append.Given as goal

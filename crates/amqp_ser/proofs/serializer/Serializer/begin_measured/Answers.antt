@@ -1,4 +1,4 @@
-use Rattle.std.proofs.Common.{arith, length, refl, ap, sym, ◌∙◌}
+use Rattle.std.proofs.Common.{arith, length, refl, ap, ◌∙◌}
 use Rattle.amqp_ser.specs.State.{State, state}
 use Rattle.amqp_ser.specs.declared.pass.Opened.{Opened}
 use Rattle.amqp_ser.specs.Compound.{outer_in}

@@ -1,5 +1,5 @@
-use Rattle.std.proofs.Common.{length, refl, ap, sym, ◌∙◌}
-use Rattle.amqp_ser.specs.State.{State, state, size_in}
+use Rattle.std.proofs.Common.{refl, ap, ◌∙◌}
+use Rattle.amqp_ser.specs.State.{state, size_in}
 use Rattle.amqp_ser.specs.Compound.{outer_in}
 use Rattle.amqp_ser.proofs.Compounds.{inner_lives, outer_lives, lives_written}
 use Rattle.amqp_ser.proofs.Passes.{refuses_headless}

@@ -1,6 +1,5 @@
 use Rattle.amqp_ser.specs.State.{state}
-use Rattle.std.proofs.Common.{refl, ap, Some}
-use Rattle.amqp_ser.specs.Compound.{open_parts}
+use Rattle.std.proofs.Common.{refl}
 use Rattle.amqp_ser.proofs.Compounds.{end_wrote_each, end_refused_each, contents_told}
 use Rattle.amqp_ser.proofs.Passes.{wrote_measured, refused_measured, wrote_written_each, refused_written_each, kept_at_end}
 use Rattle.amqp_ser.proofs.serializer.Serializer.close.Goals as goal
