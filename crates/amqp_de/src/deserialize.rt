@@ -36,10 +36,7 @@ pub trait Deserialize<R: Read>: Typed + Sized {
     /// `OutOfMemory`: there is no memory for them, and nothing was read.
     #[doc(hidden)]
     #[inline(always)]
-    fn next_elements(
-        list: &mut ListAccess<'_, R>,
-        items: &mut Vec<Self>,
-    ) -> Result<bool, Error>
+    fn next_elements(list: &mut ListAccess<'_, R>, items: &mut Vec<Self>) -> Result<bool, Error>
         ensures same_reference { list.new.de.ghost_name ≡ list.old.de.ghost_name }
         ensures read { ReadsMany Self.meaning (open_list list.old) items.old.items result
             (open_list list.new) items.new.items }

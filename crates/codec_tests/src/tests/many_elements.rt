@@ -1,6 +1,6 @@
 //! Arrays and lists of more numbers than are read or written at a time.
 
-use super::answer::{Answer, UNEXPECTED_EOF, answer_of};
+use super::answer::{Answer, UNEXPECTED_EOF, answer_of, is};
 use super::bytes::{is_read_as, is_text};
 use Answer::{InvalidFormatCode, InvalidValue, Taken};
 use amqp_de::{Deserialize, Deserializer};
@@ -75,22 +75,6 @@ fn is_vector(alloc: Global, bytes: &[u8]) -> bool {
     }
 }
 
-#[test]
-fn a_hundred_numbers_are_written_and_read(rt: HostRuntime) {
-    let alloc = rt.alloc();
-    let uints = counted(alloc, UINTS, 0, b"\0\0\0");
-    assert!(rt; matches!(&uints, Some(bytes) if is_array::<u32>(alloc, bytes.as_slice())));
-    assert!(rt; matches!(&uints, Some(bytes) if is_vector(alloc, bytes.as_slice())));
-    let ints = counted(alloc, INTS, 0, b"\0\0\0");
-    assert!(rt; matches!(&ints, Some(bytes) if is_array::<i32>(alloc, bytes.as_slice())));
-    let ulongs = counted(alloc, ULONGS, 0, b"\0\0\0\0\0\0\0");
-    assert!(rt; matches!(&ulongs, Some(bytes) if is_array::<u64>(alloc, bytes.as_slice())));
-    let narrow = counted(alloc, NARROW, 0, b"");
-    assert!(rt; matches!(&narrow, Some(bytes) if is_vector(alloc, bytes.as_slice())));
-    let list = counted(alloc, LIST, 1, b"\x52");
-    assert!(rt; matches!(&list, Some(bytes) if is_list(alloc, bytes.as_slice())));
-}
-
 /// The type answers so to the bytes, of which it takes so many.
 fn stops<'s, T: Deserialize<SliceReader<'s>>>(
     alloc: Global,
@@ -103,17 +87,64 @@ fn stops<'s, T: Deserialize<SliceReader<'s>>>(
     told == answer && de.into_reader().bytes_consumed() == taken
 }
 
+/// What holds of the bytes.
+#[derive(Clone, Copy)]
+enum Check {
+    Uints,
+    Ints,
+    Ulongs,
+    List,
+    Vector,
+    /// So many of them are read as a vector of uints with this answer, which takes so many.
+    Front(usize, Answer, usize),
+    /// All of them as a vector of ints.
+    AsInts(Answer, usize),
+}
+
+use Check::{AsInts, Front, Ints, List, Uints, Ulongs, Vector};
+
+fn holds(alloc: Global, bytes: &[u8], check: Check) -> bool {
+    match check {
+        Uints => is_array::<u32>(alloc, bytes),
+        Ints => is_array::<i32>(alloc, bytes),
+        Ulongs => is_array::<u64>(alloc, bytes),
+        List => is_list(alloc, bytes),
+        Vector => is_vector(alloc, bytes),
+        Front(len, answer, taken) => stops::<Vec<u32>>(alloc, &bytes[..len], answer, taken),
+        AsInts(answer, taken) => stops::<Vec<i32>>(alloc, bytes, answer, taken),
+    }
+}
+
+/// It holds of the front with a hundred numbers behind it, or with those from `first` on.
+fn is_so(alloc: Global, front: &[u8], first: u8, before: &[u8], check: Check) -> bool {
+    match counted(alloc, front, first, before) {
+        Some(bytes) => holds(alloc, bytes.as_slice(), check),
+        None => false,
+    }
+}
+
+#[test]
+fn a_hundred_numbers_are_written_and_read(rt: HostRuntime) {
+    let alloc = rt.alloc();
+    assert!(rt; is_so(alloc, UINTS, 0, b"\0\0\0", Uints));
+    assert!(rt; is_so(alloc, UINTS, 0, b"\0\0\0", Vector));
+    assert!(rt; is_so(alloc, INTS, 0, b"\0\0\0", Ints));
+    assert!(rt; is_so(alloc, ULONGS, 0, b"\0\0\0\0\0\0\0", Ulongs));
+    assert!(rt; is_so(alloc, NARROW, 0, b"", Vector));
+    assert!(rt; is_so(alloc, LIST, 1, b"\x52", List));
+}
+
 /// A list or an array is read from the front of the bytes, and 99 behind it.
 fn reads_on(alloc: Global, bytes: &[u8]) -> bool {
     let mut de = Deserializer::new(SliceReader::new(bytes));
     let first = answer_of(&Vec::<u32>::deserialize(alloc, &mut de));
-    let behind = matches!(&u32::deserialize(alloc, &mut de), Ok(99));
+    let behind = is(u32::deserialize(alloc, &mut de), Ok(99));
     first == Taken && behind
 }
 
-/// The same of the bytes with 99 behind them.
-fn goes_on(alloc: Global, bytes: Option<Vec<u8>>) -> bool {
-    match bytes {
+/// An array of a hundred uints is read, and 99 behind it.
+fn goes_on(alloc: Global) -> bool {
+    match counted(alloc, UINTS, 0, b"\0\0\0") {
         Some(bytes) => {
             let mut bytes = bytes;
             let is_longer = bytes.extend_from_slice(b"\x52\x63").is_ok();
@@ -126,18 +157,20 @@ fn goes_on(alloc: Global, bytes: Option<Vec<u8>>) -> bool {
 #[test]
 fn a_refusal_among_many_is_the_first_that_is_called_for(rt: HostRuntime) {
     let alloc = rt.alloc();
-    let uints = counted(alloc, UINTS, 0, b"\0\0\0");
+    assert!(rt; is_so(alloc, UINTS, 0, b"\0\0\0", Front(410, Taken, 410)));
     // two bytes of the seventy-first element
-    assert!(rt; matches!(&uints, Some(bytes) if
-        stops::<Vec<u32>>(alloc, &bytes.as_slice()[..292], UNEXPECTED_EOF, 290)));
-    assert!(rt; matches!(&uints, Some(bytes) if
-        stops::<Vec<i32>>(alloc, bytes.as_slice(), InvalidFormatCode, 10)));
-    assert!(rt; matches!(&uints, Some(bytes) if
-        stops::<Vec<u32>>(alloc, bytes.as_slice(), Taken, 410)));
+    assert!(rt; is_so(alloc, UINTS, 0, b"\0\0\0", Front(292, UNEXPECTED_EOF, 290)));
+    assert!(rt; is_so(alloc, UINTS, 0, b"\0\0\0", AsInts(InvalidFormatCode, 10)));
     // the sixty-seventh element goes past the end
-    let short = counted(alloc, TOO_SHORT, 0, b"\0\0\0");
-    assert!(rt; matches!(&short, Some(bytes) if
-        stops::<Vec<u32>>(alloc, bytes.as_slice(), InvalidValue, 278)));
+    assert!(rt;
+        is_so(
+            alloc,
+            TOO_SHORT,
+            0,
+            b"\0\0\0",
+            Front(410, InvalidValue, 278)
+        )
+    );
     // an item behind the array has a constructor of its own
-    assert!(rt; goes_on(alloc, uints));
+    assert!(rt; goes_on(alloc));
 }

@@ -16,8 +16,7 @@ returns g c =
     let n = c.min-many.result in
     let some : (n ≡ 0 → ⊥) = omega (arith, c.if-many-eq0.false) in
     let step : Takes (g.R.Read.reading c.self.inside.reader) (g.R.Read.reading c.take_at_hand.new.self) c.take_at_hand.new.block = c.take_at_hand.ensures.taken (search rules) in
-    let long : length c.take_at_hand.new.block ≡ n * g.row.W = search rules in
-    (
+    let long : length c.take_at_hand.new.block ≡ n * g.row.W = search rules in (
       p.values,
       rw (← c.self.view_is) (all_read g.T.Typed.meaning g.T.Wide.widest g.row.W n p.values _ _ _ p.meant p.many some record {
         step = step;
