@@ -1,5 +1,5 @@
-//! A file a family of types or calls, written and read; `answer`, `bytes`, `calls`, `printed` and
-//! `puts` hold what the tests of all families call. A row of `calls` or `puts` is one call of the
+//! A file a family of types or calls, written and read; `answer`, `bytes`, `calls`, `made`, `printed`
+//! and `puts` hold what the tests of all families call. A row of `calls` or `puts` is one call of the
 //! codec, which stands there once: its contract is dear in each function that calls it.
 
 mod answer;
@@ -15,6 +15,7 @@ mod fixed;
 mod format_code;
 mod lists;
 mod looks;
+mod made;
 mod many_elements;
 mod map_calls;
 mod maps;

@@ -27,6 +27,11 @@ pub(crate) fn answer_of<T>(outcome: &Result<T, Error>) -> Answer {
     }
 }
 
+/// What a call answered, whose value or refusal is let go here alone.
+pub(crate) fn told<T: Drop>(outcome: Result<T, Error>) -> Answer {
+    answer_of(&outcome)
+}
+
 pub(crate) fn name_of(e: &Error) -> Answer {
     match e {
         Error::Message(_) => Answer::Message,
@@ -41,9 +46,9 @@ pub(crate) fn name_of(e: &Error) -> Answer {
 }
 
 /// The call gave the value.
-pub(crate) fn gave<T: PartialEq>(outcome: &Result<T, Error>, want: &T) -> bool {
+pub(crate) fn gave<T: PartialEq + Drop>(outcome: Result<T, Error>, want: &T) -> bool {
     match outcome {
-        Ok(value) => *value == *want,
+        Ok(value) => value == *want,
         Err(_) => false,
     }
 }

@@ -2,36 +2,48 @@
 //! name of a refusal: a test's proof then carries along neither a value that owns memory nor the
 //! contract of a call.
 
-use super::answer::{Answer, UNEXPECTED_EOF, answer_of, name_of};
-use serde_amqp::primitives::Array;
+use super::answer::{Answer, UNEXPECTED_EOF, gave, is, told};
+use super::made::{array, list};
+use super::puts::puts_value;
 use serde_amqp::{
-    Deserialize, Deserializer, Read, Serialize, Serializer, SliceReader, from_slice,
+    Deserialize, Deserializer, Error, Read, Serialize, Serializer, SliceReader, from_slice,
     serialized_size, to_vec,
 };
 use std::alloc::Global;
 
+/// The vector has these bytes.
+fn has(outcome: Result<Vec<u8>, Error>, bytes: &[u8]) -> bool {
+    match outcome {
+        Ok(text) => text.as_slice() == bytes,
+        Err(_) => false,
+    }
+}
+
 /// The value is written as the bytes, measured first and by a serializer over a vector, and its
 /// size is their number.
 pub(crate) fn is_written_as<T: Serialize>(alloc: Global, value: &T, bytes: &[u8]) -> bool {
-    let is_sized = match serialized_size(alloc, value) {
-        Ok(size) => size == bytes.len(),
-        Err(_) => false,
-    };
-    let is_measured = match to_vec(alloc, value) {
-        Ok(text) => text.as_slice() == bytes,
-        Err(_) => false,
-    };
+    let is_sized = is(serialized_size(alloc, value), Ok(bytes.len()));
+    let is_measured = has(to_vec(alloc, value), bytes);
     let mut ser = Serializer::new(Vec::new(alloc));
-    let is_appended = value.serialize(alloc, &mut ser).is_ok();
+    let is_appended = puts_value(&mut ser, alloc, value) == Answer::Taken;
     is_sized && is_measured && is_appended && ser.writer.as_slice() == bytes
+}
+
+/// The value that was made is written as the bytes.
+pub(crate) fn is_made_as<T: Serialize + Drop>(
+    alloc: Global,
+    made: Option<T>,
+    bytes: &[u8],
+) -> bool {
+    match made {
+        Some(value) => is_written_as(alloc, &value, bytes),
+        None => false,
+    }
 }
 
 /// What the type answers to the bytes.
 fn read<'s, T: Deserialize<SliceReader<'s>>>(alloc: Global, bytes: &'s [u8]) -> Answer {
-    match from_slice::<T>(alloc, bytes) {
-        Ok(_) => Answer::Taken,
-        Err(e) => name_of(&e),
-    }
+    told(from_slice::<T>(alloc, bytes))
 }
 
 /// The type answers this refusal to the bytes.
@@ -49,10 +61,12 @@ pub(crate) fn means<'s, T: Deserialize<SliceReader<'s>> + PartialEq>(
     bytes: &'s [u8],
     value: &T,
 ) -> bool {
-    match from_slice::<T>(alloc, bytes) {
-        Ok(found) => found == *value,
-        Err(_) => false,
-    }
+    gave(from_slice::<T>(alloc, bytes), value)
+}
+
+/// What the type's own call answers.
+fn takes<R: Read, T: Deserialize<R>>(de: &mut Deserializer<R>, alloc: Global) -> Answer {
+    told(T::deserialize(alloc, de))
 }
 
 /// The value stands at the front of the bytes and takes so many of them.
@@ -63,7 +77,7 @@ pub(crate) fn is_front<'s, T: Deserialize<SliceReader<'s>> + PartialEq>(
     taken: usize,
 ) -> bool {
     let mut de = Deserializer::new(SliceReader::new(bytes));
-    let is_taken = T::deserialize(alloc, &mut de).is_ok();
+    let is_taken = takes::<_, T>(&mut de, alloc) == Answer::Taken;
     is_taken && de.into_reader().bytes_consumed() == taken && means(alloc, bytes, value)
 }
 
@@ -120,15 +134,34 @@ pub(crate) fn is_canonical<'s, T: Serialize + Deserialize<SliceReader<'s>> + Par
     is_written_as(alloc, value, bytes) && is_form(alloc, bytes, value)
 }
 
+/// The value that was made is written as the bytes, which are read as the value.
+pub(crate) fn is_made_text<'s, T>(alloc: Global, made: Option<T>, bytes: &'s [u8]) -> bool
+where
+    T: Serialize + Deserialize<SliceReader<'s>> + PartialEq,
+{
+    match made {
+        Some(value) => is_text(alloc, &value, bytes),
+        None => false,
+    }
+}
+
+/// The bytes, all of them, are read as the value that was made.
+pub(crate) fn is_made_read<'s, T>(alloc: Global, made: Option<T>, bytes: &'s [u8]) -> bool
+where
+    T: Deserialize<SliceReader<'s>> + PartialEq,
+{
+    match made {
+        Some(value) => is_read_as(alloc, bytes, &value),
+        None => false,
+    }
+}
+
 /// The list of these elements is written as the bytes, which are read as the list.
 pub(crate) fn is_list<'s, T>(alloc: Global, elements: &[T], bytes: &'s [u8]) -> bool
 where
     T: Copy + Serialize + Deserialize<SliceReader<'s>> + PartialEq,
 {
-    match elements.to_vec(alloc) {
-        Ok(list) => is_text(alloc, &list, bytes),
-        Err(_) => false,
-    }
+    is_made_text(alloc, list(alloc, elements), bytes)
 }
 
 /// The array of these elements is written as the bytes, which are read as the array.
@@ -136,25 +169,25 @@ pub(crate) fn is_array<'s, T>(alloc: Global, elements: &[T], bytes: &'s [u8]) ->
 where
     T: Copy + Serialize + Deserialize<SliceReader<'s>> + PartialEq,
 {
-    match elements.to_vec(alloc) {
-        Ok(list) => is_text(alloc, &Array(list), bytes),
-        Err(_) => false,
-    }
+    is_made_text(alloc, array(list(alloc, elements)), bytes)
 }
 
-/// The value is refused so by each call that writes or measures it.
-pub(crate) fn is_unwritten<T: Serialize>(alloc: Global, value: &T, name: Answer) -> bool {
-    let is_unmeasured = match serialized_size(alloc, value) {
-        Ok(_) => false,
-        Err(e) => name_of(&e) == name,
-    };
-    let is_refused = match to_vec(alloc, value) {
-        Ok(_) => false,
-        Err(e) => name_of(&e) == name,
-    };
-    let mut ser = Serializer::new(Vec::new(alloc));
-    let told = answer_of(&value.serialize(alloc, &mut ser));
-    is_unmeasured && is_refused && told == name && ser.writer.is_empty()
+/// The value that was made is refused so by each call that writes or measures it.
+pub(crate) fn is_unwritten<T: Serialize + Drop>(
+    alloc: Global,
+    made: Option<T>,
+    name: Answer,
+) -> bool {
+    match made {
+        Some(value) => {
+            let is_unmeasured = told(serialized_size(alloc, &value)) == name;
+            let is_refused = told(to_vec(alloc, &value)) == name;
+            let mut ser = Serializer::new(Vec::new(alloc));
+            let is_unput = puts_value(&mut ser, alloc, &value) == name;
+            is_unmeasured && is_refused && is_unput && ser.writer.is_empty()
+        }
+        None => false,
+    }
 }
 
 /// Each value is written as its bytes, which are a form of it.

@@ -1,6 +1,6 @@
 //! What the calls of a deserializer answer, one after the other.
 
-use super::answer::{Answer, answer_of, gave, is, name_of};
+use super::answer::{Answer, gave, is, name_of, told};
 use amqp_base::{EncodingCodes, Error};
 use amqp_de::{Deserialize, Deserializer, ListAccess, MapAccess, SeqAccess};
 use amqp_read::{Read, SliceReader};
@@ -114,8 +114,8 @@ fn is_some_list(outcome: Result<Option<Vec<u32>>, Error>, want: &[u32]) -> bool 
 }
 
 /// The next part of a list or an array is this.
-fn is_part<'s, T: Deserialize<SliceReader<'s>> + Copy + PartialEq>(
-    list: &mut SeqAccess<'_, SliceReader<'s>>,
+fn is_part<R: Read, T: Deserialize<R> + Copy + PartialEq>(
+    list: &mut SeqAccess<'_, R>,
     alloc: Global,
     want: Result<Option<T>, Answer>,
 ) -> bool {
@@ -123,53 +123,56 @@ fn is_part<'s, T: Deserialize<SliceReader<'s>> + Copy + PartialEq>(
 }
 
 /// The same of elements.
-fn is_element<'s, T: Deserialize<SliceReader<'s>> + Copy + PartialEq>(
-    list: &mut ListAccess<'_, SliceReader<'s>>,
+fn is_element<R: Read, T: Deserialize<R> + Copy + PartialEq>(
+    list: &mut ListAccess<'_, R>,
     alloc: Global,
     want: Result<Option<T>, Answer>,
 ) -> bool {
     is(list.next_element::<T>(alloc), want)
 }
 
+/// The part is answered so.
+fn answers_part<R: Read>(list: &mut SeqAccess<'_, R>, alloc: Global, part: Part) -> bool {
+    match part {
+        Part::Uint(want) => is_part(list, alloc, want),
+        Part::Int(want) => is_part(list, alloc, want),
+        Part::Truth(want) => is_part(list, alloc, Ok(Some(want))),
+        Part::Text(want) => is_some_str(list.next_element::<String>(alloc), want),
+        Part::Uints(want) => is_some_list(list.next_element::<Vec<u32>>(alloc), want),
+        Part::NoDecimal(want) => told(list.next_element::<Dec32>(alloc)) == want,
+    }
+}
+
 /// The parts are answered so.
-fn are_parts(list: &mut SeqAccess<'_, SliceReader<'_>>, alloc: Global, parts: &[Part]) -> bool {
+fn are_parts<R: Read>(list: &mut SeqAccess<'_, R>, alloc: Global, parts: &[Part]) -> bool {
     let mut is_so = true;
     for part in parts {
-        is_so = is_so
-            && match *part {
-                Part::Uint(want) => is_part(list, alloc, want),
-                Part::Int(want) => is_part(list, alloc, want),
-                Part::Truth(want) => is_part(list, alloc, Ok(Some(want))),
-                Part::Text(want) => is_some_str(list.next_element::<String>(alloc), want),
-                Part::Uints(want) => is_some_list(list.next_element::<Vec<u32>>(alloc), want),
-                Part::NoDecimal(want) => answer_of(&list.next_element::<Dec32>(alloc)) == want,
-            };
+        is_so = answers_part(list, alloc, *part) && is_so;
     }
     is_so
 }
 
-/// The same of elements.
-fn are_elements(list: &mut ListAccess<'_, SliceReader<'_>>, alloc: Global, parts: &[Part]) -> bool {
+/// The element is answered so.
+fn answers_element<R: Read>(list: &mut ListAccess<'_, R>, alloc: Global, part: Part) -> bool {
+    match part {
+        Part::Uint(want) => is_element(list, alloc, want),
+        Part::Int(want) => is_element(list, alloc, want),
+        Part::Truth(want) => is_element(list, alloc, Ok(Some(want))),
+        Part::Text(_) | Part::Uints(_) | Part::NoDecimal(_) => false,
+    }
+}
+
+/// The elements are answered so.
+fn are_elements<R: Read>(list: &mut ListAccess<'_, R>, alloc: Global, parts: &[Part]) -> bool {
     let mut is_so = true;
     for part in parts {
-        is_so = is_so
-            && match *part {
-                Part::Uint(want) => is_element(list, alloc, want),
-                Part::Int(want) => is_element(list, alloc, want),
-                Part::Truth(want) => is_element(list, alloc, Ok(Some(want))),
-                Part::Text(_) | Part::Uints(_) | Part::NoDecimal(_) => false,
-            };
+        is_so = answers_element(list, alloc, *part) && is_so;
     }
     is_so
 }
 
 /// The open list or array answers so, and its end.
-fn reads_seq(
-    list: SeqAccess<'_, SliceReader<'_>>,
-    alloc: Global,
-    parts: &[Part],
-    end: End,
-) -> bool {
+fn reads_seq<R: Read>(list: SeqAccess<'_, R>, alloc: Global, parts: &[Part], end: End) -> bool {
     match end {
         End::Dropped => {
             let mut list = list;
@@ -180,27 +183,27 @@ fn reads_seq(
         End::Ended(want) => {
             let mut list = list;
             let is_so = are_parts(&mut list, alloc, parts);
-            answer_of(&list.end()) == want && is_so
+            told(list.end()) == want && is_so
         }
         End::Elements(want) => reads_elements(list.into_elements(), alloc, parts, want),
     }
 }
 
 /// The open elements answer so, and their end.
-fn reads_elements(
-    list: ListAccess<'_, SliceReader<'_>>,
+fn reads_elements<R: Read>(
+    list: ListAccess<'_, R>,
     alloc: Global,
     parts: &[Part],
     end: Answer,
 ) -> bool {
     let mut list = list;
     let is_so = are_elements(&mut list, alloc, parts);
-    answer_of(&list.end()) == end && is_so
+    told(list.end()) == end && is_so
 }
 
 /// The next key is this.
-fn is_key(
-    map: &mut MapAccess<'_, SliceReader<'_>>,
+fn is_key<R: Read>(
+    map: &mut MapAccess<'_, R>,
     alloc: Global,
     want: Result<Option<u32>, Answer>,
 ) -> bool {
@@ -208,8 +211,8 @@ fn is_key(
 }
 
 /// The value of the key is this.
-fn is_value(
-    map: &mut MapAccess<'_, SliceReader<'_>>,
+fn is_value<R: Read>(
+    map: &mut MapAccess<'_, R>,
     alloc: Global,
     want: Result<bool, Answer>,
 ) -> bool {
@@ -217,7 +220,7 @@ fn is_value(
 }
 
 /// The keys and values are answered so.
-fn are_pairs(map: &mut MapAccess<'_, SliceReader<'_>>, alloc: Global, pairs: &[Pair]) -> bool {
+fn are_pairs<R: Read>(map: &mut MapAccess<'_, R>, alloc: Global, pairs: &[Pair]) -> bool {
     let mut is_so = true;
     for pair in pairs {
         is_so = is_so
@@ -230,21 +233,16 @@ fn are_pairs(map: &mut MapAccess<'_, SliceReader<'_>>, alloc: Global, pairs: &[P
 }
 
 /// The open map answers so, and its end.
-fn reads_map(
-    map: MapAccess<'_, SliceReader<'_>>,
-    alloc: Global,
-    pairs: &[Pair],
-    end: Answer,
-) -> bool {
+fn reads_map<R: Read>(map: MapAccess<'_, R>, alloc: Global, pairs: &[Pair], end: Answer) -> bool {
     let mut map = map;
     let is_so = are_pairs(&mut map, alloc, pairs);
-    answer_of(&map.end()) == end && is_so
+    told(map.end()) == end && is_so
 }
 
 /// Whether what is opened is an array, or else a list, and answers so; or the refusal of the
 /// opening.
-fn opens(
-    de: &mut Deserializer<SliceReader<'_>>,
+fn opens<R: Read>(
+    de: &mut Deserializer<R>,
     alloc: Global,
     is_array: bool,
     parts: &[Part],
@@ -259,60 +257,104 @@ fn opens(
     }
 }
 
-/// The call of a value without a length is answered so.
-fn is_fixed(de: &mut Deserializer<SliceReader<'_>>, call: Call) -> bool {
+/// The call of an unsigned number is answered so.
+fn is_unsigned<R: Read>(de: &mut Deserializer<R>, call: Call) -> bool {
     match call {
-        Call::Unit => de.deserialize_unit().is_ok(),
-        Call::UnitStruct => de.deserialize_unit_struct("Nothing").is_ok(),
-        Call::Truth(want) => is(de.deserialize_bool(), want),
-        Call::Char(want) => is(de.deserialize_char(), Ok(want)),
         Call::Ubyte(want) => is(de.deserialize_u8(), Ok(want)),
         Call::Ushort(want) => is(de.deserialize_u16(), Ok(want)),
         Call::Uint(want) => is(de.deserialize_u32(), want),
         Call::Ulong(want) => is(de.deserialize_u64(), Ok(want)),
-        Call::Byte(want) => is(de.deserialize_i8(), Ok(want)),
-        Call::Short(want) => is(de.deserialize_i16(), Ok(want)),
-        Call::Int(want) => is(de.deserialize_i32(), want),
-        Call::Long(want) => is(de.deserialize_i64(), Ok(want)),
-        Call::Float(want) => is(de.deserialize_f32(), Ok(Float::from_bits(want))),
-        Call::Double(want) => is(de.deserialize_f64(), Ok(Double::from_bits(want))),
-        Call::Milliseconds(want) => gave(&de.deserialize_timestamp(), &Timestamp::from(want)),
-        Call::Uuid(want) => gave(&de.deserialize_uuid(), &Uuid::from(want)),
         _ => false,
     }
 }
 
-/// The call is answered so.
-fn answers(de: &mut Deserializer<SliceReader<'_>>, alloc: Global, call: Call) -> bool {
+/// The call of a number is answered so.
+fn is_number<R: Read>(de: &mut Deserializer<R>, call: Call) -> bool {
+    match call {
+        Call::Byte(want) => is(de.deserialize_i8(), Ok(want)),
+        Call::Short(want) => is(de.deserialize_i16(), Ok(want)),
+        Call::Int(want) => is(de.deserialize_i32(), want),
+        Call::Long(want) => is(de.deserialize_i64(), Ok(want)),
+        _ => is_unsigned(de, call),
+    }
+}
+
+/// The call of a value of so many bytes is answered so.
+fn is_fixed<R: Read>(de: &mut Deserializer<R>, call: Call) -> bool {
+    match call {
+        Call::Float(want) => is(de.deserialize_f32(), Ok(Float::from_bits(want))),
+        Call::Double(want) => is(de.deserialize_f64(), Ok(Double::from_bits(want))),
+        Call::Milliseconds(want) => gave(de.deserialize_timestamp(), &Timestamp::from(want)),
+        Call::Uuid(want) => gave(de.deserialize_uuid(), &Uuid::from(want)),
+        _ => is_number(de, call),
+    }
+}
+
+/// The call of a value without a length is answered so.
+fn is_scalar<R: Read>(de: &mut Deserializer<R>, call: Call) -> bool {
+    match call {
+        Call::Unit => told(de.deserialize_unit()) == Answer::Taken,
+        Call::UnitStruct => told(de.deserialize_unit_struct("Nothing")) == Answer::Taken,
+        Call::Truth(want) => is(de.deserialize_bool(), want),
+        Call::Char(want) => is(de.deserialize_char(), Ok(want)),
+        _ => is_fixed(de, call),
+    }
+}
+
+/// The call of a payload or a newtype is answered so.
+fn is_payload<R: Read>(de: &mut Deserializer<R>, alloc: Global, call: Call) -> bool {
     match call {
         Call::Bytes(want) => are_bytes(de.deserialize_byte_buf(alloc), want),
         Call::Text(want) => is_str(de.deserialize_string(alloc), want),
         Call::Symbol(want) => is_str(de.deserialize_symbol(alloc), Ok(want)),
-        Call::Code(want) => is(de.deserialize_any(), want),
-        Call::Newtype(want) => { is(de.deserialize_newtype_struct::<i32>(alloc, "Celsius"), want) }
+        Call::Newtype(want) => is(de.deserialize_newtype_struct::<i32>(alloc, "Celsius"), want),
         Call::NewtypeList(want) => {
             is_list(
                 de.deserialize_newtype_struct::<Vec<u32>>(alloc, "Celsius"),
                 want,
             )
         }
+        _ => is_scalar(de, call),
+    }
+}
+
+/// The tuple is opened and answers so.
+fn is_tuple<R: Read>(
+    de: &mut Deserializer<R>,
+    alloc: Global,
+    len: usize,
+    parts: &[Part],
+    end: Answer,
+) -> bool {
+    match de.deserialize_tuple(len) {
+        Ok(list) => reads_elements(list, alloc, parts, end),
+        Err(_) => false,
+    }
+}
+
+/// The map is opened and answers so.
+fn is_map<R: Read>(de: &mut Deserializer<R>, alloc: Global, pairs: &[Pair], end: Answer) -> bool {
+    match de.deserialize_map() {
+        Ok(map) => reads_map(map, alloc, pairs, end),
+        Err(_) => false,
+    }
+}
+
+/// The call is answered so.
+fn answers<R: Read>(de: &mut Deserializer<R>, alloc: Global, call: Call) -> bool {
+    match call {
+        Call::Code(want) => is(de.deserialize_any(), want),
         Call::NoList(want) => opens(de, alloc, false, &[], End::Dropped) == Err(want),
         Call::List(parts, end) => opens(de, alloc, false, parts, end) == Ok(true),
         Call::Array(parts, end) => opens(de, alloc, true, parts, end) == Ok(true),
-        Call::Tuple(len, parts, end) => match de.deserialize_tuple(len) {
-            Ok(list) => reads_elements(list, alloc, parts, end),
-            Err(_) => false,
-        },
-        Call::Map(pairs, end) => match de.deserialize_map() {
-            Ok(map) => reads_map(map, alloc, pairs, end),
-            Err(_) => false,
-        },
-        _ => is_fixed(de, call),
+        Call::Tuple(len, parts, end) => is_tuple(de, alloc, len, parts, end),
+        Call::Map(pairs, end) => is_map(de, alloc, pairs, end),
+        _ => is_payload(de, alloc, call),
     }
 }
 
 /// The calls are answered so, one after the other.
-fn are_answered(de: &mut Deserializer<SliceReader<'_>>, alloc: Global, calls: &[Call]) -> bool {
+fn are_answered<R: Read>(de: &mut Deserializer<R>, alloc: Global, calls: &[Call]) -> bool {
     let mut is_so = true;
     for call in calls {
         is_so = answers(de, alloc, *call) && is_so;
@@ -325,6 +367,15 @@ pub(crate) fn goes(alloc: Global, bytes: &[u8], calls: &[Call], taken: usize) ->
     let mut de = Deserializer::new(SliceReader::new(bytes));
     let is_so = are_answered(&mut de, alloc, calls);
     de.into_reader().bytes_consumed() == taken && is_so
+}
+
+/// Each row of bytes goes so.
+pub(crate) fn all_go(alloc: Global, rows: &[(&[u8], &[Call], usize)]) -> bool {
+    let mut is_so = true;
+    for (bytes, calls, taken) in rows {
+        is_so = goes(alloc, bytes, calls, *taken) && is_so;
+    }
+    is_so
 }
 
 const BEHIND: Answer = Answer::InvalidValue;
@@ -345,4 +396,13 @@ pub(crate) fn ends(alloc: Global, bytes: &[u8], calls: &[Call], taken: usize) ->
     let is_so = are_answered(&mut de, alloc, calls);
     let is_ended = are_answered(&mut de, alloc, REFUSED);
     de.into_reader().bytes_consumed() == taken && is_so && is_ended
+}
+
+/// Each row of bytes ends so.
+pub(crate) fn all_end(alloc: Global, rows: &[(&[u8], &[Call], usize)]) -> bool {
+    let mut is_so = true;
+    for (bytes, calls, taken) in rows {
+        is_so = ends(alloc, bytes, calls, *taken) && is_so;
+    }
+    is_so
 }

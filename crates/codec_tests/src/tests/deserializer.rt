@@ -2,74 +2,108 @@
 //! or a dropped access.
 
 use super::answer::{Answer, UNEXPECTED_EOF};
-use super::calls::{Call, End, Part, ends, goes};
+use super::calls::{Call, End, Part, all_end, all_go};
 use Call::{Code, Int, List, Newtype, NewtypeList, NoList, Text, Uint};
 use amqp_base::EncodingCodes;
-use std::alloc::Global;
 
 const OTHER: Answer = Answer::InvalidFormatCode;
 
 const BEHIND: Answer = Answer::InvalidValue;
 
-#[test]
-fn items_are_read_one_after_the_other(rt: HostRuntime) {
-    let alloc = rt.alloc();
-    let bytes = b"\x70\x00\x00\x00\xff\x54\xff\xa1\x02hi\x43\x40";
-    let items = [Uint(Ok(255)), Int(Ok(-1)), Text(Ok("hi")), Uint(Ok(0))];
-    // bytes behind the items stay
-    assert!(rt; goes(alloc, bytes, &items, 12));
-}
+/// Items one after the other; bytes behind them stay. A newtype is a number or a list.
+const ITEMS: &[(&[u8], &[Call], usize)] = &[
+    (
+        b"\x70\x00\x00\x00\xff\x54\xff\xa1\x02hi\x43\x40",
+        &[Uint(Ok(255)), Int(Ok(-1)), Text(Ok("hi")), Uint(Ok(0))],
+        12,
+    ),
+    (
+        b"\x54\xfe\xc0\x02\x01\x43\x43",
+        &[Newtype(Ok(-2)), NewtypeList(&[0])],
+        6,
+    ),
+];
 
 #[test]
-fn a_newtype_struct_is_its_value(rt: HostRuntime) {
-    let alloc = rt.alloc();
-    // a number and a list
-    let items = [Newtype(Ok(-2)), NewtypeList(&[0])];
-    assert!(rt; goes(alloc, b"\x54\xfe\xc0\x02\x01\x43\x43", &items, 6));
-    // another item is refused, and all that follows
-    assert!(rt; ends(alloc, b"\x43\x43", &[Newtype(Err(OTHER))], 1));
+fn items_are_read_one_after_the_other(rt: HostRuntime) {
+    assert!(rt; all_go(rt.alloc(), ITEMS));
 }
 
 /// The code is ahead, also when asked again.
-fn stays(alloc: Global, bytes: &[u8], code: EncodingCodes) -> bool {
-    goes(alloc, bytes, &[Code(Ok(code)), Code(Ok(code))], 0)
-}
+const LOOKS: &[(&[u8], &[Call], usize)] = &[
+    (
+        b"\x43",
+        &[
+            Code(Ok(EncodingCodes::Uint0)),
+            Code(Ok(EncodingCodes::Uint0)),
+        ],
+        0,
+    ),
+    (
+        b"\x54\x05",
+        &[
+            Code(Ok(EncodingCodes::SmallInt)),
+            Code(Ok(EncodingCodes::SmallInt)),
+        ],
+        0,
+    ),
+    (
+        b"\xa1\x02hi",
+        &[Code(Ok(EncodingCodes::Str8)), Code(Ok(EncodingCodes::Str8))],
+        0,
+    ),
+    (
+        b"\xe0\x01\x00",
+        &[
+            Code(Ok(EncodingCodes::Array8)),
+            Code(Ok(EncodingCodes::Array8)),
+        ],
+        0,
+    ),
+    (
+        b"\x00\x53\x13\x45",
+        &[
+            Code(Ok(EncodingCodes::DescribedType)),
+            Code(Ok(EncodingCodes::DescribedType)),
+        ],
+        0,
+    ),
+    // behind a code that is none, nothing is ahead
+    (b"\x57", &[Code(Err(OTHER)), Code(Err(BEHIND))], 0),
+    // the item is still there behind a look; behind all items a look is refused
+    (
+        b"\x54\x05",
+        &[
+            Code(Ok(EncodingCodes::SmallInt)),
+            Int(Ok(5)),
+            Code(Err(UNEXPECTED_EOF)),
+            Code(Err(BEHIND)),
+        ],
+        2,
+    ),
+];
 
 #[test]
 fn a_look_at_a_format_code_consumes_nothing(rt: HostRuntime) {
-    let alloc = rt.alloc();
-    assert!(rt; stays(alloc, b"\x43", EncodingCodes::Uint0));
-    assert!(rt; stays(alloc, b"\x54\x05", EncodingCodes::SmallInt));
-    assert!(rt; stays(alloc, b"\xa1\x02hi", EncodingCodes::Str8));
-    assert!(rt; stays(alloc, b"\xe0\x01\x00", EncodingCodes::Array8));
-    assert!(rt; stays(alloc, b"\x00\x53\x13\x45", EncodingCodes::DescribedType));
-    // behind a code that is none, nothing is ahead
-    assert!(rt; goes(alloc, b"\x57", &[Code(Err(OTHER)), Code(Err(BEHIND))], 0));
-    // the item is still there behind a look; behind all items a look is refused
-    let looks = [
-        Code(Ok(EncodingCodes::SmallInt)),
-        Int(Ok(5)),
-        Code(Err(UNEXPECTED_EOF)),
-        Code(Err(BEHIND)),
-    ];
-    assert!(rt; goes(alloc, b"\x54\x05", &looks, 2));
+    assert!(rt; all_go(rt.alloc(), LOOKS));
 }
+
+/// What is refused, and so all that follows.
+const REFUSED: &[(&[u8], &[Call], usize)] = &[
+    (b"\x43\x43", &[Newtype(Err(OTHER))], 1),
+    (b"\x43\x57\x43\x43", &[Uint(Ok(0)), Uint(Err(OTHER))], 2),
+    (b"\x43\x57\x43\x43", &[Int(Err(OTHER))], 1),
+    (
+        b"\xa1\x01\xff\x43",
+        &[Text(Err(Answer::InvalidUtf8Encoding))],
+        3,
+    ),
+    (b"\x57\x43", &[Code(Err(OTHER))], 0),
+];
 
 #[test]
 fn nothing_is_read_behind_a_refusal(rt: HostRuntime) {
-    let alloc = rt.alloc();
-    assert!(rt;
-        ends(
-            alloc,
-            b"\x43\x57\x43\x43",
-            &[Uint(Ok(0)), Uint(Err(OTHER))],
-            2
-        )
-    );
-    assert!(rt; ends(alloc, b"\x43\x57\x43\x43", &[Int(Err(OTHER))], 1));
-    let no_text = Err(Answer::InvalidUtf8Encoding);
-    assert!(rt; ends(alloc, b"\xa1\x01\xff\x43", &[Text(no_text)], 3));
-    assert!(rt; ends(alloc, b"\x57\x43", &[Code(Err(OTHER))], 0));
+    assert!(rt; all_end(rt.alloc(), REFUSED));
 }
 
 const ZERO: Part = Part::Uint(Ok(Some(0)));
@@ -84,37 +118,43 @@ const INT_BEHIND_UINT: &[Part] = &[Part::Uint(Err(OTHER)), Part::Int(Err(BEHIND)
 /// the access that reads it as a part.
 const ITS_OWN: &[Part] = &[Part::NoDecimal(Answer::Message), Part::Uint(Err(BEHIND))];
 
+const UNREAD: Answer = Answer::SequenceLengthMismatch;
+
+/// A list is not opened, is dropped, or is ended before its end or behind a refusal.
+const UNENDED: &[(&[u8], &[Call], usize)] = &[
+    (b"\xc0\x00\x00\x43", &[NoList(Answer::InvalidLength)], 3),
+    // dropped before its end and behind its elements, ended behind the first of two and before one
+    (b"\x45\x43", &[List(&[], End::Dropped)], 1),
+    (b"\xc0\x02\x01\x43\x43", &[List(&[ZERO], End::Dropped)], 4),
+    (
+        b"\xc0\x03\x02\x43\x43\x43",
+        &[List(&[ZERO], End::Ended(UNREAD))],
+        4,
+    ),
+    (
+        b"\xc0\x02\x01\x43\x43",
+        &[List(&[], End::Elements(UNREAD))],
+        3,
+    ),
+    // ended behind a refused part, and behind a refused element
+    (
+        b"\xc0\x03\x02\x54\x05\x43\x43",
+        &[List(INT_FOR_UINT, End::Ended(BEHIND))],
+        4,
+    ),
+    (
+        b"\xc0\x02\x01\x54\x05\x43",
+        &[List(INT_BEHIND_UINT, End::Elements(BEHIND))],
+        4,
+    ),
+    (
+        b"\xc0\x02\x02\x84\x43\x43",
+        &[List(ITS_OWN, End::Ended(BEHIND))],
+        3,
+    ),
+];
+
 #[test]
 fn nothing_is_read_behind_a_list_that_was_not_read_to_its_end(rt: HostRuntime) {
-    let alloc = rt.alloc();
-    assert!(rt;
-        ends(
-            alloc,
-            b"\xc0\x00\x00\x43",
-            &[NoList(Answer::InvalidLength)],
-            3
-        )
-    );
-    // dropped before its end and behind its elements, ended behind the first of two and before one
-    let unread = Answer::SequenceLengthMismatch;
-    assert!(rt; ends(alloc, b"\x45\x43", &[List(&[], End::Dropped)], 1));
-    assert!(rt;
-        ends(
-            alloc,
-            b"\xc0\x02\x01\x43\x43",
-            &[List(&[ZERO], End::Dropped)],
-            4
-        )
-    );
-    let first = List(&[ZERO], End::Ended(unread));
-    assert!(rt; ends(alloc, b"\xc0\x03\x02\x43\x43\x43", &[first], 4));
-    let none = List(&[], End::Elements(unread));
-    assert!(rt; ends(alloc, b"\xc0\x02\x01\x43\x43", &[none], 3));
-    // ended behind a refused part, and behind a refused element
-    let part = List(INT_FOR_UINT, End::Ended(BEHIND));
-    assert!(rt; ends(alloc, b"\xc0\x03\x02\x54\x05\x43\x43", &[part], 4));
-    let element = List(INT_BEHIND_UINT, End::Elements(BEHIND));
-    assert!(rt; ends(alloc, b"\xc0\x02\x01\x54\x05\x43", &[element], 4));
-    let decimal = List(ITS_OWN, End::Ended(BEHIND));
-    assert!(rt; ends(alloc, b"\xc0\x02\x02\x84\x43\x43", &[decimal], 3));
+    assert!(rt; all_end(rt.alloc(), UNENDED));
 }

@@ -8,13 +8,18 @@ use amqp_types::{
 };
 use std::alloc::Global;
 
+/// An empty array is read.
+fn reads_empty<R: Read, T: Deserialize<R>>(de: &mut Deserializer<R>, alloc: Global) -> bool {
+    match Array::<T>::deserialize(alloc, de) {
+        Ok(array) => array.is_empty(),
+        Err(_) => false,
+    }
+}
+
 /// All of the bytes are read as an empty array.
 fn is_empty<T: Deserialize<SliceReader<'static>>>(alloc: Global, bytes: &'static [u8]) -> bool {
     let mut de = Deserializer::new(SliceReader::new(bytes));
-    let is_none = match Array::<T>::deserialize(alloc, &mut de) {
-        Ok(array) => array.is_empty(),
-        Err(_) => false,
-    };
+    let is_none = reads_empty::<_, T>(&mut de, alloc);
     is_none && de.into_reader().bytes_consumed() == bytes.len()
 }
 

@@ -1,18 +1,18 @@
 //! Floats, decimals, timestamps and uuids, whose data are so many bytes.
 
-use super::answer::{Answer, answer_of, gave};
+use super::answer::{Answer, gave, told};
 use super::bytes::has_forms;
 use super::calls::{Call, goes};
 use super::puts::{Put, writes};
 use amqp_de::Deserializer;
-use amqp_read::SliceReader;
+use amqp_read::{Read, SliceReader};
 use amqp_types::{Dec32, Dec64, Dec128, Decimal, Double, Float, Timestamp, Uuid};
 
 /// Bytes of another kind.
 const OTHER: Answer = Answer::InvalidFormatCode;
 
 #[test]
-fn float_and_double_have_one_constructor(rt: HostRuntime) {
+fn float_has_one_constructor(rt: HostRuntime) {
     let alloc = rt.alloc();
     let floats: &[(Float, &[u8])] = &[
         (Float::from_bits(0), b"\x72\x00\x00\x00\x00"),
@@ -21,6 +21,11 @@ fn float_and_double_have_one_constructor(rt: HostRuntime) {
         (Float::from_bits(0xffff_ffff), b"\x72\xff\xff\xff\xff"),
     ];
     assert!(rt; has_forms(alloc, floats, &[], &[(b"\x82\x00", OTHER)]));
+}
+
+#[test]
+fn double_has_one_constructor(rt: HostRuntime) {
+    let alloc = rt.alloc();
     let doubles: &[(Double, &[u8])] = &[
         (
             Double::from_bits(0),
@@ -42,8 +47,16 @@ fn float_and_double_have_one_constructor(rt: HostRuntime) {
     assert!(rt; has_forms(alloc, doubles, &[], &[(b"\x72\x00\x00\x00\x00", OTHER)]));
 }
 
+const NOT_DECIMAL32: &[(&[u8], Answer)] = &[
+    (b"\x72\x00\x00\x00\x00", OTHER),
+    // decimals of another width
+    (b"\x84\x00\x00\x00\x00\x00\x00\x00\x00", Answer::Message),
+    (b"\x84", Answer::Message),
+    (b"\x94", Answer::Message),
+];
+
 #[test]
-fn decimals_have_one_constructor_each(rt: HostRuntime) {
+fn decimal32_has_one_constructor(rt: HostRuntime) {
     let alloc = rt.alloc();
     let narrow: &[(Dec32, &[u8])] = &[
         (Dec32::from([0; 4]), b"\x74\x00\x00\x00\x00"),
@@ -51,14 +64,18 @@ fn decimals_have_one_constructor_each(rt: HostRuntime) {
         (Dec32::from(*b"1234"), b"\x741234"),
         (Dec32::from([0xff; 4]), b"\x74\xff\xff\xff\xff"),
     ];
-    let not_narrow: &[(&[u8], Answer)] = &[
-        (b"\x72\x00\x00\x00\x00", OTHER),
-        // decimals of another width
-        (b"\x84\x00\x00\x00\x00\x00\x00\x00\x00", Answer::Message),
-        (b"\x84", Answer::Message),
-        (b"\x94", Answer::Message),
-    ];
-    assert!(rt; has_forms(alloc, narrow, &[], not_narrow));
+    assert!(rt; has_forms(alloc, narrow, &[], NOT_DECIMAL32));
+}
+
+const NOT_DECIMAL64: &[(&[u8], Answer)] = &[
+    (b"\x82", OTHER),
+    (b"\x74", Answer::Message),
+    (b"\x94", Answer::Message),
+];
+
+#[test]
+fn decimal64_has_one_constructor(rt: HostRuntime) {
+    let alloc = rt.alloc();
     let middle: &[(Dec64, &[u8])] = &[
         (Dec64::from([0; 8]), b"\x84\x00\x00\x00\x00\x00\x00\x00\x00"),
         (
@@ -71,12 +88,18 @@ fn decimals_have_one_constructor_each(rt: HostRuntime) {
             b"\x84\xff\xff\xff\xff\xff\xff\xff\xff",
         ),
     ];
-    let not_middle: &[(&[u8], Answer)] = &[
-        (b"\x82", OTHER),
-        (b"\x74", Answer::Message),
-        (b"\x94", Answer::Message),
-    ];
-    assert!(rt; has_forms(alloc, middle, &[], not_middle));
+    assert!(rt; has_forms(alloc, middle, &[], NOT_DECIMAL64));
+}
+
+const NOT_DECIMAL128: &[(&[u8], Answer)] = &[
+    (b"\x98", OTHER),
+    (b"\x74", Answer::Message),
+    (b"\x84", Answer::Message),
+];
+
+#[test]
+fn decimal128_has_one_constructor(rt: HostRuntime) {
+    let alloc = rt.alloc();
     let wide: &[(Dec128, &[u8])] = &[
         (
             Dec128::from([0; 16]),
@@ -92,16 +115,11 @@ fn decimals_have_one_constructor_each(rt: HostRuntime) {
             b"\x94\xff\xff\xff\xff\xff\xff\xff\xff\xff\xff\xff\xff\xff\xff\xff\xff",
         ),
     ];
-    let not_wide: &[(&[u8], Answer)] = &[
-        (b"\x98", OTHER),
-        (b"\x74", Answer::Message),
-        (b"\x84", Answer::Message),
-    ];
-    assert!(rt; has_forms(alloc, wide, &[], not_wide));
+    assert!(rt; has_forms(alloc, wide, &[], NOT_DECIMAL128));
 }
 
 #[test]
-fn timestamp_and_uuid_have_one_constructor(rt: HostRuntime) {
+fn timestamp_has_one_constructor(rt: HostRuntime) {
     let alloc = rt.alloc();
     let timestamps: &[(Timestamp, &[u8])] = &[
         (
@@ -115,6 +133,11 @@ fn timestamp_and_uuid_have_one_constructor(rt: HostRuntime) {
         ),
     ];
     assert!(rt; has_forms(alloc, timestamps, &[], &[(b"\x81\x00", OTHER)]));
+}
+
+#[test]
+fn uuid_has_one_constructor(rt: HostRuntime) {
+    let alloc = rt.alloc();
     let uuids: &[(Uuid, &[u8])] = &[
         (
             Uuid::from([0; 16]),
@@ -133,38 +156,46 @@ fn timestamp_and_uuid_have_one_constructor(rt: HostRuntime) {
     assert!(rt; has_forms(alloc, uuids, &[], &[(b"\x94", OTHER)]));
 }
 
+const WRITTEN: &[Put<'static>] = &[
+    Put::Float(1),
+    Put::Double(1),
+    Put::Milliseconds(1),
+    Put::Uuid(*b"0123456789abcdef"),
+    Put::Dec32(*b"1234"),
+    Put::Dec64(*b"12345678"),
+    Put::Dec128(*b"0123456789abcdef"),
+];
+
 #[test]
 fn values_are_written_by_name(rt: HostRuntime) {
-    let items = [
-        Put::Float(1),
-        Put::Double(1),
-        Put::Milliseconds(1),
-        Put::Uuid(*b"0123456789abcdef"),
-        Put::Dec32(*b"1234"),
-        Put::Dec64(*b"12345678"),
-        Put::Dec128(*b"0123456789abcdef"),
-    ];
-    let bytes =
-        b"\x72\x00\x00\x00\x01\x82\x00\x00\x00\x00\x00\x00\x00\x01\x83\x00\x00\x00\x00\x00\x00\x00\x01\x980123456789abcdef\x741234\x8412345678\x940123456789abcdef";
-    assert!(rt; writes(rt.alloc(), &items, bytes));
+    let bytes = b"\x72\x00\x00\x00\x01\x82\x00\x00\x00\x00\x00\x00\x00\x01\
+        \x83\x00\x00\x00\x00\x00\x00\x00\x01\x980123456789abcdef\
+        \x741234\x8412345678\x940123456789abcdef";
+    assert!(rt; writes(rt.alloc(), WRITTEN, bytes));
 }
+
+const READ: &[Call] = &[
+    Call::Float(0x8000_0000),
+    Call::Milliseconds(-2),
+    Call::Double(0x7ff0_0000_0000_0001),
+    Call::Uuid(*b"abcdefghijklmnop"),
+];
 
 #[test]
 fn values_are_read_by_name(rt: HostRuntime) {
-    let items = [
-        Call::Float(0x8000_0000),
-        Call::Milliseconds(-2),
-        Call::Double(0x7ff0_0000_0000_0001),
-        Call::Uuid(*b"abcdefghijklmnop"),
-    ];
-    let bytes =
-        b"\x72\x80\x00\x00\x00\x83\xff\xff\xff\xff\xff\xff\xff\xfe\x82\x7f\xf0\x00\x00\x00\x00\x00\x01\x98abcdefghijklmnop";
-    assert!(rt; goes(rt.alloc(), bytes, &items, 40));
+    let bytes = b"\x72\x80\x00\x00\x00\x83\xff\xff\xff\xff\xff\xff\xff\xfe\
+        \x82\x7f\xf0\x00\x00\x00\x00\x00\x01\x98abcdefghijklmnop";
+    assert!(rt; goes(rt.alloc(), bytes, READ, 40));
 }
 
 /// The next decimal is this.
-fn is_decimal(de: &mut Deserializer<SliceReader<'_>>, want: &Decimal) -> bool {
-    gave(&de.deserialize_decimal(), want)
+fn is_decimal<R: Read>(de: &mut Deserializer<R>, want: &Decimal) -> bool {
+    gave(de.deserialize_decimal(), want)
+}
+
+/// The next decimal is refused so.
+fn refuses_decimal<R: Read>(de: &mut Deserializer<R>, name: Answer) -> bool {
+    told(de.deserialize_decimal()) == name
 }
 
 #[test]
@@ -179,5 +210,5 @@ fn decimals_of_every_width_are_read_by_one_call(rt: HostRuntime) {
             &Decimal::Dec128(Dec128::from(*b"abcdefghijklmnop"))
         )
     );
-    assert!(rt; answer_of(&de.deserialize_decimal()) == Answer::InvalidFormatCode);
+    assert!(rt; refuses_decimal(&mut de, Answer::InvalidFormatCode));
 }

@@ -12,18 +12,20 @@ const PRIMITIVE: [u8; 39] = [
     0x45, 0xc0, 0xd0, 0xc1, 0xd1, 0xe0, 0xf0,
 ];
 
+const PRINTED: &[(EncodingCodes, &str)] = &[
+    (EncodingCodes::Vbin8, "Vbin8:0xa0"),
+    (EncodingCodes::Null, "Null:0x40"),
+    (EncodingCodes::DescribedType, "DescribedType:0x0"),
+    (EncodingCodes::SmallUlong, "SmallUlong:0x53"),
+    (EncodingCodes::Decimal128, "Decimal128:0x94"),
+    (EncodingCodes::Array32, "Array32:0xf0"),
+];
+
 #[test]
 fn a_code_prints_its_name_and_byte(rt: HostRuntime) {
     let alloc = rt.alloc();
-    for (code, text) in [
-        (EncodingCodes::Vbin8, "Vbin8:0xa0"),
-        (EncodingCodes::Null, "Null:0x40"),
-        (EncodingCodes::DescribedType, "DescribedType:0x0"),
-        (EncodingCodes::SmallUlong, "SmallUlong:0x53"),
-        (EncodingCodes::Decimal128, "Decimal128:0x94"),
-        (EncodingCodes::Array32, "Array32:0xf0"),
-    ] {
-        assert!(rt; prints(alloc, &code, text), "{text}");
+    for (code, text) in PRINTED {
+        assert!(rt; prints(alloc, code, text), "{text}");
     }
     let is_named = match format!(in alloc; "{:?}", EncodingCodes::Vbin8) {
         Ok(printed) => printed.as_str() == "Vbin8",
@@ -61,6 +63,14 @@ fn is_code(byte: u8, category: Result<Category, IsDescribed>) -> bool {
     }
 }
 
+/// The byte is no code's.
+fn is_refused(byte: u8) -> bool {
+    match EncodingCodes::try_from(byte) {
+        Ok(_) => false,
+        Err(e) => name_of(&e) == Answer::InvalidFormatCode,
+    }
+}
+
 #[test]
 fn forty_bytes_are_format_codes_whose_high_half_is_the_category(rt: HostRuntime) {
     let mut taken = 0u32;
@@ -69,11 +79,7 @@ fn forty_bytes_are_format_codes_whose_high_half_is_the_category(rt: HostRuntime)
             assert!(rt; is_code(byte, Ok(expected(byte))), "{byte}");
             taken = taken.saturating_add(1);
         } else if byte != 0 {
-            let is_refused = match EncodingCodes::try_from(byte) {
-                Ok(_) => false,
-                Err(e) => name_of(&e) == Answer::InvalidFormatCode,
-            };
-            assert!(rt; is_refused, "{byte}");
+            assert!(rt; is_refused(byte), "{byte}");
         }
     }
     assert!(rt; taken == 39);

@@ -43,52 +43,55 @@ fn goes(alloc: Global, calls: &[(Call, usize)]) -> bool {
     is_so
 }
 
+const AHEAD: &[(Call, usize)] = &[
+    (At(0, Some(0xde)), 0),
+    (At(2, Some(0xbe)), 0),
+    (At(3, None), 0),
+    (At(usize::MAX, None), 0),
+    (Skip(1, true), 1),
+    (At(0, Some(0xad)), 1),
+    (At(1, Some(0xbe)), 1),
+    (At(2, None), 1),
+];
+
 #[test]
 fn a_byte_further_ahead_stays(rt: HostRuntime) {
-    let calls = [
-        (At(0, Some(0xde)), 0),
-        (At(2, Some(0xbe)), 0),
-        (At(3, None), 0),
-        (At(usize::MAX, None), 0),
-        (Skip(1, true), 1),
-        (At(0, Some(0xad)), 1),
-        (At(1, Some(0xbe)), 1),
-        (At(2, None), 1),
-    ];
-    assert!(rt; goes(rt.alloc(), &calls));
+    assert!(rt; goes(rt.alloc(), AHEAD));
 }
+
+const COPIES: &[(Call, usize)] = &[
+    (Copied(0, 3, Some(b"\xde\xad\xbe")), 0),
+    (Copied(1, 1, Some(b"\xad")), 0),
+    (Copied(3, 0, Some(b"")), 0),
+    (Copied(4, 0, None), 0),
+    (Copied(1, 3, None), 0),
+    (Copied(1, usize::MAX, None), 0),
+    (Copied(usize::MAX, 1, None), 0),
+    (Skip(2, true), 2),
+    (Copied(0, 1, Some(b"\xbe")), 2),
+    (Copied(1, 1, None), 2),
+];
 
 #[test]
 fn a_copy_of_bytes_further_ahead_is_whole_or_refused(rt: HostRuntime) {
-    let calls = [
-        (Copied(0, 3, Some(b"\xde\xad\xbe")), 0),
-        (Copied(1, 1, Some(b"\xad")), 0),
-        (Copied(3, 0, Some(b"")), 0),
-        (Copied(4, 0, None), 0),
-        (Copied(1, 3, None), 0),
-        (Copied(1, usize::MAX, None), 0),
-        (Copied(usize::MAX, 1, None), 0),
-        (Skip(2, true), 2),
-        (Copied(0, 1, Some(b"\xbe")), 2),
-        (Copied(1, 1, None), 2),
-    ];
-    assert!(rt; goes(rt.alloc(), &calls));
+    assert!(rt; goes(rt.alloc(), COPIES));
 }
+
+const SKIPS: &[(Call, usize)] = &[
+    (Skip(0, true), 0),
+    (Skip(4, false), 0),
+    (Skip(usize::MAX, false), 0),
+    (Skip(2, true), 2),
+    (Skip(2, false), 2),
+    (At(0, Some(0xbe)), 2),
+    (Skip(1, true), 3),
+    (At(0, None), 3),
+    (Copied(0, 0, Some(b"")), 3),
+    (Skip(0, true), 3),
+    (Skip(1, false), 3),
+];
 
 #[test]
 fn a_skip_passes_over_all_bytes_or_is_refused(rt: HostRuntime) {
-    let calls = [
-        (Skip(0, true), 0),
-        (Skip(4, false), 0),
-        (Skip(usize::MAX, false), 0),
-        (Skip(2, true), 2),
-        (Skip(2, false), 2),
-        (At(0, Some(0xbe)), 2),
-        (Skip(1, true), 3),
-        (At(0, None), 3),
-        (Copied(0, 0, Some(b"")), 3),
-        (Skip(0, true), 3),
-        (Skip(1, false), 3),
-    ];
-    assert!(rt; goes(rt.alloc(), &calls));
+    assert!(rt; goes(rt.alloc(), SKIPS));
 }

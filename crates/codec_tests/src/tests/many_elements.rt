@@ -1,6 +1,6 @@
 //! Arrays and lists of more numbers than are read or written at a time.
 
-use super::answer::{Answer, UNEXPECTED_EOF, answer_of, is};
+use super::answer::{Answer, UNEXPECTED_EOF, is, told};
 use super::bytes::{is_read_as, is_text};
 use Answer::{InvalidFormatCode, InvalidValue, Taken};
 use amqp_de::{Deserialize, Deserializer};
@@ -83,7 +83,7 @@ fn stops<'s, T: Deserialize<SliceReader<'s>>>(
     taken: usize,
 ) -> bool {
     let mut de = Deserializer::new(SliceReader::new(bytes));
-    let told = answer_of(&T::deserialize(alloc, &mut de));
+    let told = told(T::deserialize(alloc, &mut de));
     told == answer && de.into_reader().bytes_consumed() == taken
 }
 
@@ -137,7 +137,7 @@ fn a_hundred_numbers_are_written_and_read(rt: HostRuntime) {
 /// A list or an array is read from the front of the bytes, and 99 behind it.
 fn reads_on(alloc: Global, bytes: &[u8]) -> bool {
     let mut de = Deserializer::new(SliceReader::new(bytes));
-    let first = answer_of(&Vec::<u32>::deserialize(alloc, &mut de));
+    let first = told(Vec::<u32>::deserialize(alloc, &mut de));
     let behind = is(u32::deserialize(alloc, &mut de), Ok(99));
     first == Taken && behind
 }

@@ -1,12 +1,12 @@
 //! Maps key by key and value by value: `MapAccess` and `MapSerializer`.
 
-use super::answer::Answer;
-use super::calls::{Call, Pair, goes};
-use super::puts;
-use super::puts::{Entry, Put, is_pair, writes};
+use super::answer::{Answer, told};
+use super::calls::{Call, Pair, all_go};
+use super::puts::{Entry, Put, is_pair, writes_all};
 use Call::{Map, Truth};
 use Pair::{Key, Value};
-use amqp_ser::Serializer;
+use amqp_base::Sink;
+use amqp_ser::{MapSerializer, Serializer};
 use std::alloc::Global;
 
 /// {0: true}
@@ -16,19 +16,34 @@ const FIRST: Pair = Key(Ok(Some(0)));
 
 const REFUSED: Answer = Answer::InvalidValue;
 
+/// The map, the calls, and how many bytes are then consumed.
+const IN_TURN: &[(&[u8], &[Call], usize)] = &[
+    (
+        ONE_PAIR,
+        &[Map(&[FIRST, Value(Ok(true)), Key(Ok(None))], Answer::Taken)],
+        5,
+    ),
+    // a value is asked for before its key, a second key before the value of the first
+    (
+        ONE_PAIR,
+        &[Map(&[Value(Err(REFUSED)), Key(Err(REFUSED))], REFUSED)],
+        3,
+    ),
+    (ONE_PAIR, &[Map(&[FIRST, Key(Err(REFUSED))], REFUSED)], 4),
+    // the map is ended before a value was read, and nothing is read behind it
+    (
+        ONE_PAIR,
+        &[
+            Map(&[FIRST], Answer::SequenceLengthMismatch),
+            Truth(Err(REFUSED)),
+        ],
+        4,
+    ),
+];
+
 #[test]
 fn keys_and_values_are_read_in_turn(rt: HostRuntime) {
-    let alloc = rt.alloc();
-    let in_turn = Map(&[FIRST, Value(Ok(true)), Key(Ok(None))], Answer::Taken);
-    assert!(rt; goes(alloc, ONE_PAIR, &[in_turn], 5));
-    // a value is asked for before its key, a second key before the value of the first
-    let value_first = Map(&[Value(Err(REFUSED)), Key(Err(REFUSED))], REFUSED);
-    assert!(rt; goes(alloc, ONE_PAIR, &[value_first], 3));
-    let two_keys = Map(&[FIRST, Key(Err(REFUSED))], REFUSED);
-    assert!(rt; goes(alloc, ONE_PAIR, &[two_keys], 4));
-    // the map is ended before a value was read, and nothing is read behind it
-    let unread = Map(&[FIRST], Answer::SequenceLengthMismatch);
-    assert!(rt; goes(alloc, ONE_PAIR, &[unread, Truth(Err(REFUSED))], 4));
+    assert!(rt; all_go(rt.alloc(), IN_TURN));
 }
 
 /// {1: true, 2: (-1, null)}, the second pair by one call.
@@ -38,19 +53,36 @@ const TWO_PAIRS: &[(Entry, Answer)] = &[
     (Entry::PairAndNull(2, -1), Answer::Taken),
 ];
 
-/// 51 pairs of six bytes.
+/// 51 pairs of six bytes are taken.
+fn are_put<W: Sink>(map: &mut MapSerializer<'_, W>, alloc: Global) -> bool {
+    let mut is_so = true;
+    for n in 256..307u32 {
+        is_so = is_pair(map, alloc, n, &(), Answer::Taken) && is_so;
+    }
+    is_so
+}
+
+/// They are taken, and the end.
+fn puts_pairs<W: Sink>(map: MapSerializer<'_, W>, alloc: Global) -> bool {
+    let mut map = map;
+    let is_so = are_put(&mut map, alloc);
+    told(map.end()) == Answer::Taken && is_so
+}
+
+/// A map of them is taken.
+fn puts_map32<W: Sink>(ser: &mut Serializer<W>, alloc: Global) -> bool {
+    match ser.serialize_map(alloc, None) {
+        Ok(map) => puts_pairs(map, alloc),
+        Err(_) => false,
+    }
+}
+
+/// It is written as a map32.
 fn writes_map32(alloc: Global) -> bool {
     let mut ser = Serializer::new(Vec::new(alloc));
-    let Ok(mut map) = ser.serialize_map(alloc, None) else {
-        return false;
-    };
-    let mut are_put = true;
-    for n in 256..307u32 {
-        are_put = is_pair(&mut map, alloc, n, &(), Answer::Taken) && are_put;
-    }
-    let ended = map.end().is_ok();
+    let is_put = puts_map32(&mut ser, alloc);
     let front = b"\xd1\x00\x00\x01\x36\x00\x00\x00\x66\x70\x00\x00\x01\x00\x40";
-    are_put && ended && ser.writer.len() == 9 + 51 * 6 && ser.writer.as_slice().starts_with(front)
+    is_put && ser.writer.len() == 9 + 51 * 6 && ser.writer.as_slice().starts_with(front)
 }
 
 /// A value comes first: it is refused, and all that follows.
@@ -74,17 +106,29 @@ const NO_VALUE: Put<'static> = Put::Map(
     Some(Answer::InvalidLength),
 );
 
+const BEHIND: (Put<'static>, Answer) = (Put::Uint(1), REFUSED);
+
+/// Maps, and what is written of them.
+const WRITTEN: &[(&[(Put<'static>, Answer)], &[u8])] = &[
+    (
+        &[(Put::Map(None, &[], Some(Answer::Taken)), Answer::Taken)],
+        b"\xc1\x01\x00",
+    ),
+    (
+        &[(
+            Put::Map(Some(2), TWO_PAIRS, Some(Answer::Taken)),
+            Answer::Taken,
+        )],
+        b"\xc1\x0c\x04\x52\x01\x41\x52\x02\xc0\x04\x02\x54\xff\x40",
+    ),
+    (&[(VALUE_FIRST, Answer::Taken), BEHIND], b""),
+    (&[(PAIR_BEHIND_A_KEY, Answer::Taken)], b""),
+    (&[(NO_VALUE, Answer::Taken), BEHIND], b""),
+];
+
 #[test]
 fn keys_and_values_are_written_in_turn(rt: HostRuntime) {
     let alloc = rt.alloc();
-    let no_pairs = Put::Map(None, &[], Some(Answer::Taken));
-    assert!(rt; writes(alloc, &[no_pairs], b"\xc1\x01\x00"));
-    let pairs = Put::Map(Some(2), TWO_PAIRS, Some(Answer::Taken));
-    let bytes = b"\xc1\x0c\x04\x52\x01\x41\x52\x02\xc0\x04\x02\x54\xff\x40";
-    assert!(rt; writes(alloc, &[pairs], bytes));
+    assert!(rt; writes_all(alloc, WRITTEN));
     assert!(rt; writes_map32(alloc));
-    let behind = (Put::Uint(1), REFUSED);
-    assert!(rt; puts::goes(alloc, &[(VALUE_FIRST, Answer::Taken), behind], b""));
-    assert!(rt; puts::goes(alloc, &[(PAIR_BEHIND_A_KEY, Answer::Taken)], b""));
-    assert!(rt; puts::goes(alloc, &[(NO_VALUE, Answer::Taken), behind], b""));
 }

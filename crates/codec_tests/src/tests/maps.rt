@@ -1,67 +1,95 @@
 //! Maps: `OrderedMap` and `BTreeMap`, repeated keys, what headers are refused for, and the most
 //! pairs that are read.
 
-use super::answer::{Answer, UNEXPECTED_EOF};
-use super::bytes::{is_read_as, is_text, is_written_as, refuses};
+use super::answer::{Answer, UNEXPECTED_EOF, told};
+use super::bytes::{is_made_as, is_made_read, is_made_text, is_written_as, refuses};
+use super::made::{map, map_of, string};
+use amqp_base::Error;
 use amqp_de::{Deserialize, Deserializer};
 use amqp_read::{Read, SliceReader};
 use amqp_types::{OrderedMap, Timestamp};
 use serde_amqp::from_slice;
 use std::alloc::Global;
 use std::collections::BTreeMap;
-use std::hash::Hash;
 
-/// The value is taken under the key, in the place of none.
-fn inserts<K: Eq + Hash + Drop, V: Drop>(map: &mut OrderedMap<K, V>, key: K, value: V) -> bool {
-    matches!(&map.insert(key, value), Ok(None))
-}
-
-/// {a timestamp of 0: "x"}
-fn is_one_pair(alloc: Global) -> bool {
-    let Ok(text) = String::from_str(alloc, "x") else {
-        return false;
-    };
-    let mut map = OrderedMap::new(alloc);
-    let is_in = inserts(&mut map, Timestamp::from_milliseconds(0), text);
-    let bytes = b"\xc1\x0d\x02\x83\x00\x00\x00\x00\x00\x00\x00\x00\xa1\x01x";
-    is_in && is_text(alloc, &map, bytes)
-}
-
-/// A key that is inserted again stays in its first place; a `BTreeMap` is written by its keys.
-fn is_in_its_places(alloc: Global) -> bool {
-    let mut map = OrderedMap::new(alloc);
-    let ordered = inserts(&mut map, 2u8, true)
-        && inserts(&mut map, 1u8, true)
-        && matches!(&map.insert(2u8, false), Ok(Some(true)))
-        && is_written_as(alloc, &map, b"\xc1\x07\x04\x50\x02\x42\x50\x01\x41");
-    let mut map = BTreeMap::new(alloc);
-    let sorted = map.insert(2u8, true).is_ok()
-        && map.insert(1u8, true).is_ok()
-        && map.insert(2u8, false).is_ok()
-        && is_written_as(alloc, &map, b"\xc1\x07\x04\x50\x01\x41\x50\x02\x42");
-    ordered && sorted
-}
-
-/// {0: true} in a map32
-fn is_wide_map(alloc: Global) -> bool {
-    let bytes = b"\xd1\x00\x00\x00\x06\x00\x00\x00\x02\x43\x41";
-    match from_slice::<OrderedMap<u32, bool>>(alloc, bytes) {
-        Ok(map) => map.get(&0) == Some(&true) && is_read_as(alloc, bytes, &map),
-        Err(_) => false,
+/// {2: false, 1: true}, the first of them put in again.
+fn put_again(front: Option<OrderedMap<u8, bool>>) -> Option<OrderedMap<u8, bool>> {
+    match front {
+        Some(map) => {
+            let mut map = map;
+            if map.insert(2, false).ok() == Some(Some(true)) {
+                Some(map)
+            } else {
+                None
+            }
+        }
+        None => None,
     }
+}
+
+/// The same pairs, sorted.
+fn sorted(alloc: Global) -> Option<BTreeMap<u8, bool>> {
+    let mut map = BTreeMap::new(alloc);
+    let first = map.insert(2u8, true).is_ok();
+    let second = map.insert(1u8, true).is_ok();
+    let again = map.insert(2u8, false).is_ok();
+    if first && second && again {
+        Some(map)
+    } else {
+        None
+    }
+}
+
+/// {a timestamp of 0: the text}
+fn is_map_text(alloc: Global, text: Option<String>) -> bool {
+    let map = map_of(alloc, Timestamp::from_milliseconds(0), text);
+    let bytes = b"\xc1\x0d\x02\x83\x00\x00\x00\x00\x00\x00\x00\x00\xa1\x01x";
+    is_made_text(alloc, map, bytes)
 }
 
 #[test]
 fn a_map_is_its_keys_and_values_in_turn(rt: HostRuntime) {
     let alloc = rt.alloc();
     let empty = b"\xc1\x01\x00";
-    assert!(rt; is_written_as(alloc, &OrderedMap::<u8, bool>::new(alloc), empty));
+    assert!(rt; is_made_as(alloc, map::<u8, bool>(alloc, &[]), empty));
     assert!(rt; is_written_as(alloc, &BTreeMap::<u8, bool>::new(alloc), empty));
-    assert!(rt; is_one_pair(alloc));
-    assert!(rt; is_in_its_places(alloc));
-    // both forms are read
-    assert!(rt; is_read_as(alloc, empty, &OrderedMap::<u32, bool>::new(alloc)));
-    assert!(rt; is_wide_map(alloc));
+    assert!(rt; is_map_text(alloc, string(alloc, "x")));
+    // a key that is put in again stays in its first place; a `BTreeMap` is written by its keys
+    let again = put_again(map(alloc, &[(2, true), (1, true)]));
+    assert!(rt; is_made_as(alloc, again, b"\xc1\x07\x04\x50\x02\x42\x50\x01\x41"));
+    assert!(rt;
+        is_made_as(
+            alloc,
+            sorted(alloc),
+            b"\xc1\x07\x04\x50\x01\x41\x50\x02\x42"
+        )
+    );
+}
+
+/// The value under the key 0 is true.
+fn has_zero(outcome: Result<OrderedMap<u32, bool>, Error>) -> bool {
+    match outcome {
+        Ok(map) => map.get(&0) == Some(&true),
+        Err(_) => false,
+    }
+}
+
+#[test]
+fn both_forms_of_a_map_are_read(rt: HostRuntime) {
+    let alloc = rt.alloc();
+    let wide = b"\xd1\x00\x00\x00\x06\x00\x00\x00\x02\x43\x41";
+    assert!(rt; has_zero(from_slice(alloc, wide)));
+    for (pairs, bytes) in [
+        ([].as_slice(), b"\xc1\x01\x00".as_slice()),
+        (&[(0u32, true)], wide),
+    ] {
+        assert!(rt; is_made_read(alloc, map(alloc, pairs), bytes));
+    }
+}
+
+/// An `OrderedMap` at the front of the bytes.
+fn ordered(alloc: Global, bytes: &[u8]) -> Result<OrderedMap<u32, u32>, Error> {
+    from_slice(alloc, bytes)
 }
 
 #[test]
@@ -82,7 +110,7 @@ fn bytes_that_are_no_map(rt: HostRuntime) {
         (b"\xc1\x03\x02\x43\x41", Answer::InvalidFormatCode),
     ];
     for (bytes, name) in rows {
-        assert!(rt; refuses::<OrderedMap<u32, u32>>(alloc, bytes, *name));
+        assert!(rt; told(ordered(alloc, bytes)) == *name);
     }
 }
 
@@ -96,9 +124,14 @@ fn is_at(pairs: &[(u32, u32)], place: usize, key: u32, value: u32) -> bool {
 
 /// An `OrderedMap` that is read from the bytes gives these pairs in order.
 fn is_ordered(alloc: Global, bytes: &[u8], want: &[(u32, u32)]) -> bool {
-    let Ok(map) = from_slice::<OrderedMap<u32, u32>>(alloc, bytes) else {
-        return false;
-    };
+    match ordered(alloc, bytes) {
+        Ok(map) => are_pairs(&map, want),
+        Err(_) => false,
+    }
+}
+
+/// The map gives these pairs in order.
+fn are_pairs(map: &OrderedMap<u32, u32>, want: &[(u32, u32)]) -> bool {
     let mut place = 0usize;
     let mut is_so = true;
     for (key, value) in map.iter() {
@@ -110,9 +143,14 @@ fn is_ordered(alloc: Global, bytes: &[u8], want: &[(u32, u32)]) -> bool {
 
 /// The same of a `BTreeMap`.
 fn is_sorted(alloc: Global, bytes: &[u8], want: &[(u32, u32)]) -> bool {
-    let Ok(map) = from_slice::<BTreeMap<u32, u32>>(alloc, bytes) else {
-        return false;
-    };
+    match from_slice::<BTreeMap<u32, u32>>(alloc, bytes) {
+        Ok(map) => are_sorted_pairs(&map, want),
+        Err(_) => false,
+    }
+}
+
+/// The map gives these pairs in order.
+fn are_sorted_pairs(map: &BTreeMap<u32, u32>, want: &[(u32, u32)]) -> bool {
     let mut place = 0usize;
     let mut is_so = true;
     for (key, value) in map.iter() {
@@ -122,19 +160,33 @@ fn is_sorted(alloc: Global, bytes: &[u8], want: &[(u32, u32)]) -> bool {
     is_so && place == want.len()
 }
 
+/// Bytes, and the pairs of both kinds of map.
+const REPEATED: &[(&[u8], &[(u32, u32)], &[(u32, u32)])] = &[
+    // the first and the last pair, the second and the last, the third and the last
+    (
+        b"\xc1\x11\x08\x52\x07\x52\x00\x52\x05\x52\x01\x52\x06\x52\x02\x52\x07\x52\x03",
+        &[(7, 3), (5, 1), (6, 2)],
+        &[(5, 1), (6, 2), (7, 3)],
+    ),
+    (
+        b"\xc1\x11\x08\x52\x07\x52\x00\x52\x05\x52\x01\x52\x06\x52\x02\x52\x05\x52\x03",
+        &[(7, 0), (5, 3), (6, 2)],
+        &[(5, 3), (6, 2), (7, 0)],
+    ),
+    (
+        b"\xc1\x11\x08\x52\x07\x52\x00\x52\x05\x52\x01\x52\x06\x52\x02\x52\x06\x52\x03",
+        &[(7, 0), (5, 1), (6, 3)],
+        &[(5, 1), (6, 3), (7, 0)],
+    ),
+];
+
 #[test]
 fn a_repeated_key_has_its_first_place_and_its_last_value(rt: HostRuntime) {
     let alloc = rt.alloc();
-    // the first and the last pair, the second and the last, the third and the last
-    let ends = b"\xc1\x11\x08\x52\x07\x52\x00\x52\x05\x52\x01\x52\x06\x52\x02\x52\x07\x52\x03";
-    assert!(rt; is_ordered(alloc, ends, &[(7, 3), (5, 1), (6, 2)]));
-    assert!(rt; is_sorted(alloc, ends, &[(5, 1), (6, 2), (7, 3)]));
-    let middle = b"\xc1\x11\x08\x52\x07\x52\x00\x52\x05\x52\x01\x52\x06\x52\x02\x52\x05\x52\x03";
-    assert!(rt; is_ordered(alloc, middle, &[(7, 0), (5, 3), (6, 2)]));
-    assert!(rt; is_sorted(alloc, middle, &[(5, 3), (6, 2), (7, 0)]));
-    let last = b"\xc1\x11\x08\x52\x07\x52\x00\x52\x05\x52\x01\x52\x06\x52\x02\x52\x06\x52\x03";
-    assert!(rt; is_ordered(alloc, last, &[(7, 0), (5, 1), (6, 3)]));
-    assert!(rt; is_sorted(alloc, last, &[(5, 1), (6, 3), (7, 0)]));
+    for (bytes, ordered, sorted) in REPEATED {
+        assert!(rt; is_ordered(alloc, bytes, ordered));
+        assert!(rt; is_sorted(alloc, bytes, sorted));
+    }
 }
 
 /// A map32 of so many pairs, from each number to null.
@@ -153,32 +205,59 @@ fn wide(alloc: Global, pairs: u32) -> Option<Vec<u8>> {
     if is_so { Some(bytes) } else { None }
 }
 
-/// 32,768 pairs are read, all of them; one pair more is refused. Both hold of each kind of map.
-fn ends_at_most(alloc: Global) -> bool {
-    let Some(most) = wide(alloc, 32_768) else {
-        return false;
-    };
-    let Some(more) = wide(alloc, 32_769) else {
-        return false;
-    };
-    let mut de = Deserializer::new(SliceReader::new(most.as_slice()));
-    let ordered = match OrderedMap::<u32, ()>::deserialize(alloc, &mut de) {
-        Ok(map) => map.len() == 32_768,
-        Err(_) => false,
-    };
-    let taken = de.into_reader().bytes_consumed();
-    let sorted = match from_slice::<BTreeMap<u32, ()>>(alloc, most.as_slice()) {
-        Ok(map) => map.len() == 32_768,
-        Err(_) => false,
-    };
-    ordered
-        && taken == most.len()
-        && sorted
-        && refuses::<OrderedMap<u32, ()>>(alloc, more.as_slice(), Answer::InvalidValue)
-        && refuses::<BTreeMap<u32, ()>>(alloc, more.as_slice(), Answer::InvalidValue)
+/// How many pairs an `OrderedMap` has that is read.
+fn length<R: Read>(de: &mut Deserializer<R>, alloc: Global) -> usize {
+    match OrderedMap::<u32, ()>::deserialize(alloc, de) {
+        Ok(map) => map.len(),
+        Err(_) => 0,
+    }
+}
+
+/// 32,768 pairs are read from the bytes, all of them.
+fn are_most(alloc: Global, most: Option<Vec<u8>>) -> bool {
+    match most {
+        Some(most) => {
+            let mut de = Deserializer::new(SliceReader::new(most.as_slice()));
+            let length = length(&mut de, alloc);
+            de.into_reader().bytes_consumed() == most.len() && length == 32_768
+        }
+        None => false,
+    }
+}
+
+/// A `BTreeMap` at the front of the bytes.
+fn sorted_units(alloc: Global, bytes: &[u8]) -> Result<BTreeMap<u32, ()>, Error> {
+    from_slice(alloc, bytes)
+}
+
+/// The same pairs are read as a `BTreeMap`.
+fn are_most_sorted(alloc: Global, most: Option<Vec<u8>>) -> bool {
+    match most {
+        Some(most) => match sorted_units(alloc, most.as_slice()) {
+            Ok(map) => map.len() == 32_768,
+            Err(_) => false,
+        },
+        None => false,
+    }
+}
+
+/// The pairs are refused by each kind of map.
+fn are_refused(alloc: Global, more: Option<Vec<u8>>) -> bool {
+    match more {
+        Some(more) => {
+            let sorted = told(sorted_units(alloc, more.as_slice()));
+            let is_sorted = sorted == Answer::InvalidValue;
+            is_sorted
+                && refuses::<OrderedMap<u32, ()>>(alloc, more.as_slice(), Answer::InvalidValue)
+        }
+        None => false,
+    }
 }
 
 #[test]
 fn a_map_has_at_most_32768_pairs(rt: HostRuntime) {
-    assert!(rt; ends_at_most(rt.alloc()));
+    let alloc = rt.alloc();
+    assert!(rt; are_most(alloc, wide(alloc, 32_768)));
+    assert!(rt; are_most_sorted(alloc, wide(alloc, 32_768)));
+    assert!(rt; are_refused(alloc, wide(alloc, 32_769)));
 }

@@ -1,9 +1,11 @@
 //! What is measured of a value before it is written: its length, and the sizes of its compounds in
 //! the order in which they open.
 
-use super::answer::{Answer, answer_of};
-use amqp_ser::{Measure, measure, write_measured};
-use amqp_types::{Array, OrderedMap};
+use super::answer::{Answer, is, told};
+use super::made::{array, both, list, map_of, string};
+use amqp_base::Error;
+use amqp_ser::{Measure, Serialize, measure, write_measured};
+use amqp_types::OrderedMap;
 use serde_amqp::serialized_size;
 use std::alloc::Global;
 
@@ -19,96 +21,97 @@ fn has_sizes(measure: &Measure, sizes: &[(usize, usize)]) -> bool {
     matches!(measure.size(sizes.len()), None)
 }
 
-/// [[1], []], and a list around nine empty ones, more than stand in place.
-fn measures_lists(alloc: Global) -> bool {
-    let Ok(first) = vec![in alloc; 1i32] else {
-        return false;
-    };
-    let Ok(lists) = vec![in alloc; first, Vec::new(alloc)] else {
-        return false;
-    };
-    let mut nine: Vec<Vec<i32>> = Vec::new(alloc);
-    for _ in 0..9 {
-        if nine.push(Vec::new(alloc)).is_err() {
-            return false;
-        }
+/// These lengths and counts are measured of the value that was made.
+fn measures<T: Serialize + Drop>(alloc: Global, made: Option<T>, sizes: &[(usize, usize)]) -> bool {
+    match made {
+        Some(value) => has_measured(measure(alloc, &value), sizes),
+        None => false,
     }
-    let two = match measure(alloc, &lists) {
-        Ok(measure) => has_sizes(&measure, &[(6, 2), (2, 1), (0, 0)]),
-        Err(_) => false,
-    };
-    let ten = [
-        (9, 9),
-        (0, 0),
-        (0, 0),
-        (0, 0),
-        (0, 0),
-        (0, 0),
-        (0, 0),
-        (0, 0),
-        (0, 0),
-        (0, 0),
-    ];
-    match measure(alloc, &nine) {
-        Ok(measure) => two && has_sizes(&measure, &ten),
+}
+
+/// These were measured.
+fn has_measured(outcome: Result<Measure, Error>, sizes: &[(usize, usize)]) -> bool {
+    match outcome {
+        Ok(measure) => has_sizes(&measure, sizes),
         Err(_) => false,
     }
 }
 
-/// [[1], []] as an array; and null has no size in one.
-fn measures_arrays(alloc: Global) -> bool {
-    let (Ok(first), Ok(units)) = (vec![in alloc; 1i32], vec![in alloc; ()]) else {
-        return false;
-    };
-    let Ok(lists) = vec![in alloc; first, Vec::new(alloc)] else {
-        return false;
-    };
-    let is_unsized = answer_of(&serialized_size(alloc, &Array(units))) == Answer::InvalidValue;
-    match measure(alloc, &Array(lists)) {
-        Ok(measure) => is_unsized && has_sizes(&measure, &[(19, 2), (2, 1), (0, 0)]),
-        Err(_) => false,
+/// The size of the value that was made, or its refusal.
+fn is_sized<T: Serialize + Drop>(
+    alloc: Global,
+    made: Option<T>,
+    size: Result<usize, Answer>,
+) -> bool {
+    match made {
+        Some(value) => is(serialized_size(alloc, &value), size),
+        None => false,
     }
+}
+
+/// A list of nine empty ones, more than stand in place.
+fn nine(alloc: Global) -> Option<Vec<Vec<i32>>> {
+    let mut nine: Vec<Vec<i32>> = Vec::new(alloc);
+    let mut are_in = true;
+    for _ in 0..9 {
+        are_in = nine.push(Vec::new(alloc)).is_ok() && are_in;
+    }
+    if are_in { Some(nine) } else { None }
 }
 
 /// {2: (true, 13, "amqp")}
-fn measures_a_map(alloc: Global) -> bool {
-    let Ok(text) = String::from_str(alloc, "amqp") else {
-        return false;
-    };
-    let mut map: OrderedMap<u32, (bool, u64, String)> = OrderedMap::new(alloc);
-    if !matches!(&map.insert(2, (true, 13, text)), Ok(None)) {
-        return false;
-    }
-    let is_sized = match serialized_size(alloc, &map) {
-        Ok(length) => length == 17,
-        Err(_) => false,
-    };
-    match measure(alloc, &map) {
-        Ok(measure) => is_sized && has_sizes(&measure, &[(14, 2), (9, 3)]),
-        Err(_) => false,
+fn one_pair(alloc: Global, text: Option<String>) -> Option<OrderedMap<u32, (bool, u64, String)>> {
+    match text {
+        Some(text) => map_of(alloc, 2, Some((true, 13, text))),
+        None => None,
     }
 }
 
 /// A list of two where one of one was measured.
-fn refuses_another_value(alloc: Global) -> bool {
-    let (Ok(one), Ok(two)) = (vec![in alloc; 1i32], vec![in alloc; 1i32, 2]) else {
-        return false;
-    };
-    match measure(alloc, &one) {
-        Ok(measure) => { answer_of(&write_measured(alloc, &two, measure)) == Answer::InvalidValue }
-        Err(_) => false,
+fn refuses_another(alloc: Global, outcome: Result<Measure, Error>, two: Option<Vec<i32>>) -> bool {
+    match (outcome, two) {
+        (Ok(measure), Some(two)) => {
+            told(write_measured(alloc, &two, measure)) == Answer::InvalidValue
+        }
+        _ => false,
     }
 }
 
 #[test]
 fn the_sizes_of_compounds_are_measured_as_they_open(rt: HostRuntime) {
     let alloc = rt.alloc();
-    assert!(rt; measures_lists(alloc));
-    assert!(rt; measures_arrays(alloc));
-    assert!(rt; measures_a_map(alloc));
+    let lists = both(alloc, list(alloc, &[1i32]), list(alloc, &[]));
+    assert!(rt; measures(alloc, lists, &[(6, 2), (2, 1), (0, 0)]));
+    let mut sizes = [(0, 0); 10];
+    sizes[0] = (9, 9);
+    assert!(rt; measures(alloc, nine(alloc), &sizes));
+    // the same two lists as an array
+    let lists = both(alloc, list(alloc, &[1i32]), list(alloc, &[]));
+    assert!(rt; measures(alloc, array(lists), &[(19, 2), (2, 1), (0, 0)]));
+    let pair = one_pair(alloc, string(alloc, "amqp"));
+    assert!(rt; measures(alloc, pair, &[(14, 2), (9, 3)]));
+}
+
+#[test]
+fn the_size_of_a_value_is_that_of_its_text(rt: HostRuntime) {
+    let alloc = rt.alloc();
+    assert!(rt; is_sized(alloc, one_pair(alloc, string(alloc, "amqp")), Ok(17)));
+    // null has no size in an array
+    let null = array(list(alloc, &[()]));
+    assert!(rt; is_sized(alloc, null, Err(Answer::InvalidValue)));
+}
+
+/// What is measured of the list.
+fn measured(alloc: Global, made: Option<Vec<i32>>) -> Result<Measure, Error> {
+    match made {
+        Some(list) => measure(alloc, &list),
+        None => Err(Error::OutOfMemory),
+    }
 }
 
 #[test]
 fn another_value_than_was_measured_is_refused(rt: HostRuntime) {
-    assert!(rt; refuses_another_value(rt.alloc()));
+    let alloc = rt.alloc();
+    let one = measured(alloc, list(alloc, &[1]));
+    assert!(rt; refuses_another(alloc, one, list(alloc, &[1, 2])));
 }

@@ -1,6 +1,6 @@
 //! Values that may be missing: null, or the item of the value.
 
-use super::answer::{Answer, UNEXPECTED_EOF, answer_of, gave};
+use super::answer::{Answer, UNEXPECTED_EOF, gave, told};
 use super::bytes::{are_texts, is_list, is_read_as, is_text, is_written_as};
 use amqp_de::{Deserialize, Deserializer};
 use amqp_read::{Read, SliceReader};
@@ -21,30 +21,34 @@ fn an_option_is_null_or_the_value(rt: HostRuntime) {
 }
 
 /// The next option is this.
-fn is_next<'s, T: Deserialize<SliceReader<'s>> + PartialEq>(
-    de: &mut Deserializer<SliceReader<'s>>,
+fn is_next<R: Read, T: Deserialize<R> + PartialEq>(
+    de: &mut Deserializer<R>,
     alloc: Global,
-    want: &Option<T>,
+    want: Option<T>,
 ) -> bool {
-    gave(&de.deserialize_option::<T>(alloc), want)
+    gave(de.deserialize_option::<T>(alloc), &want)
 }
 
 /// Options one after the other: of values without parts, of a list and of a tuple.
+fn are_next<R: Read>(de: &mut Deserializer<R>, alloc: Global) -> bool {
+    let first = is_next::<R, i32>(de, alloc, None);
+    let second = is_next(de, alloc, Some(1i32));
+    let third = is_next::<R, ()>(de, alloc, None);
+    let fourth = is_next(de, alloc, Some(Vec::<u32>::new(alloc)));
+    let fifth = is_next::<R, (u32, bool)>(de, alloc, None);
+    first && second && third && fourth && fifth
+}
+
 #[test]
 fn null_comes_before_the_value(rt: HostRuntime) {
-    let alloc = rt.alloc();
     let mut de = Deserializer::new(SliceReader::new(b"\x40\x54\x01\x40\x45\x40"));
-    assert!(rt; is_next(&mut de, alloc, &None::<i32>));
-    assert!(rt; is_next(&mut de, alloc, &Some(1i32)));
-    assert!(rt; is_next(&mut de, alloc, &None::<()>));
-    assert!(rt; is_next(&mut de, alloc, &Some(Vec::<u32>::new(alloc))));
-    assert!(rt; is_next(&mut de, alloc, &None::<(u32, bool)>));
+    assert!(rt; are_next(&mut de, rt.alloc()));
     assert!(rt; de.into_reader().bytes_consumed() == 6);
 }
 
 /// What the next option of an int answers.
-fn answer(de: &mut Deserializer<SliceReader<'_>>, alloc: Global) -> Answer {
-    answer_of(&de.deserialize_option::<i32>(alloc))
+fn answer<R: Read>(de: &mut Deserializer<R>, alloc: Global) -> Answer {
+    told(de.deserialize_option::<i32>(alloc))
 }
 
 /// The bytes are refused, and what is asked for next because of that.

@@ -2,10 +2,11 @@
 //! probe's run.
 
 use super::answer::{Answer, UNEXPECTED_EOF};
-use super::bytes::{is_form, is_read_as, is_text, is_written_as, refuses_each};
+use super::bytes::{is_form, is_made_text, is_read_as, is_written_as, refuses_each};
 use super::calls::{Call, goes};
+use super::made::{string, symbol};
 use super::puts::{Put, writes};
-use amqp_types::{Binary, BinaryRef, Symbol, SymbolRef};
+use amqp_types::{Binary, BinaryRef, SymbolRef};
 use serde_amqp::to_vec;
 use std::alloc::Global;
 
@@ -20,62 +21,85 @@ fn is_binary(alloc: Global, value: &[u8], bytes: &[u8], is_written: bool) -> boo
     }
 }
 
+/// The text has this length and front, and is read as the binary.
+fn is_long_text(alloc: Global, value: &Binary, text: &[u8], len: usize, front: &[u8]) -> bool {
+    text.len() == len && text.starts_with(front) && is_read_as(alloc, text, value)
+}
+
+/// So many bytes 0x07.
+fn sevens(alloc: Global, count: usize) -> Option<Vec<u8>> {
+    vec![in alloc; 7u8; count].ok()
+}
+
 /// So many bytes 0x07 are written as so many bytes that begin so, and read back.
 fn is_long_binary(alloc: Global, count: usize, len: usize, front: &[u8]) -> bool {
-    let Ok(value) = vec![in alloc; 7u8; count] else {
-        return false;
-    };
-    let value = Binary(value);
-    match to_vec(alloc, &value) {
-        Ok(text) => {
-            text.len() == len
-                && text.as_slice().starts_with(front)
-                && is_read_as(alloc, text.as_slice(), &value)
+    match sevens(alloc, count) {
+        Some(value) => {
+            let value = Binary(value);
+            match to_vec(alloc, &value) {
+                Ok(text) => is_long_text(alloc, &value, text.as_slice(), len, front),
+                Err(_) => false,
+            }
         }
-        Err(_) => false,
+        None => false,
     }
 }
+
+/// Binaries, their forms, and whether these are written.
+const BINARIES: &[(&[u8], &[u8], bool)] = &[
+    (b"\xff", b"\xa0\x01\xff", true),
+    (b"\xff", b"\xb0\x00\x00\x00\x01\xff", false),
+    (b"", b"\xa0\x00", true),
+    (b"", b"\xb0\x00\x00\x00\x00", false),
+    (b"\x01\x02", b"\xa0\x02\x01\x02", true),
+    (b"\x00\xff", b"\xa0\x02\x00\xff", true),
+];
+
+const NO_BINARIES: &[(&[u8], Answer)] = &[
+    (b"\xa1\x01\x61", Answer::InvalidFormatCode),
+    (b"\x57", Answer::InvalidFormatCode),
+    (b"", UNEXPECTED_EOF),
+];
 
 #[test]
 fn binary_has_two_constructors(rt: HostRuntime) {
     let alloc = rt.alloc();
-    assert!(rt; is_binary(alloc, b"\xff", b"\xa0\x01\xff", true));
-    assert!(rt; is_binary(alloc, b"\xff", b"\xb0\x00\x00\x00\x01\xff", false));
-    assert!(rt; is_binary(alloc, b"", b"\xa0\x00", true));
-    assert!(rt; is_binary(alloc, b"", b"\xb0\x00\x00\x00\x00", false));
-    assert!(rt; is_binary(alloc, b"\x01\x02", b"\xa0\x02\x01\x02", true));
-    assert!(rt; is_binary(alloc, b"\x00\xff", b"\xa0\x02\x00\xff", true));
+    for (value, bytes, is_written) in BINARIES {
+        assert!(rt; is_binary(alloc, value, bytes, *is_written), "{bytes:?}");
+    }
     assert!(rt; is_written_as(alloc, &BinaryRef(b"\x00\xff"), b"\xa0\x02\x00\xff"));
-    // vbin8 is written up to 254 bytes
-    assert!(rt; is_long_binary(alloc, 254, 256, b"\xa0\xfe\x07"));
-    assert!(rt; is_long_binary(alloc, 255, 260, b"\xb0\x00\x00\x00\xff\x07"));
-    assert!(rt; is_long_binary(alloc, 256, 261, b"\xb0\x00\x00\x01\x00\x07"));
-    let others: &[(&[u8], Answer)] = &[
-        (b"\xa1\x01\x61", Answer::InvalidFormatCode),
-        (b"\x57", Answer::InvalidFormatCode),
-        (b"", UNEXPECTED_EOF),
-    ];
-    assert!(rt; refuses_each::<Binary>(alloc, others));
+    assert!(rt; refuses_each::<Binary>(alloc, NO_BINARIES));
 }
 
-/// The text stands so as a string, and so as a symbol.
-fn is_string_and_symbol(alloc: Global, text: &str, string: &[u8], symbol: &[u8]) -> bool {
-    let Ok(owned) = String::from_str(alloc, text) else {
-        return false;
-    };
-    match Symbol::from_str(alloc, text) {
-        Ok(name) => is_text(alloc, &owned, string) && is_text(alloc, &name, symbol),
-        Err(_) => false,
+/// vbin8 is written up to 254 bytes: how many, the length of the text, and its front.
+const LONG_BINARIES: &[(usize, usize, &[u8])] = &[
+    (254, 256, b"\xa0\xfe\x07"),
+    (255, 260, b"\xb0\x00\x00\x00\xff\x07"),
+    (256, 261, b"\xb0\x00\x00\x01\x00\x07"),
+];
+
+#[test]
+fn a_long_binary_has_the_wide_constructor(rt: HostRuntime) {
+    for (count, len, front) in LONG_BINARIES {
+        assert!(rt; is_long_binary(rt.alloc(), *count, *len, front), "{count}");
     }
 }
+
+/// Texts as strings, and as symbols.
+const TEXTS: &[(&str, &[u8], &[u8])] = &[
+    ("", b"\xa1\x00", b"\xa3\x00"),
+    ("ab", b"\xa1\x02ab", b"\xa3\x02ab"),
+    ("amqp", b"\xa1\x04amqp", b"\xa3\x04amqp"),
+    ("é", b"\xa1\x02\xc3\xa9", b"\xa3\x02\xc3\xa9"),
+];
 
 #[test]
 fn strings_and_symbols_are_texts(rt: HostRuntime) {
     let alloc = rt.alloc();
-    assert!(rt; is_string_and_symbol(alloc, "", b"\xa1\x00", b"\xa3\x00"));
-    assert!(rt; is_string_and_symbol(alloc, "ab", b"\xa1\x02ab", b"\xa3\x02ab"));
-    assert!(rt; is_string_and_symbol(alloc, "amqp", b"\xa1\x04amqp", b"\xa3\x04amqp"));
-    assert!(rt; is_string_and_symbol(alloc, "é", b"\xa1\x02\xc3\xa9", b"\xa3\x02\xc3\xa9"));
+    for (text, own, name) in TEXTS {
+        assert!(rt; is_made_text(alloc, string(alloc, text), own), "{text}");
+        assert!(rt; is_made_text(alloc, symbol(alloc, text), name), "{text}");
+    }
     assert!(rt; is_written_as(alloc, &SymbolRef("ab"), b"\xa3\x02ab"));
 }
 
@@ -87,13 +111,14 @@ fn payloads_are_written_by_name(rt: HostRuntime) {
     assert!(rt; writes(rt.alloc(), WRITTEN, bytes));
 }
 
+const READ: &[Call] = &[
+    Call::Bytes(b"\x00\xff"),
+    Call::Text(Ok("hi")),
+    Call::Symbol("amqp"),
+];
+
 #[test]
 fn payloads_are_read_by_name(rt: HostRuntime) {
-    let items = [
-        Call::Bytes(b"\x00\xff"),
-        Call::Text(Ok("hi")),
-        Call::Symbol("amqp"),
-    ];
     let bytes = b"\xa0\x02\x00\xff\xa1\x02hi\xa3\x04amqp";
-    assert!(rt; goes(rt.alloc(), bytes, &items, 14));
+    assert!(rt; goes(rt.alloc(), bytes, READ, 14));
 }

@@ -1,7 +1,7 @@
 //! What the calls of a serializer answer, one after the other, and what they write.
 
-use super::answer::{Answer, answer_of, name_of};
-use amqp_base::Error;
+use super::answer::{Answer, name_of, told};
+use amqp_base::Sink;
 use amqp_ser::{MapSerializer, SeqSerializer, Serialize, Serializer};
 use amqp_types::{Dec32, Dec64, Dec128, Double, Float, Uuid};
 use std::alloc::Global;
@@ -70,14 +70,9 @@ pub(crate) enum Put<'p> {
     Map(Option<usize>, &'p [(Entry, Answer)], Option<Answer>),
 }
 
-/// What a call answered; its refusal is let go here alone.
-fn told(outcome: Result<(), Error>) -> Answer {
-    answer_of(&outcome)
-}
-
 /// The element is answered so.
-fn is_element<T: Serialize>(
-    list: &mut SeqSerializer<'_, Vec<u8>>,
+fn is_element<W: Sink, T: Serialize>(
+    list: &mut SeqSerializer<'_, W>,
     alloc: Global,
     value: &T,
     want: Answer,
@@ -86,8 +81,8 @@ fn is_element<T: Serialize>(
 }
 
 /// Elements that are put by one call are answered so.
-fn are_elements<T: Serialize>(
-    list: &mut SeqSerializer<'_, Vec<u8>>,
+fn are_elements<W: Sink, T: Serialize>(
+    list: &mut SeqSerializer<'_, W>,
     alloc: Global,
     values: &[T],
     want: Answer,
@@ -96,8 +91,8 @@ fn are_elements<T: Serialize>(
 }
 
 /// A list as an element is answered so.
-fn is_list_element(
-    list: &mut SeqSerializer<'_, Vec<u8>>,
+fn is_list_element<W: Sink>(
+    list: &mut SeqSerializer<'_, W>,
     alloc: Global,
     values: &[i32],
     want: Answer,
@@ -108,33 +103,55 @@ fn is_list_element(
     }
 }
 
+/// The number is answered so.
+fn is_number<W: Sink>(
+    list: &mut SeqSerializer<'_, W>,
+    alloc: Global,
+    element: Element<'_>,
+    want: Answer,
+) -> bool {
+    match element {
+        Element::Truth(value) => is_element(list, alloc, &value, want),
+        Element::Uint(value) => is_element(list, alloc, &value, want),
+        Element::Ulong(value) => is_element(list, alloc, &value, want),
+        Element::Int(value) => is_element(list, alloc, &value, want),
+        _ => false,
+    }
+}
+
+/// What is put is answered so.
+fn is_put<W: Sink>(
+    list: &mut SeqSerializer<'_, W>,
+    alloc: Global,
+    element: Element<'_>,
+    want: Answer,
+) -> bool {
+    match element {
+        Element::Null => is_element(list, alloc, &(), want),
+        Element::NoInt => is_element(list, alloc, &None::<i32>, want),
+        Element::List(values) => is_list_element(list, alloc, values, want),
+        Element::Uints(values) => are_elements(list, alloc, values, want),
+        Element::Ints(values) => are_elements(list, alloc, values, want),
+        _ => is_number(list, alloc, element, want),
+    }
+}
+
 /// The elements are answered so.
-fn are_put(
-    list: &mut SeqSerializer<'_, Vec<u8>>,
+fn are_put<W: Sink>(
+    list: &mut SeqSerializer<'_, W>,
     alloc: Global,
     elements: &[(Element<'_>, Answer)],
 ) -> bool {
     let mut is_so = true;
     for (element, want) in elements {
-        is_so = is_so
-            && match *element {
-                Element::Null => is_element(list, alloc, &(), *want),
-                Element::NoInt => is_element(list, alloc, &None::<i32>, *want),
-                Element::Truth(value) => is_element(list, alloc, &value, *want),
-                Element::Uint(value) => is_element(list, alloc, &value, *want),
-                Element::Ulong(value) => is_element(list, alloc, &value, *want),
-                Element::Int(value) => is_element(list, alloc, &value, *want),
-                Element::List(values) => is_list_element(list, alloc, values, *want),
-                Element::Uints(values) => are_elements(list, alloc, values, *want),
-                Element::Ints(values) => are_elements(list, alloc, values, *want),
-            };
+        is_so = is_put(list, alloc, *element, *want) && is_so;
     }
     is_so
 }
 
 /// The list or array answers so, and its end.
-fn puts_elements(
-    list: SeqSerializer<'_, Vec<u8>>,
+fn puts_elements<W: Sink>(
+    list: SeqSerializer<'_, W>,
     alloc: Global,
     elements: &[(Element<'_>, Answer)],
     end: Option<Answer>,
@@ -151,8 +168,8 @@ fn puts_elements(
 }
 
 /// The value is answered so.
-fn is_value<V: Serialize>(
-    map: &mut MapSerializer<'_, Vec<u8>>,
+fn is_value<W: Sink, V: Serialize>(
+    map: &mut MapSerializer<'_, W>,
     alloc: Global,
     value: &V,
     want: Answer,
@@ -161,8 +178,8 @@ fn is_value<V: Serialize>(
 }
 
 /// A key and its value by one call are answered so.
-pub(crate) fn is_pair<V: Serialize>(
-    map: &mut MapSerializer<'_, Vec<u8>>,
+pub(crate) fn is_pair<W: Sink, V: Serialize>(
+    map: &mut MapSerializer<'_, W>,
     alloc: Global,
     key: u32,
     value: &V,
@@ -172,33 +189,42 @@ pub(crate) fn is_pair<V: Serialize>(
 }
 
 /// The key is answered so.
-fn is_key(map: &mut MapSerializer<'_, Vec<u8>>, alloc: Global, key: u32, want: Answer) -> bool {
+fn is_key<W: Sink>(map: &mut MapSerializer<'_, W>, alloc: Global, key: u32, want: Answer) -> bool {
     told(map.serialize_key(alloc, &key)) == want
 }
 
+/// A key, a value or both are answered so.
+fn is_entry<W: Sink>(
+    map: &mut MapSerializer<'_, W>,
+    alloc: Global,
+    entry: Entry,
+    want: Answer,
+) -> bool {
+    match entry {
+        Entry::Key(key) => is_key(map, alloc, key, want),
+        Entry::Number(value) => is_value(map, alloc, &value, want),
+        Entry::Truth(value) => is_value(map, alloc, &value, want),
+        Entry::Pair(key, value) => is_pair(map, alloc, key, &value, want),
+        Entry::PairAndNull(key, value) => is_pair(map, alloc, key, &(value, ()), want),
+    }
+}
+
 /// The keys and values are answered so.
-fn are_entries(
-    map: &mut MapSerializer<'_, Vec<u8>>,
+fn are_entries<W: Sink>(
+    map: &mut MapSerializer<'_, W>,
     alloc: Global,
     entries: &[(Entry, Answer)],
 ) -> bool {
     let mut is_so = true;
     for (entry, want) in entries {
-        is_so = is_so
-            && match *entry {
-                Entry::Key(key) => is_key(map, alloc, key, *want),
-                Entry::Number(value) => is_value(map, alloc, &value, *want),
-                Entry::Truth(value) => is_value(map, alloc, &value, *want),
-                Entry::Pair(key, value) => is_pair(map, alloc, key, &value, *want),
-                Entry::PairAndNull(key, value) => { is_pair(map, alloc, key, &(value, ()), *want) }
-            };
+        is_so = is_entry(map, alloc, *entry, *want) && is_so;
     }
     is_so
 }
 
 /// The map answers so, and its end.
-fn puts_entries(
-    map: MapSerializer<'_, Vec<u8>>,
+fn puts_entries<W: Sink>(
+    map: MapSerializer<'_, W>,
     alloc: Global,
     entries: &[(Entry, Answer)],
     end: Option<Answer>,
@@ -215,8 +241,8 @@ fn puts_entries(
 }
 
 /// The elements of the tuple are taken, and its end is answered so.
-fn puts_tuple(
-    ser: &mut Serializer<Vec<u8>>,
+fn puts_tuple<W: Sink>(
+    ser: &mut Serializer<W>,
     alloc: Global,
     len: usize,
     parts: &[u32],
@@ -245,8 +271,8 @@ fn compound(outcome: Result<bool, Answer>) -> Answer {
 }
 
 /// What the value's own call answers.
-pub(crate) fn puts_value<T: Serialize>(
-    ser: &mut Serializer<Vec<u8>>,
+pub(crate) fn puts_value<W: Sink, T: Serialize>(
+    ser: &mut Serializer<W>,
     alloc: Global,
     value: &T,
 ) -> Answer {
@@ -254,63 +280,131 @@ pub(crate) fn puts_value<T: Serialize>(
 }
 
 /// What a vector's own call answers.
-fn puts_ints(ser: &mut Serializer<Vec<u8>>, alloc: Global, values: &[i32]) -> Answer {
+fn puts_ints<W: Sink>(ser: &mut Serializer<W>, alloc: Global, values: &[i32]) -> Answer {
     match values.to_vec(alloc) {
         Ok(list) => puts_value(ser, alloc, &list),
         Err(_) => Answer::OutOfMemory,
     }
 }
 
-/// What the call of a compound answers.
-fn puts_compound(ser: &mut Serializer<Vec<u8>>, alloc: Global, put: Put<'_>) -> Answer {
-    match put {
-        Put::List(len, elements, end) => compound(match ser.serialize_seq(alloc, len) {
-            Ok(list) => Ok(puts_elements(list, alloc, elements, end)),
-            Err(e) => Err(name_of(&e)),
-        }),
-        Put::Array(len, elements, end) => compound(match ser.serialize_array(alloc, len) {
-            Ok(array) => Ok(puts_elements(array, alloc, elements, end)),
-            Err(e) => Err(name_of(&e)),
-        }),
-        Put::Tuple(len, parts, end) => compound(puts_tuple(ser, alloc, len, parts, end)),
-        Put::Map(len, entries, end) => compound(match ser.serialize_map(alloc, len) {
-            Ok(map) => Ok(puts_entries(map, alloc, entries, end)),
-            Err(e) => Err(name_of(&e)),
-        }),
-        _ => Answer::Message,
+/// What the call of a list answers.
+fn puts_list<W: Sink>(
+    ser: &mut Serializer<W>,
+    alloc: Global,
+    len: Option<usize>,
+    elements: &[(Element<'_>, Answer)],
+    end: Option<Answer>,
+) -> Result<bool, Answer> {
+    match ser.serialize_seq(alloc, len) {
+        Ok(list) => Ok(puts_elements(list, alloc, elements, end)),
+        Err(e) => Err(name_of(&e)),
     }
 }
 
-/// What the call answers.
-fn puts(ser: &mut Serializer<Vec<u8>>, alloc: Global, put: Put<'_>) -> Answer {
+/// What the call of an array answers.
+fn puts_array<W: Sink>(
+    ser: &mut Serializer<W>,
+    alloc: Global,
+    len: Option<usize>,
+    elements: &[(Element<'_>, Answer)],
+    end: Option<Answer>,
+) -> Result<bool, Answer> {
+    match ser.serialize_array(alloc, len) {
+        Ok(array) => Ok(puts_elements(array, alloc, elements, end)),
+        Err(e) => Err(name_of(&e)),
+    }
+}
+
+/// What the call of a map answers.
+fn puts_map<W: Sink>(
+    ser: &mut Serializer<W>,
+    alloc: Global,
+    len: Option<usize>,
+    entries: &[(Entry, Answer)],
+    end: Option<Answer>,
+) -> Result<bool, Answer> {
+    match ser.serialize_map(alloc, len) {
+        Ok(map) => Ok(puts_entries(map, alloc, entries, end)),
+        Err(e) => Err(name_of(&e)),
+    }
+}
+
+/// What the call of a compound answers.
+fn puts_compound<W: Sink>(ser: &mut Serializer<W>, alloc: Global, put: Put<'_>) -> Answer {
+    compound(match put {
+        Put::List(len, elements, end) => puts_list(ser, alloc, len, elements, end),
+        Put::Array(len, elements, end) => puts_array(ser, alloc, len, elements, end),
+        Put::Tuple(len, parts, end) => puts_tuple(ser, alloc, len, parts, end),
+        Put::Map(len, entries, end) => puts_map(ser, alloc, len, entries, end),
+        _ => Err(Answer::Message),
+    })
+}
+
+/// What the call of an unsigned number answers.
+fn puts_unsigned<W: Sink>(ser: &mut Serializer<W>, alloc: Global, put: Put<'_>) -> Answer {
     match put {
-        Put::None => told(ser.serialize_none(alloc)),
-        Put::SomeUint(value) => told(ser.serialize_some(alloc, &value)),
-        Put::Newtype(value) => { told(ser.serialize_newtype_struct(alloc, "Celsius", &value)) }
-        Put::Unit => told(ser.serialize_unit(alloc)),
-        Put::UnitStruct => told(ser.serialize_unit_struct(alloc, "Nothing")),
-        Put::Truth(value) => told(ser.serialize_bool(alloc, value)),
-        Put::Char(value) => told(ser.serialize_char(alloc, value)),
         Put::Ubyte(value) => told(ser.serialize_u8(alloc, value)),
         Put::Ushort(value) => told(ser.serialize_u16(alloc, value)),
         Put::Uint(value) => told(ser.serialize_u32(alloc, value)),
         Put::Ulong(value) => told(ser.serialize_u64(alloc, value)),
+        _ => puts_compound(ser, alloc, put),
+    }
+}
+
+/// What the call of a signed number answers.
+fn puts_signed<W: Sink>(ser: &mut Serializer<W>, alloc: Global, put: Put<'_>) -> Answer {
+    match put {
         Put::Byte(value) => told(ser.serialize_i8(alloc, value)),
         Put::Short(value) => told(ser.serialize_i16(alloc, value)),
         Put::Int(value) => told(ser.serialize_i32(alloc, value)),
         Put::Long(value) => told(ser.serialize_i64(alloc, value)),
+        _ => puts_unsigned(ser, alloc, put),
+    }
+}
+
+/// What the call of a value of so many bytes answers.
+fn puts_fixed<W: Sink>(ser: &mut Serializer<W>, alloc: Global, put: Put<'_>) -> Answer {
+    match put {
         Put::Float(value) => told(ser.serialize_f32(alloc, Float::from_bits(value))),
         Put::Double(value) => told(ser.serialize_f64(alloc, Double::from_bits(value))),
         Put::Milliseconds(value) => told(ser.serialize_timestamp(alloc, value)),
         Put::Uuid(bytes) => told(ser.serialize_uuid(alloc, &Uuid::from(bytes))),
+        _ => puts_signed(ser, alloc, put),
+    }
+}
+
+/// What the call of a decimal answers.
+fn puts_decimal<W: Sink>(ser: &mut Serializer<W>, alloc: Global, put: Put<'_>) -> Answer {
+    match put {
         Put::Dec32(bytes) => told(ser.serialize_decimal32(alloc, &Dec32::from(bytes))),
         Put::Dec64(bytes) => told(ser.serialize_decimal64(alloc, &Dec64::from(bytes))),
         Put::Dec128(bytes) => told(ser.serialize_decimal128(alloc, &Dec128::from(bytes))),
+        _ => puts_fixed(ser, alloc, put),
+    }
+}
+
+/// What the call of a payload or a vector answers.
+fn puts_payload<W: Sink>(ser: &mut Serializer<W>, alloc: Global, put: Put<'_>) -> Answer {
+    match put {
         Put::Bytes(bytes) => told(ser.serialize_bytes(alloc, bytes)),
         Put::Str(text) => told(ser.serialize_str(alloc, text)),
         Put::Symbol(text) => told(ser.serialize_symbol(alloc, text)),
         Put::Ints(values) => puts_ints(ser, alloc, values),
-        _ => puts_compound(ser, alloc, put),
+        _ => puts_decimal(ser, alloc, put),
+    }
+}
+
+/// What the call answers.
+fn puts<W: Sink>(ser: &mut Serializer<W>, alloc: Global, put: Put<'_>) -> Answer {
+    match put {
+        Put::None => told(ser.serialize_none(alloc)),
+        Put::SomeUint(value) => told(ser.serialize_some(alloc, &value)),
+        Put::Newtype(value) => told(ser.serialize_newtype_struct(alloc, "Celsius", &value)),
+        Put::Unit => told(ser.serialize_unit(alloc)),
+        Put::UnitStruct => told(ser.serialize_unit_struct(alloc, "Nothing")),
+        Put::Truth(value) => told(ser.serialize_bool(alloc, value)),
+        Put::Char(value) => told(ser.serialize_char(alloc, value)),
+        _ => puts_payload(ser, alloc, put),
     }
 }
 
@@ -322,6 +416,15 @@ pub(crate) fn goes(alloc: Global, calls: &[(Put<'_>, Answer)], bytes: &[u8]) -> 
         is_so = puts(&mut ser, alloc, *put) == *want && is_so;
     }
     is_so && !ser.is_human_readable() && ser.writer.as_slice() == bytes
+}
+
+/// Each row of calls goes so.
+pub(crate) fn writes_all(alloc: Global, rows: &[(&[(Put<'_>, Answer)], &[u8])]) -> bool {
+    let mut is_so = true;
+    for (calls, bytes) in rows {
+        is_so = goes(alloc, calls, bytes) && is_so;
+    }
+    is_so
 }
 
 /// A serializer takes all of these, and has then written the bytes.

@@ -1,9 +1,10 @@
 //! A serializer's settings, and what follows where a compound is dropped or the writer breaks off.
 
-use super::answer::{Answer, answer_of};
+use super::answer::{Answer, told};
+use super::made::{list, string};
 use super::puts::{Element, Put, goes, puts_value, writes};
-use amqp_base::Counted;
-use amqp_ser::{Serialize, Serializer};
+use amqp_base::{Counted, Sink};
+use amqp_ser::Serializer;
 use std::alloc::Global;
 use std::io;
 use std::io::{ErrorKind, Write};
@@ -19,17 +20,23 @@ fn values_are_written_one_after_the_other(rt: HostRuntime) {
     assert!(rt; writes(rt.alloc(), &items, b"\x52\x01\x54\xff\x52\x02\x54\xfe"));
 }
 
-/// Three strings are written as these bytes, by the call and by the type's own.
+/// Three strings are taken, by the call and by the type's own.
+fn puts_strings<W: Sink>(ser: &mut Serializer<W>, alloc: Global, text: Option<String>) -> bool {
+    match text {
+        Some(text) => {
+            let first = told(ser.serialize_str(alloc, "a"));
+            let second = puts_value(ser, alloc, &text);
+            let third = puts_value(ser, alloc, &text);
+            [first, second, third] == [Answer::Taken; 3]
+        }
+        None => false,
+    }
+}
+
+/// They are written as these bytes.
 fn writes_strings_as(alloc: Global, ser: Serializer<Vec<u8>>, bytes: &[u8]) -> bool {
-    let Ok(text) = String::from_str(alloc, "a") else {
-        return false;
-    };
     let mut ser = ser;
-    let first = ser.serialize_str(alloc, "a").is_ok();
-    let second = puts_value(&mut ser, alloc, &text);
-    let third = puts_value(&mut ser, alloc, &text);
-    let are_taken = second == Answer::Taken && third == Answer::Taken;
-    first && are_taken && ser.writer.as_slice() == bytes
+    puts_strings(&mut ser, alloc, string(alloc, "a")) && ser.writer.as_slice() == bytes
 }
 
 /// The symbol setting stays; strings stay strings under the settings of described values.
@@ -96,18 +103,26 @@ impl Write for Narrow {
     }
 }
 
-/// The writer breaks off behind these bytes: so is the value refused, and what follows as ended.
+/// The list is refused as the writer breaks off, and what follows as ended.
+fn is_broken<W: Sink>(ser: &mut Serializer<W>, alloc: Global, value: Option<Vec<u32>>) -> bool {
+    match value {
+        Some(value) => {
+            let first = puts_value(ser, alloc, &value);
+            let second = told(ser.serialize_u32(alloc, 1));
+            first == Answer::Io(ErrorKind::ConnectionReset) && second == Answer::InvalidValue
+        }
+        None => false,
+    }
+}
+
+/// The writer breaks off behind these bytes of a list.
 fn is_broken_behind(alloc: Global, bytes: &[u8]) -> bool {
-    let Ok(list) = vec![in alloc; 1u32, 256] else {
-        return false;
-    };
     let writer = Narrow {
         bytes: Vec::new(alloc),
         left: bytes.len(),
     };
     let mut ser = Serializer::new(Counted::new(writer));
-    answer_of(&list.serialize(alloc, &mut ser)) == Answer::Io(ErrorKind::ConnectionReset)
-        && answer_of(&ser.serialize_u32(alloc, 1)) == Answer::InvalidValue
+    is_broken(&mut ser, alloc, list(alloc, &[1u32, 256]))
         && ser.into_inner().into_inner().bytes.as_slice() == bytes
 }
 

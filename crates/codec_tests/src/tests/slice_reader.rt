@@ -118,23 +118,26 @@ fn a_call_takes_all_that_it_asks_for_or_nothing(rt: HostRuntime) {
     assert!(rt; goes(alloc, b"", NONE_TO_COME));
 }
 
+/// Behind two bytes that were lent.
+const LENT: &[(Call, usize)] = &[
+    (Peek(Some(0xbe)), 2),
+    (GetByteSlice(2, None), 2),
+    (Peek(Some(0xbe)), 2),
+    (GetByteSlice(usize::MAX, None), 2),
+    (Peek(Some(0xbe)), 2),
+    (GetByteSlice(1, Some(b"\xbe")), 3),
+    (GetByteSlice(0, Some(b"")), 3),
+    (GetByteSlice(1, None), 3),
+];
+
 #[test]
 fn a_lent_slice_lives_as_long_as_the_bytes(rt: HostRuntime) {
     let alloc = rt.alloc();
     let mut reader = SliceReader::new(BYTES);
     assert!(rt; answers(&mut reader, alloc, GetByteSlice(0, Some(b"")), 0));
     let front = reader.get_byte_slice(2).ok();
-    for (call, position) in [
-        (Peek(Some(0xbe)), 2),
-        (GetByteSlice(2, None), 2),
-        (Peek(Some(0xbe)), 2),
-        (GetByteSlice(usize::MAX, None), 2),
-        (Peek(Some(0xbe)), 2),
-        (GetByteSlice(1, Some(b"\xbe")), 3),
-        (GetByteSlice(0, Some(b"")), 3),
-        (GetByteSlice(1, None), 3),
-    ] {
-        assert!(rt; answers(&mut reader, alloc, call, position));
+    for (call, position) in LENT {
+        assert!(rt; answers(&mut reader, alloc, *call, *position));
     }
     assert!(rt; front == Some(b"\xde\xad".as_slice()));
 }

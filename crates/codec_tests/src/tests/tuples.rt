@@ -1,23 +1,19 @@
 //! Tuples, which stand as lists of as many elements as they have parts.
 
 use super::answer::Answer;
-use super::bytes::{are_texts, is_front, is_text, is_written_as};
+use super::bytes::{are_texts, is_front, is_made_text, is_text, is_written_as};
 use super::calls::{Call, Part, goes};
+use super::made::string;
 use super::puts;
 use super::puts::{Put, writes};
 use Call::Tuple;
 use Part::{Truth, Uint};
-use std::alloc::Global;
 
 /// (true, 13, "amqp")
-fn is_three_parts(alloc: Global) -> bool {
-    match String::from_str(alloc, "amqp") {
-        Ok(text) => is_text(
-            alloc,
-            &(true, 13u64, text),
-            b"\xc0\x0a\x03\x41\x53\x0d\xa1\x04amqp",
-        ),
-        Err(_) => false,
+fn three_parts(text: Option<String>) -> Option<(bool, u64, String)> {
+    match text {
+        Some(text) => Some((true, 13, text)),
+        None => None,
     }
 }
 
@@ -37,7 +33,8 @@ fn a_tuple_is_a_list_of_its_parts(rt: HostRuntime) {
 #[test]
 fn tuples_of_three_and_four_parts(rt: HostRuntime) {
     let alloc = rt.alloc();
-    assert!(rt; is_three_parts(alloc));
+    let parts = three_parts(string(alloc, "amqp"));
+    assert!(rt; is_made_text(alloc, parts, b"\xc0\x0a\x03\x41\x53\x0d\xa1\x04amqp"));
     let nested = b"\xc0\x09\x03\x43\xc0\x04\x02\x54\xff\x40\x42";
     assert!(rt; is_text(alloc, &(0u32, (-1i32, ()), false), nested));
     assert!(rt;
@@ -51,28 +48,33 @@ fn tuples_of_three_and_four_parts(rt: HostRuntime) {
     assert!(rt; is_written_as(alloc, &(1u8, 2u16, 0u64, 'a'), four));
 }
 
+const EMPTY: Put<'static> = Put::Tuple(0, &[], Answer::Taken);
+
+const TOO_MANY: Put<'static> = Put::Tuple(1, &[1, 2], Answer::SequenceLengthMismatch);
+
+/// Too few are refused at the end, and all that follows.
+const TOO_FEW: &[(Put<'static>, Answer)] = &[
+    (Put::Uint(0), Answer::Taken),
+    (
+        Put::Tuple(2, &[1], Answer::SequenceLengthMismatch),
+        Answer::Taken,
+    ),
+    (Put::Uint(1), Answer::InvalidValue),
+    (Put::None, Answer::InvalidValue),
+    (EMPTY, Answer::InvalidValue),
+];
+
 #[test]
 fn a_tuple_is_written_with_as_many_parts_as_it_was_opened_for(rt: HostRuntime) {
     let alloc = rt.alloc();
-    let empty = Put::Tuple(0, &[], Answer::Taken);
-    assert!(rt; writes(alloc, &[empty, Put::None], b"\x45\x40"));
-    let too_many = Put::Tuple(1, &[1, 2], Answer::SequenceLengthMismatch);
-    assert!(rt; writes(alloc, &[too_many], b""));
-    // too few are refused at the end, and all that follows
-    let too_few = Put::Tuple(2, &[1], Answer::SequenceLengthMismatch);
-    let calls = [
-        (Put::Uint(0), Answer::Taken),
-        (too_few, Answer::Taken),
-        (Put::Uint(1), Answer::InvalidValue),
-        (Put::None, Answer::InvalidValue),
-        (empty, Answer::InvalidValue),
-    ];
-    assert!(rt; puts::goes(alloc, &calls, b"\x43"));
+    assert!(rt; writes(alloc, &[EMPTY, Put::None], b"\x45\x40"));
+    assert!(rt; writes(alloc, &[TOO_MANY], b""));
+    assert!(rt; puts::goes(alloc, TOO_FEW, b"\x43"));
 }
+
+const PARTS: Call = Tuple(2, &[Uint(Ok(Some(13))), Truth(true)], Answer::Taken);
 
 #[test]
 fn parts_of_a_tuple_are_read_in_turn(rt: HostRuntime) {
-    let parts = Tuple(2, &[Uint(Ok(Some(13))), Truth(true)], Answer::Taken);
-    let bytes = b"\xc0\x04\x02\x52\x0d\x41\x40";
-    assert!(rt; goes(rt.alloc(), bytes, &[parts], 6));
+    assert!(rt; goes(rt.alloc(), b"\xc0\x04\x02\x52\x0d\x41\x40", &[PARTS], 6));
 }

@@ -1,13 +1,15 @@
 //! Types of one's own, by the public contracts alone.
 
-use super::answer::{Answer, UNEXPECTED_EOF};
-use super::bytes::{is_written_as, refuses};
+use super::answer::{Answer, UNEXPECTED_EOF, told};
+use super::bytes::{is_made_as, is_written_as};
+use super::made::{list_of, string, strings};
+use super::puts::puts_value;
 use own_types::{
     Celsius, Colour, Delivery, Foo, Measurement, Note, Offer, Pair, Priority, Reply, Sensor,
     Station, Tags, kept,
 };
 use serde_amqp::primitives::Array;
-use serde_amqp::{Serialize, Serializer, from_slice};
+use serde_amqp::{Error, Serialize, Serializer, from_slice};
 use std::alloc::Global;
 
 const WEIGHT: &[u8] = b"\xc0\x0a\x02\x70\x00\x00\x01\x2c\xa1\x02kg";
@@ -31,74 +33,76 @@ const FOO_MAP: &[u8] = b"\xc1\x12\x04\xa1\x03bar\x52\x0d\xa1\x07is_fool\x41";
 
 type Pairs = Pair<Pair<u32, Celsius>, Vec<Measurement>>;
 
-/// Three hundred kilograms, and the pair of a pair and a list of them, are written as their bytes.
-fn weights_are_written(alloc: Global) -> bool {
-    let Ok(unit) = String::from_str(alloc, "kg") else {
-        return false;
-    };
-    let only = Measurement { amount: 300, unit };
-    let is_written = is_written_as(alloc, &only, WEIGHT);
+/// The value that was read is written as the bytes.
+fn is_kept_as<T: Serialize + Drop>(alloc: Global, read: Result<T, Error>, bytes: &[u8]) -> bool {
+    match read {
+        Ok(value) => is_written_as(alloc, &value, bytes),
+        Err(_) => false,
+    }
+}
+
+/// Three hundred kilograms.
+fn weight(alloc: Global) -> Option<Measurement> {
+    match String::from_str(alloc, "kg") {
+        Ok(unit) => Some(Measurement { amount: 300, unit }),
+        Err(_) => None,
+    }
+}
+
+/// A pair of numbers, and a list of the weight.
+fn pairs(alloc: Global, only: Option<Measurement>) -> Option<Pairs> {
     let first = Pair {
         first: 0u32,
         second: Celsius(1),
     };
-    match vec![in alloc; only] {
-        Ok(second) => is_written && is_written_as(alloc, &Pair { first, second }, PAIR),
-        Err(_) => false,
+    match list_of(alloc, only) {
+        Some(second) => Some(Pair { first, second }),
+        None => None,
     }
 }
 
-/// A note without a number, and two tags, are written as their bytes.
-fn texts_are_written(alloc: Global) -> bool {
-    let (Ok(text), Ok(a), Ok(b)) = (
-        String::from_str(alloc, "a"),
-        String::from_str(alloc, "a"),
-        String::from_str(alloc, "b"),
-    ) else {
-        return false;
-    };
-    let is_written = is_written_as(alloc, &Note { text, number: None }, NOTE);
-    match vec![in alloc; a, b] {
-        Ok(both) => is_written && is_written_as(alloc, &Tags(both), TAGS),
-        Err(_) => false,
+/// A note without a number.
+fn note(text: Option<String>) -> Option<Note> {
+    match text {
+        Some(text) => Some(Note { text, number: None }),
+        None => None,
     }
 }
 
-/// Three hundred kilograms, and two degrees below zero, are read.
-fn numbers_are_read(alloc: Global) -> bool {
-    let weight = match from_slice::<Measurement>(alloc, WEIGHT) {
+/// Two tags.
+fn tags(both: Option<Vec<String>>) -> Option<Tags> {
+    match both {
+        Some(both) => Some(Tags(both)),
+        None => None,
+    }
+}
+
+/// Three hundred kilograms are read.
+fn is_weight(alloc: Global) -> bool {
+    match kept::measurement_is_kept(alloc, WEIGHT) {
         Ok(found) => found.amount == 300 && found.unit.as_str() == "kg",
         Err(_) => false,
-    };
-    weight && matches!(&from_slice::<Celsius>(alloc, b"\x54\xfe"), Ok(found) if found.0 == -2)
+    }
+}
+
+/// Two degrees below zero are read.
+fn is_cold(alloc: Global) -> bool {
+    match kept::celsius_is_kept(alloc, b"\x54\xfe") {
+        Ok(found) => found.0 == -2,
+        Err(_) => false,
+    }
 }
 
 /// A colour is read.
-fn colour_is_read(alloc: Global) -> bool {
-    match from_slice::<Colour>(alloc, COLOUR) {
+fn is_colour(alloc: Global) -> bool {
+    match kept::colour_is_kept(alloc, COLOUR) {
         Ok(found) => found.0 == 1 && found.1 == 2 && found.2 == 255,
         Err(_) => false,
     }
 }
 
-/// The two tags are read, and written again.
-fn tags_are_read(alloc: Global) -> bool {
-    match from_slice::<Tags>(alloc, TAGS) {
-        Ok(found) => is_written_as(alloc, &found, TAGS),
-        Err(_) => false,
-    }
-}
-
-/// The pair of a pair and a list is read, and written again.
-fn pairs_are_read(alloc: Global) -> bool {
-    match from_slice::<Pairs>(alloc, PAIR) {
-        Ok(found) => is_written_as(alloc, &found, PAIR),
-        Err(_) => false,
-    }
-}
-
-/// A list of a tuple that begins with a newtype is read, and written again.
-fn tuples_are_read(alloc: Global) -> bool {
+/// A list of one tuple that begins with a newtype is read, and written again.
+fn is_one_tuple(alloc: Global) -> bool {
     match from_slice::<Vec<(Celsius, bool, String)>>(alloc, TUPLES) {
         Ok(found) => found.len() == 1 && is_written_as(alloc, &found, TUPLES),
         Err(_) => false,
@@ -107,7 +111,7 @@ fn tuples_are_read(alloc: Global) -> bool {
 
 /// The bytes are read as the text `a` without a number.
 fn is_note(alloc: Global, bytes: &[u8]) -> bool {
-    match from_slice::<Note>(alloc, bytes) {
+    match kept::note_is_kept(alloc, bytes) {
         Ok(found) => found.text.as_str() == "a" && found.number.is_none(),
         Err(_) => false,
     }
@@ -115,42 +119,71 @@ fn is_note(alloc: Global, bytes: &[u8]) -> bool {
 
 /// The bytes are read as the number 13 and the word true.
 fn is_foo(alloc: Global, bytes: &[u8]) -> bool {
-    match from_slice::<Foo>(alloc, bytes) {
+    match kept::foo_is_kept(alloc, bytes) {
         Ok(found) => found.bar == 13 && found.is_fool,
         Err(_) => false,
     }
 }
 
+/// Under the setting of described maps the struct is written as the bytes.
+fn is_map(alloc: Global, value: &Foo, bytes: &[u8]) -> bool {
+    let mut ser = Serializer::described_map(Vec::new(alloc));
+    let answer = puts_value(&mut ser, alloc, value);
+    answer == Answer::Taken && ser.into_inner().as_slice() == bytes
+}
+
 #[test]
-fn a_struct_is_written_and_read_as_a_list_or_a_map(rt: HostRuntime) {
+fn a_struct_is_written_as_a_list_or_a_map(rt: HostRuntime) {
     let alloc = rt.alloc();
     let foo = Foo {
         bar: 13,
         is_fool: true,
     };
     assert!(rt; is_written_as(alloc, &foo, FOO_LIST));
-    let mut ser = Serializer::described_map(Vec::new(alloc));
-    assert!(rt; foo.serialize(alloc, &mut ser).is_ok());
-    assert!(rt; ser.into_inner().as_slice() == FOO_MAP);
+    assert!(rt; is_map(alloc, &foo, FOO_MAP));
     assert!(rt; is_written_as(alloc, &Colour(1, 2, 255), COLOUR));
     assert!(rt; is_written_as(alloc, &Celsius(-2), b"\x54\xfe"));
-    assert!(rt; weights_are_written(alloc));
-    assert!(rt; texts_are_written(alloc));
-    assert!(rt; numbers_are_read(alloc));
-    assert!(rt; colour_is_read(alloc));
-    assert!(rt; tags_are_read(alloc));
-    assert!(rt; pairs_are_read(alloc));
-    assert!(rt; tuples_are_read(alloc));
-    assert!(rt; is_note(alloc, NOTE));
-    // by its names or in order
-    assert!(rt; is_foo(alloc, FOO_LIST));
-    assert!(rt; is_foo(alloc, FOO_MAP));
-    let turned = b"\xc1\x12\x04\xa1\x07is_fool\x41\xa1\x03bar\x52\x0d";
-    assert!(rt; is_foo(alloc, turned));
-    let wide = b"\xd1\0\0\0\x15\0\0\0\x04\xa1\x03bar\x52\x0d\xa1\x07is_fool\x41";
-    assert!(rt; is_foo(alloc, wide));
-    let named = b"\xc1\x10\x04\xa1\x06number\x40\xa1\x04text\xa1\x01a";
-    assert!(rt; is_note(alloc, named));
+    assert!(rt; is_made_as(alloc, weight(alloc), WEIGHT));
+    assert!(rt; is_made_as(alloc, pairs(alloc, weight(alloc)), PAIR));
+    assert!(rt; is_made_as(alloc, note(string(alloc, "a")), NOTE));
+    assert!(rt; is_made_as(alloc, tags(strings(alloc, &["a", "b"])), TAGS));
+}
+
+#[test]
+fn numbers_and_colours_are_read(rt: HostRuntime) {
+    let alloc = rt.alloc();
+    assert!(rt; is_weight(alloc));
+    assert!(rt; is_cold(alloc));
+    assert!(rt; is_colour(alloc));
+}
+
+#[test]
+fn what_is_read_is_written_again(rt: HostRuntime) {
+    let alloc = rt.alloc();
+    assert!(rt; is_kept_as(alloc, kept::tags_is_kept(alloc, TAGS), TAGS));
+    assert!(rt; is_kept_as(alloc, from_slice::<Pairs>(alloc, PAIR), PAIR));
+    assert!(rt; is_one_tuple(alloc));
+}
+
+/// In order, or by its names.
+const NOTES: &[&[u8]] = &[NOTE, b"\xc1\x10\x04\xa1\x06number\x40\xa1\x04text\xa1\x01a"];
+
+const FOOS: &[&[u8]] = &[
+    FOO_LIST,
+    FOO_MAP,
+    b"\xc1\x12\x04\xa1\x07is_fool\x41\xa1\x03bar\x52\x0d",
+    b"\xd1\0\0\0\x15\0\0\0\x04\xa1\x03bar\x52\x0d\xa1\x07is_fool\x41",
+];
+
+#[test]
+fn a_struct_is_read_from_a_list_or_a_map(rt: HostRuntime) {
+    let alloc = rt.alloc();
+    for bytes in NOTES {
+        assert!(rt; is_note(alloc, bytes));
+    }
+    for bytes in FOOS {
+        assert!(rt; is_foo(alloc, bytes));
+    }
 }
 
 /// A sensor of two readings and a unit, and one without.
@@ -165,11 +198,13 @@ const REPLY: &[u8] =
 const NO_SENSOR: &[u8] = b"\xc0\x04\x02\x53\x05\x40";
 
 /// No heights, one name, no region, a count, a visit, a sensor, and a list of one.
-const STATION: &[u8] =
-    b"\xc0\x30\x07\x45\xc0\x04\x01\xa1\x01a\x40\xc1\x06\x02\xa1\x01x\x52\x01\xc1\x05\x02\x52\x01\x53\x02\xc0\x0d\x03\x52\x07\xc0\x05\x02\x54\x01\x54\xff\xa3\x01C\xc0\x07\x01\xc0\x04\x03\x43\x45\x40";
+const STATION: &[u8] = b"\xc0\x30\x07\x45\xc0\x04\x01\xa1\x01a\x40\
+    \xc1\x06\x02\xa1\x01x\x52\x01\xc1\x05\x02\x52\x01\x53\x02\
+    \xc0\x0d\x03\x52\x07\xc0\x05\x02\x54\x01\x54\xff\xa3\x01C\
+    \xc0\x07\x01\xc0\x04\x03\x43\x45\x40";
 
-const DELIVERY: &[u8] =
-    b"\xc0\x1c\x0c\x52\x01\xa0\x01\xab\x43\x40\x41\x42\x83\0\0\0\0\0\0\0\x01\x40\xa1\x01u\xa3\x01t\x40\x45";
+const DELIVERY: &[u8] = b"\xc0\x1c\x0c\x52\x01\xa0\x01\xab\x43\x40\x41\x42\
+    \x83\0\0\0\0\0\0\0\x01\x40\xa1\x01u\xa3\x01t\x40\x45";
 
 /// The bytes are read as a sensor with this number and as many readings, and written again.
 fn is_sensor(alloc: Global, bytes: &[u8], id: u32, readings: usize) -> bool {
@@ -193,28 +228,31 @@ fn is_reply(alloc: Global, bytes: &[u8], has_sensor: bool) -> bool {
     }
 }
 
-/// The station and the delivery are read with all their fields, and written again.
-fn long_ones_are_kept(alloc: Global) -> bool {
-    let station = match kept::station_is_kept(alloc, STATION) {
+/// The station is read with all its fields, and written again.
+fn station_is_kept(alloc: Global) -> bool {
+    match kept::station_is_kept(alloc, STATION) {
         Ok(found) => {
             let same = found.names.len() == 1 && found.sensors.len() == 1;
             same && found.counts.len() == 1 && is_written_as(alloc, &found, STATION)
         }
         Err(_) => false,
-    };
-    let delivery = match kept::delivery_is_kept(alloc, DELIVERY) {
+    }
+}
+
+/// The delivery is read with all its fields, and written again.
+fn delivery_is_kept(alloc: Global) -> bool {
+    match kept::delivery_is_kept(alloc, DELIVERY) {
         Ok(found) => {
             let same = found.delivery_number == 1 && found.is_settled && !found.more_follows;
             same && is_written_as(alloc, &found, DELIVERY)
         }
         Err(_) => false,
-    };
-    station && delivery
+    }
 }
 
 /// Channels 1 and 256, capabilities `a` and `bc`, and limits 1 and -1.
-const OFFER: &[u8] =
-    b"\xc0\x23\x03\xe0\x0a\x02\x70\0\0\0\x01\0\0\x01\0\xe0\x0d\x02\xb3\0\0\0\x01a\0\0\0\x02bc\xc0\x05\x02\x54\x01\x54\xff";
+const OFFER: &[u8] = b"\xc0\x23\x03\xe0\x0a\x02\x70\0\0\0\x01\0\0\x01\0\
+    \xe0\x0d\x02\xb3\0\0\0\x01a\0\0\0\x02bc\xc0\x05\x02\x54\x01\x54\xff";
 
 const EMPTY_OFFER: &[u8] = b"\xc0\x08\x03\xe0\x01\x00\xe0\x01\x00\x45";
 
@@ -266,7 +304,7 @@ fn arrays_are_fields_and_structs_are_elements_of_arrays(rt: HostRuntime) {
     let of_one =
         b"\xc0\x17\x03\xe0\x06\x01\x70\0\0\0\x01\xe0\x07\x01\xb3\0\0\0\x01a\xc0\x03\x01\x54\x02";
     assert!(rt; is_offer(alloc, OFFER_OF_ONE, [1, 1, 1], of_one));
-    assert!(rt; refuses::<Offer>(alloc, b"\xc0\x04\x03\x45\x45\x45", CODE));
+    assert!(rt; read_offer(alloc, b"\xc0\x04\x03\x45\x45\x45") == CODE);
     assert!(rt; is_one_sensor(alloc, SENSORS, SENSORS));
     assert!(rt; is_one_sensor(alloc, EMPTY_SENSOR, SENSORS));
     assert!(rt; is_one_temperature(alloc, TEMPERATURES, TEMPERATURES));
@@ -287,9 +325,9 @@ fn an_enumeration_over_ubyte_has_its_own_numbers_alone(rt: HostRuntime) {
     assert!(rt; is_high(alloc, b"\x50\x02"));
     assert!(rt; is_written_as(alloc, &Priority::Low, b"\x50\x00"));
     assert!(rt; is_written_as(alloc, &Priority::Normal, b"\x50\x01"));
-    assert!(rt; refuses::<Priority>(alloc, b"\x50\x03", Answer::InvalidValue));
-    assert!(rt; refuses::<Priority>(alloc, b"\x52\x02", CODE));
-    assert!(rt; refuses::<Priority>(alloc, b"\x50", UNEXPECTED_EOF));
+    assert!(rt; read_priority(alloc, b"\x50\x03") == Answer::InvalidValue);
+    assert!(rt; read_priority(alloc, b"\x52\x02") == CODE);
+    assert!(rt; read_priority(alloc, b"\x50") == UNEXPECTED_EOF);
 }
 
 #[test]
@@ -299,57 +337,84 @@ fn structs_of_many_fields_are_read_and_written(rt: HostRuntime) {
     assert!(rt; is_sensor(alloc, EMPTY_SENSOR, 0, 0));
     assert!(rt; is_reply(alloc, REPLY, true));
     assert!(rt; is_reply(alloc, NO_SENSOR, false));
-    assert!(rt; long_ones_are_kept(alloc));
+    assert!(rt; station_is_kept(alloc));
+    assert!(rt; delivery_is_kept(alloc));
 }
 
 const LENGTH: Answer = Answer::SequenceLengthMismatch;
 
 const CODE: Answer = Answer::InvalidFormatCode;
 
+/// What an amount with its unit answers to the bytes.
+fn read_measurement(alloc: Global, bytes: &[u8]) -> Answer {
+    told(kept::measurement_is_kept(alloc, bytes))
+}
+
+/// What a struct of a number and a word answers to the bytes.
+fn read_foo(alloc: Global, bytes: &[u8]) -> Answer {
+    told(kept::foo_is_kept(alloc, bytes))
+}
+
+/// What an offer answers to the bytes.
+fn read_offer(alloc: Global, bytes: &[u8]) -> Answer {
+    told(kept::offer_is_kept(alloc, bytes))
+}
+
+/// What a priority answers to the bytes.
+fn read_priority(alloc: Global, bytes: &[u8]) -> Answer {
+    told(kept::priority_is_kept(alloc, bytes))
+}
+
+/// What an amount with its unit answers.
+const NO_MEASUREMENTS: &[(&[u8], Answer)] = &[
+    // no element, one, three
+    (b"\x45", LENGTH),
+    (b"\xc0\x03\x01\x52\x07", LENGTH),
+    (b"\xc0\x07\x03\x52\x07\xa1\x01m\x43", LENGTH),
+    // another kind than a list, an amount that is a string, a unit that is a symbol
+    (b"\x52\x07", CODE),
+    (b"\xc0\x07\x02\xa1\x01m\xa1\x01m", CODE),
+    (b"\xc0\x06\x02\x52\x07\xa3\x01m", CODE),
+    (b"\xc0\x06\x02\x52\x07\xa1\x01m", Answer::Taken),
+];
+
+/// What a struct of a number and a word answers.
+const NO_FOOS: &[(&[u8], Answer)] = &[
+    // lists of one and of three, whatever their elements are
+    (b"\xc0\x03\x01\x52\x0d", LENGTH),
+    (b"\xc0\x04\x03\x41\x41\x41", LENGTH),
+    // another kind than a list or a map, and a described one
+    (b"\x40", CODE),
+    (b"\x00\x53\x13\xc0\x04\x02\x52\x0d\x41", CODE),
+    // a name that is a symbol, that is no text, and an unknown one whose value isn't there
+    (b"\xc1\x08\x02\xa3\x03bar\x52\x0d", CODE),
+    (
+        b"\xc1\x06\x02\xa1\x01\xff\x52\x0d",
+        Answer::InvalidUtf8Encoding,
+    ),
+    (b"\xc1\x06\x02\xa1\x01x", Answer::Message),
+    // a repeated name, and a third one
+    (
+        b"\xc1\x0f\x04\xa1\x03bar\x52\x0d\xa1\x03bar\x52\x0d",
+        Answer::Message,
+    ),
+    (
+        b"\xc1\x16\x06\xa1\x07is_fool\x41\xa1\x03bar\x52\x0d\xa1\x01x\x41",
+        Answer::Message,
+    ),
+    // a missing one, a value of another kind before it, and no name at all
+    (b"\xc1\x08\x02\xa1\x03bar\x52\x0d", Answer::Message),
+    (b"\xc1\x07\x02\xa1\x03bar\x41", CODE),
+    (b"\xc1\x01\x00", Answer::Message),
+];
+
 #[test]
 fn another_item_than_a_list_of_its_fields_or_a_map_under_their_names_is_refused(rt: HostRuntime) {
     let alloc = rt.alloc();
-    for (bytes, name) in [
-        // no element, one, three
-        (b"\x45".as_slice(), LENGTH),
-        (b"\xc0\x03\x01\x52\x07", LENGTH),
-        (b"\xc0\x07\x03\x52\x07\xa1\x01m\x43", LENGTH),
-        // another kind than a list, an amount that is a string, a unit that is a symbol
-        (b"\x52\x07", CODE),
-        (b"\xc0\x07\x02\xa1\x01m\xa1\x01m", CODE),
-        (b"\xc0\x06\x02\x52\x07\xa3\x01m", CODE),
-        (b"\xc0\x06\x02\x52\x07\xa1\x01m", Answer::Taken),
-    ] {
-        assert!(rt; refuses::<Measurement>(alloc, bytes, name), "{bytes:?}");
+    for (bytes, name) in NO_MEASUREMENTS {
+        assert!(rt; read_measurement(alloc, bytes) == *name);
     }
-    for (bytes, name) in [
-        // lists of one and of three, whatever their elements are
-        (b"\xc0\x03\x01\x52\x0d".as_slice(), LENGTH),
-        (b"\xc0\x04\x03\x41\x41\x41", LENGTH),
-        // another kind than a list or a map, and a described one
-        (b"\x40", CODE),
-        (b"\x00\x53\x13\xc0\x04\x02\x52\x0d\x41", CODE),
-        // a name that is a symbol, that is no text, and an unknown one whose value isn't there
-        (b"\xc1\x08\x02\xa3\x03bar\x52\x0d", CODE),
-        (
-            b"\xc1\x06\x02\xa1\x01\xff\x52\x0d",
-            Answer::InvalidUtf8Encoding,
-        ),
-        (b"\xc1\x06\x02\xa1\x01x", Answer::Message),
-        // a repeated name, and a third one
-        (
-            b"\xc1\x0f\x04\xa1\x03bar\x52\x0d\xa1\x03bar\x52\x0d",
-            Answer::Message,
-        ),
-        (
-            b"\xc1\x16\x06\xa1\x07is_fool\x41\xa1\x03bar\x52\x0d\xa1\x01x\x41",
-            Answer::Message,
-        ),
-        // a missing one, a value of another kind before it, and no name at all
-        (b"\xc1\x08\x02\xa1\x03bar\x52\x0d", Answer::Message),
-        (b"\xc1\x07\x02\xa1\x03bar\x41", CODE),
-        (b"\xc1\x01\x00", Answer::Message),
-    ] {
-        assert!(rt; refuses::<Foo>(alloc, bytes, name), "{bytes:?}");
+    for (bytes, name) in NO_FOOS {
+        assert!(rt; read_foo(alloc, bytes) == *name);
     }
 }
