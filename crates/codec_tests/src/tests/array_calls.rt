@@ -138,7 +138,7 @@ const SEQUENCES: &[(&[u8], &[Call], usize)] = &[
     (b"\xf0\x00\x00\x00\x04\x00\x00\x00\x00\x43", EMPTY, 10),
     (b"\x45\x43", &[Call::List(&[NO_UINT], READ), ZERO], 2),
     // [[1], [2, 3], []], all of them arrays: behind each of them the outer constructor stands again
-    (INNER, &[Call::Array(LISTS, READ), ZERO], 38),
+    (INNER, &[Call::Array(LISTS, READ), ZERO], 37),
 ];
 
 const INNER: &[u8] = b"\xe0\x22\x03\
