@@ -110,7 +110,10 @@ fn holds(alloc: Global, bytes: &[u8], check: Check) -> bool {
         Ulongs => is_array::<u64>(alloc, bytes),
         List => is_list(alloc, bytes),
         Vector => is_vector(alloc, bytes),
-        Front(len, answer, taken) => stops::<Vec<u32>>(alloc, &bytes[..len], answer, taken),
+        Front(len, answer, taken) => match bytes.get(..len) {
+            Some(front) => stops::<Vec<u32>>(alloc, front, answer, taken),
+            None => false,
+        },
         AsInts(answer, taken) => stops::<Vec<i32>>(alloc, bytes, answer, taken),
     }
 }
