@@ -1,13 +1,16 @@
 -- Elements that are read many at a time.
-use Rattle.std.proofs.Common.{◌≡◌, ℕ, ◌+◌, ◌≤◌, false, List, [], ◌∷◌, ◌++◌, length, length-take, length-drop, take, drop, ◌-◌, Option, Some, None, refl, sym, ap, subst, ◌∙◌, arith, append_assoc}
-use Rattle.std.proofs.lemmas.List.{length-append, append-nil, drop-drop}
-use Rattle.std.proofs.Math.Seq.{take-add}
+use Rattle.std.proofs.Common.{◌≡◌, ℕ, ◌+◌, ◌≤◌, Bool, true, false, List, [], ◌∷◌, ◌++◌, length, length-take, suc, slice_index_or, take, drop, Option, Some, None, refl, sym, ap, subst, ◌∙◌, arith, append_assoc}
+use Rattle.std.proofs.lemmas.List.{length-append, append-nil, drop-drop, take-take}
+use Rattle.std.proofs.Math.Seq.{take-add, take-append_seam}
 use Rattle.std.specs.Io.KnownBytes.{Consumes}
 use Rattle.amqp_base.specs.declared.format_code.EncodingCodes.{EncodingCodes}
-use Rattle.amqp_base.specs.Item.{items}
+use Rattle.amqp_base.specs.Codes.{code_of}
+use Rattle.amqp_base.specs.Item.{Item, items}
+use Rattle.amqp_base.specs.Laws.{items_under}
 use Rattle.amqp_base.specs.Meaning.{Meaning}
-use Rattle.amqp_base.specs.Wire.{under}
+use Rattle.amqp_base.specs.Wire.{Constructor, bare, under, under_pair, of_code}
 use Rattle.amqp_read.specs.Reading.{Reading, Agree, Takes}
+use Rattle.amqp_read.specs.Steps.{StartsWith, Shows}
 use Rattle.amqp_de.specs.Decoding.{Decoding, stands_under, behind_descriptor}
 use Rattle.amqp_data.specs.Parts.{Within}
 use Rattle.amqp_de.specs.Access.{Listing, Part}
@@ -75,12 +78,14 @@ takes_rest old new a b t = record {
   steady = record { honest = refl; origin = refl; faults = omega arith; taken = omega (arith, t.taken, length-append a b) };
 }
 
--- ---- elements under one code
+-- ---- elements under one constructor
 
--- from one state to another by the data of n elements
-pub record Moves (e : EncodingCodes) (b : List ℕ) (n : ℕ) (old new : Listing) : Type 0 where
+-- from one state to another by n such elements
+pub record Moves (c : Constructor) (b : List ℕ) (n : ℕ) (old new : Listing) : Type 0 where
   pub step : Takes old.state.reading new.state.reading b
-  pub code : old.state.inherited ≡ under e
+  pub stands : old.state.inherited ≡ c
+  -- it has no descriptor
+  pub alone : (d : Bool) → behind_descriptor c d ≡ c
   pub answers : new.state.ended ≡ false
   pub inherited : new.state.inherited ≡ old.state.inherited
   pub described : new.state.described ≡ false
@@ -90,12 +95,15 @@ pub record Moves (e : EncodingCodes) (b : List ℕ) (n : ℕ) (old new : Listing
   pub limit : new.limit ≡ old.limit
   pub within : Within old.limit new.state.reading.taken
 
-stands : (d : Decoding) (e : EncodingCodes) → d.inherited ≡ under e → stands_under d ≡ under e
-stands d e h = ap (λ c. behind_descriptor c d.described) h
+one_item : (c : Constructor) → ((d : Bool) → behind_descriptor c d ≡ c) → (x : Item) → items x ≡ 1 → items_under c x ≡ 1
+one_item bare h x one = one
+one_item (under e) h x one = one
+one_item (under_pair d e) h x one = let no : under e ≡ under_pair d e = h true in absurd cc
 
-one_part : {T : Type 0} (m : Meaning T) (e : EncodingCodes) (b : List ℕ) (v : T) (old new : Listing) → IsElement m e b v → Moves e b 1 old new → Part m.takes (λ i. m.means i v) old new
-one_part m e b v old new i k =
-    let here = stands old.state e k.code in
+one_part : {T : Type 0} (m : Meaning T) (c : Constructor) (b : List ℕ) (v : T) (old new : Listing) → IsElement m c b v → Moves c b 1 old new → Part m.takes (λ i. m.means i v) old new
+one_part m c b v old new i k =
+    let here : stands_under old.state ≡ c = ap (λ x. behind_descriptor x old.state.described) k.stands ∙ k.alone old.state.described in
+    let one = one_item c k.alone i.item i.one in
     record {
       front = record {
         item = i.item;
@@ -107,10 +115,10 @@ one_part m e b v old new i k =
         not_ended = k.answers;
         inherited = k.inherited;
         described = k.described;
-        begun = rw here (let one = i.one in omega (arith, k.begun, one));
+        begun = rw here (omega (arith, k.begun, one));
       };
       within = k.within;
-      spent = rw here record { most = omega (arith, k.begun, k.step.taken) };
+      spent = rw here record { most = let some = i.some in omega (arith, k.begun, k.step.taken, some) };
       left = omega (arith, k.left);
       outer = k.outer;
       limit = k.limit;
@@ -131,18 +139,19 @@ mid_of old new a b n = record {
   limit = old.limit;
 }
 
-pub are_read : {T : Type 0} (m : Meaning T) (e : EncodingCodes) (w : ℕ) (v : T) (vs : List T) (b : List ℕ) (old new : Listing) → AreElements m e w b (v ∷ vs) → Moves e b (length (v ∷ vs)) old new → AreRead m old (v ∷ vs) new
+are_read : {T : Type 0} (m : Meaning T) (c : Constructor) (v : T) (vs : List T) (b : List ℕ) (old new : Listing) → AreElements m c b (v ∷ vs) → Moves c b (length (v ∷ vs)) old new → AreRead m old (v ∷ vs) new
 unfolding mid_of
-are_read m e w v [] b old new h k =
-    let whole : b ≡ h.0 = h.2 ∙ (ap (λ x. h.0 ++ x) h.5 ∙ append-nil h.0) in
-    (new, one_part m e h.0 v old new h.4 (subst (λ x. Moves e x 1 old new) whole k), refl)
-are_read m e w v (x ∷ vs) b old new h k =
+are_read m c v [] b old new h k =
+    let whole : b ≡ h.0 = h.2 ∙ (ap (λ x. h.0 ++ x) h.4 ∙ append-nil h.0) in
+    (new, one_part m c h.0 v old new h.3 (subst (λ x. Moves c x 1 old new) whole k), refl)
+are_read m c v (x ∷ vs) b old new h k =
     let n = length (x ∷ vs) in
     let t : Takes old.state.reading new.state.reading (h.0 ++ h.1) = subst (λ y. Takes old.state.reading new.state.reading y) h.2 k.step in
     let mid = mid_of old new h.0 h.1 n in
-    let first : Moves e h.0 1 old mid = record {
+    let first : Moves c h.0 1 old mid = record {
       step = takes_first old.state.reading new.state.reading h.0 h.1 t;
-      code = k.code;
+      stands = k.stands;
+      alone = k.alone;
       answers = refl;
       inherited = refl;
       described = refl;
@@ -152,9 +161,10 @@ are_read m e w v (x ∷ vs) b old new h k =
       limit = refl;
       within = within_less old.limit _ new.state.reading.taken (omega (arith, t.taken, length-append h.0 h.1)) k.within;
     } in
-    let others : Moves e h.1 n mid new = record {
+    let others : Moves c h.1 n mid new = record {
       step = takes_rest old.state.reading new.state.reading h.0 h.1 t;
-      code = k.code;
+      stands = k.stands;
+      alone = k.alone;
       answers = k.answers;
       inherited = k.inherited;
       described = k.described;
@@ -164,32 +174,66 @@ are_read m e w v (x ∷ vs) b old new h k =
       limit = k.limit;
       within = k.within;
     } in
-    (mid, one_part m e h.0 v old mid h.4 first, are_read m e w x vs h.1 mid new h.5 others)
+    (mid, one_part m c h.0 v old mid h.3 first, are_read m c x vs h.1 mid new h.4 others)
 
-pub all_read : {T : Type 0} (m : Meaning T) (e : EncodingCodes) (w n : ℕ) (vs : List T) (b : List ℕ) (old new : Listing) → AreElements m e w b vs → length vs ≡ n → (n ≡ 0 → ⊥) → Moves e b n old new → AreRead m old vs new
-all_read m e w n [] b old new h l some k = absurd (some (sym l))
-all_read m e w n (v ∷ vs) b old new h l some k = are_read m e w v vs b old new h (subst (λ x. Moves e b x old new) (sym l) k)
+pub all_read : {T : Type 0} (m : Meaning T) (c : Constructor) (n : ℕ) (vs : List T) (b : List ℕ) (old new : Listing) → AreElements m c b vs → length vs ≡ n → (n ≡ 0 → ⊥) → Moves c b n old new → AreRead m old vs new
+all_read m c n [] b old new h l some k = absurd (some (sym l))
+all_read m c n (v ∷ vs) b old new h l some k = are_read m c v vs b old new h (subst (λ x. Moves c b x old new) (sym l) k)
 
 -- one more behind them
-pub elements_last : {T : Type 0} (m : Meaning T) (e : EncodingCodes) (w : ℕ) (b d : List ℕ) (vs : List T) (v : T) → AreElements m e w b vs → length d ≡ w → IsElement m e d v → AreElements m e w (b ++ d) (vs ++ v ∷ [])
-elements_last m e w b d [] v h l i = (d, [], ap (λ x. x ++ d) h ∙ sym (append-nil d), l, i, refl)
-elements_last m e w b d (x ∷ vs) v h l i = (h.0, h.1 ++ d, ap (λ y. y ++ d) h.2 ∙ append_assoc h.0 h.1 d, h.3, h.4, elements_last m e w h.1 d vs v h.5 l i)
+elements_last : {T : Type 0} (m : Meaning T) (c : Constructor) (b d : List ℕ) (vs : List T) (v : T) → AreElements m c b vs → IsElement m c d v → AreElements m c (b ++ d) (vs ++ v ∷ [])
+elements_last m c b d [] v h i = (d, [], ap (λ x. x ++ d) h ∙ sym (append-nil d), i, refl)
+elements_last m c b d (x ∷ vs) v h i = (h.0, h.1 ++ d, ap (λ y. y ++ d) h.2 ∙ append_assoc h.0 h.1 d, h.3, elements_last m c h.1 d vs v h.4 i)
 
--- the data of the next element
-chunk : (b : List ℕ) (at w : ℕ) → take (at + w) b ≡ take at b ++ take (at + w - at) (drop at b)
-chunk b at w = take-add at w b ∙ ap (λ n. take at b ++ take n (drop at b)) (omega arith)
-
-chunk_long : (b : List ℕ) (at w : ℕ) → at + w ≤ length b → length (take (at + w - at) (drop at b)) ≡ w
-chunk_long b at w h = simp (length-take, length-drop) (omega (arith, h))
-
-pub put_more : {T : Type 0} (m : Meaning T) (e : EncodingCodes) (w k at end : ℕ) (b : List ℕ) (before items after : List T) (v : T) → PutBehind m e w (take at b) k before items → end ≡ at + w → at + w ≤ length b → IsElement m e (take (at + w - at) (drop at b)) v → after ≡ items ++ v ∷ []
-    → PutBehind m e w (take end b) (k + 1) before after
-put_more m e w k at end b before items after v p ends room i is = record {
+-- the text of one more value stands behind those at the front
+pub put_more : {T : Type 0} (m : Meaning T) (c : Constructor) (k at n end : ℕ) (b : List ℕ) (before items after : List T) (v : T) → PutBehind m c (take at b) k before items → end ≡ at + n → IsElement m c (take n (drop at b)) v → after ≡ items ++ v ∷ []
+    → PutBehind m c (take end b) (k + 1) before after
+put_more m c k at n end b before items after v p ends i is = record {
   values = p.values ++ v ∷ [];
-  meant = subst (λ x. AreElements m e w x (p.values ++ v ∷ [])) (sym (ap (λ n. take n b) ends ∙ chunk b at w)) (elements_last m e w (take at b) _ p.values v p.meant (chunk_long b at w room) i);
+  meant = subst (λ x. AreElements m c x (p.values ++ v ∷ [])) (sym (ap (λ l. take l b) ends ∙ take-add at n b)) (elements_last m c (take at b) _ p.values v p.meant i);
   many = let len = length-append p.values (v ∷ []) in omega (arith, len, p.many);
   items = is ∙ (ap (λ xs. xs ++ v ∷ []) p.items ∙ append_assoc before p.values (v ∷ []));
 }
+
+-- ---- a number with its own constructor
+
+-- its code, and n bytes of data
+pub behind_code : {T : Type 0} (m : Meaning T) (e : EncodingCodes) (n x : ℕ) (b : List ℕ) (v : T) → code_of x ≡ Some e → slice_index_or b 0 0 ≡ x → length b ≡ 9 → IsElement m (under e) (take n (drop 1 b)) v → IsElement m bare (take (suc n) b) v
+behind_code m e n x [] v c h l i = absurd (omega (arith, l))
+behind_code m e n x (y ∷ ys) v c h l i = record {
+  item = i.item;
+  spelled = of_code (ap code_of h ∙ c) i.spelled;
+  taken = i.taken;
+  value = i.value;
+  one = i.one;
+  some = omega arith;
+}
+
+-- the byte behind the code
+pub second : (b : List ℕ) → length b ≡ 9 → take 1 (drop 1 b) ≡ slice_index_or b 1 0 ∷ []
+second [] l = absurd (omega (arith, l))
+second (x ∷ []) l = absurd (omega (arith, l))
+second (x ∷ y ∷ b) l = refl
+
+-- ---- bytes that were shown, and then consumed
+
+agree_take : (s t : List ℕ) → Agree s t → length t ≤ length s → take (length t) s ≡ t
+agree_take s [] h l = refl
+agree_take [] (y ∷ t) h l = absurd (omega (arith, l))
+agree_take (x ∷ s) (y ∷ t) h l = rw h.0 (ap (λ z. y ∷ z) (agree_take s t h.1 (omega (arith, l))))
+
+front_of : (s b t : List ℕ) → take (length b) s ≡ b → take (length t) s ≡ t → length t ≤ length b → t ≡ take (length t) b
+front_of s b t h k l = sym k ∙ (sym (take-take (length t) (length b) s l) ∙ ap (take (length t)) h)
+
+shown_front : (k l : Option (List ℕ)) (received b t : List ℕ) → StartsWith k received b → Consumes k l t → Agree received t → length t ≤ length b → t ≡ take (length t) b
+shown_front None l received b t h c a le =
+    let long : length b ≤ length received = let e : length (take (length b) received) ≡ length b = ap length h in let n = length-take (length b) received in omega (arith, n, e) in
+    front_of received b t h (agree_take received t a (omega (arith, long, le))) le
+shown_front (Some s) None received b t h c a le = absurd c
+shown_front (Some s) (Some u) received b t h c a le = front_of s b t h (ap (take (length t)) c ∙ take-append_seam t u) le
+
+pub shown_taken : (old new : Reading) (b t : List ℕ) → Shows old b → Takes old new t → length t ≤ length b → t ≡ take (length t) b
+shown_taken old new b t h k le = shown_front old.to_come new.to_come old.received b t h k.to_come k.agrees le
 
 -- further elements behind some
 pub read_then : {T : Type 0} (m : Meaning T) (old mid new : Listing) (vs ws : List T) → AreRead m old vs mid → AreRead m mid ws new → AreRead m old (vs ++ ws) new

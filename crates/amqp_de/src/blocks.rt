@@ -1,11 +1,11 @@
-//! Elements of a fixed width, many at a time.
+//! Numbers, many at a time: elements of a fixed width, and parts of a list.
 
-ghost use Rattle.std.specs.Prelude.{ℕ, ◌≡◌, ◌*◌, ◌+◌, ◌<◌, ◌≤◌, ◌⊎◌, length, IsTrue, false, vec_len};
-ghost use Rattle.std.specs.Prelude.{vec_capacity};
+ghost use Rattle.std.specs.Prelude.{ℕ, ◌≡◌, ◌*◌, ◌+◌, ◌<◌, ◌≤◌, ◌⊎◌, length, IsTrue, false, take};
+ghost use Rattle.std.specs.Prelude.{vec_len, vec_capacity};
 ghost use Rattle.amqp_base.specs.declared.format_code.EncodingCodes.{EncodingCodes};
 ghost use Rattle.amqp_base.specs.declared.format_code.EncodingCodes.TheVariants.{Uint, Ulong};
 ghost use Rattle.amqp_base.specs.declared.format_code.EncodingCodes.TheVariants.{Int};
-ghost use Rattle.amqp_base.specs.Wire.{under};
+ghost use Rattle.amqp_base.specs.Wire.{bare, under};
 ghost use Rattle.amqp_data.specs.Parts.{Within};
 ghost use Rattle.amqp_de.specs.Many.{ReadsMany, ReadsSome, IsElement, PutBehind};
 ghost use Rattle.amqp_data.specs.Places.{limit_of, constructor_of};
@@ -24,6 +24,9 @@ const MANY: usize = 32;
 /// Room for the data of so many, of eight bytes at most.
 const ROOM: usize = 256;
 
+/// The most bytes of a number with its own constructor.
+const LONGEST: usize = 9;
+
 /// A number whose data take `W` bytes under its widest code.
 pub(crate) trait Wide<const W: usize>: Typed + Copy {
     ghost widest: { EncodingCodes };
@@ -35,7 +38,15 @@ pub(crate) trait Wide<const W: usize>: Typed + Copy {
     /// The number that the data under this code are.
     fn of_data(bytes: &[u8]) -> Self
         requires { length bytes.now ≡ W }
-        ensures { IsElement Self.meaning Self.widest bytes.now result };
+        ensures { IsElement Self.meaning (under Self.widest) bytes.now result };
+
+    /// The number at the front of the bytes with a constructor of its own, and how many bytes it
+    /// is; 0 where none stands there.
+    fn at_front(bytes: &[u8]) -> (Self, usize)
+        requires { length bytes.now ≡ 9 }
+        ensures few { result.1 ≤ 9 }
+        ensures number { 0 < result.1 →
+            IsElement Self.meaning bare (take result.1 bytes.now) result.0 };
 }
 
 impl Wide<4> for i32 {
@@ -54,6 +65,15 @@ impl Wide<4> for i32 {
         let mut data = [0u8; 4];
         data.copy_from_slice(bytes);
         i32::from_be_bytes(data)
+    }
+
+    #[inline(always)]
+    fn at_front(bytes: &[u8]) -> (i32, usize) {
+        match bytes[0] {
+            0x71 => (Self::of_data(&bytes[1..5]), 5),
+            0x54 => (i8::from_be_bytes([bytes[1]]) as i32, 2),
+            _ => (0, 0),
+        }
     }
 }
 
@@ -74,6 +94,16 @@ impl Wide<4> for u32 {
         data.copy_from_slice(bytes);
         u32::from_be_bytes(data)
     }
+
+    #[inline(always)]
+    fn at_front(bytes: &[u8]) -> (u32, usize) {
+        match bytes[0] {
+            0x70 => (Self::of_data(&bytes[1..5]), 5),
+            0x52 => (bytes[1] as u32, 2),
+            0x43 => (0, 1),
+            _ => (0, 0),
+        }
+    }
 }
 
 impl Wide<8> for u64 {
@@ -92,6 +122,16 @@ impl Wide<8> for u64 {
         let mut data = [0u8; 8];
         data.copy_from_slice(bytes);
         u64::from_be_bytes(data)
+    }
+
+    #[inline(always)]
+    fn at_front(bytes: &[u8]) -> (u64, usize) {
+        match bytes[0] {
+            0x80 => (Self::of_data(&bytes[1..9]), 9),
+            0x53 => (bytes[1] as u64, 2),
+            0x44 => (0, 1),
+            _ => (0, 0),
+        }
     }
 }
 
@@ -115,11 +155,40 @@ fn push_all<T: Wide<W>, const W: usize>(bytes: &[u8], many: usize, items: &mut V
     requires width { (W ≡ 4) ⊎ (W ≡ 8) }
     requires whole { length bytes.now ≡ many * W }
     requires room { vec_len items.old + many ≤ vec_capacity items.old }
-    ensures { PutBehind T.meaning T.widest W bytes.now many items.old.items items.new.items }
+    ensures { PutBehind T.meaning (under T.widest) bytes.now many items.old.items items.new.items }
 {
     for k in 0..many {
         items.push_reserved(T::of_data(&bytes[k * W..k * W + W]));
     }
+}
+
+/// Puts the numbers that stand at the front of a block, each with its own constructor, behind the
+/// others, as long as there are such, so many at most, for which there is room: how many they are,
+/// and how many bytes.
+#[inline(always)]
+fn push_front<T: Wide<W>, const W: usize>(
+    block: &[u8],
+    most: usize,
+    items: &mut Vec<T>,
+) -> (usize, usize)
+    requires room { vec_len items.old + most ≤ vec_capacity items.old }
+    ensures few { result.0 ≤ most }
+    ensures within { result.1 ≤ length block.now }
+    ensures put { PutBehind T.meaning bare (take result.1 block.now) result.0 items.old.items
+        items.new.items }
+{
+    let mut many = 0;
+    let mut at = 0;
+    while many < most && block.len() - at >= LONGEST {
+        let (number, len) = T::at_front(&block[at..at + LONGEST]);
+        if len == 0 {
+            break;
+        }
+        items.push_reserved(number);
+        many += 1;
+        at += len;
+    }
+    (many, at)
 }
 
 impl<R: Read> Access<'_, R, Elements> {
@@ -143,8 +212,8 @@ impl<R: Read> Access<'_, R, Elements> {
 }
 
 impl<R: Read> Deserializer<R> {
-    /// Reads some of the next elements of an array of numbers, where they are at hand, and puts
-    /// them behind the others: whether there were such.
+    /// Reads some of the next elements, which are numbers, where they are at hand, and puts them
+    /// behind the others: whether there were such.
     ///
     /// `OutOfMemory`: there is no memory for one of them.
     #[inline(always)]
@@ -157,11 +226,62 @@ impl<R: Read> Deserializer<R> {
         ensures { ReadsMany T.meaning (at_open self.old inner.old) items.old.items result
             (at_open self.new inner.new) items.new.items }
     {
-        let many = MANY.min(inner.left as usize);
-        if many == 0 || self.ended || !self.is_under::<T, W>() {
+        let most = MANY.min(inner.left as usize);
+        if most == 0 || self.ended {
             return Ok(false);
         }
+        if self.is_bare() {
+            return self.next_plain::<T, W>(most, inner, items);
+        }
+        if self.is_under::<T, W>() {
+            return self.next_data::<T, W>(most, inner, items);
+        }
+        Ok(false)
+    }
+
+    /// Whether the next parts have constructors of their own.
+    #[inline(always)]
+    fn is_bare(&self) -> bool
+        ensures { IsTrue result → self.now.inherited ≡ bare }
+    {
+        match &self.inherited {
+            Constructor::Bare => true,
+            _ => false,
+        }
+    }
+
+    /// Whether the next elements stand under the widest code of these numbers.
+    #[inline(always)]
+    fn is_under<T: Wide<W>, const W: usize>(&self) -> bool
+        ensures { IsTrue result → self.now.inherited ≡ under T.widest }
+    {
+        match &self.inherited {
+            Constructor::Under(code) => T::is_under(*code),
+            _ => false,
+        }
+    }
+
+    /// Elements of an array under the widest code of these numbers.
+    #[inline(always)]
+    fn next_data<T: Wide<W>, const W: usize>(
+        &mut self,
+        many: usize,
+        inner: &mut Open,
+        items: &mut Vec<T>,
+    ) -> Result<bool, Error>
+        requires width { (W ≡ 4) ⊎ (W ≡ 8) }
+        requires few { many ≤ 32 }
+        requires some { 0 < many }
+        requires left { many ≤ inner.old.left }
+        requires answers { self.old.ended ≡ false }
+        requires code { self.old.inherited ≡ under T.widest }
+        ensures { ReadsMany T.meaning (at_open self.old inner.old) items.old.items result
+            (at_open self.new inner.new) items.new.items }
+    {
         if bytes_left(self.reader.bytes_consumed(), &inner.limit) < many * W {
+            return Ok(false);
+        }
+        if self.reader.at_hand() < many * W {
             return Ok(false);
         }
         if items.reserve(many).is_err() {
@@ -179,14 +299,39 @@ impl<R: Read> Deserializer<R> {
         Ok(true)
     }
 
-    /// Whether the next elements stand under the widest code of these numbers.
+    /// Parts of a list, each with its own constructor.
     #[inline(always)]
-    fn is_under<T: Wide<W>, const W: usize>(&self) -> bool
-        ensures { IsTrue result → self.now.inherited ≡ under T.widest }
+    fn next_plain<T: Wide<W>, const W: usize>(
+        &mut self,
+        most: usize,
+        inner: &mut Open,
+        items: &mut Vec<T>,
+    ) -> Result<bool, Error>
+        requires few { most ≤ 32 }
+        requires left { most ≤ inner.old.left }
+        requires answers { self.old.ended ≡ false }
+        requires code { self.old.inherited ≡ bare }
+        ensures { ReadsMany T.meaning (at_open self.old inner.old) items.old.items result
+            (at_open self.new inner.new) items.new.items }
     {
-        match &self.inherited {
-            Constructor::Under(code) => T::is_under(*code),
-            _ => false,
+        if inner.limit.is_some() || self.reader.at_hand() < LONGEST {
+            return Ok(false);
         }
+        if items.reserve(most).is_err() {
+            return Err(Error::OutOfMemory);
+        }
+        let mut block = [0u8; ROOM];
+        let shown = self.reader.show_at_hand(&mut block);
+        let before = items.len();
+        let (found, len) = push_front::<T, W>(&block[..shown], most, items);
+        let mut taken = [0u8; ROOM];
+        if found == 0 || !self.reader.take_at_hand(&mut taken[..len]) {
+            items.truncate(before);
+            return Ok(false);
+        }
+        self.described = false;
+        self.begun.ticks(found);
+        inner.left -= found as u32;
+        Ok(true)
     }
 }

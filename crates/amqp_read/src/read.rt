@@ -1,8 +1,8 @@
 //! What every reader does.
 
 ghost use Rattle.std.specs.Prelude.{◌≡◌, ◌≢◌, ◌⊎◌, ◌+◌, ◌<◌, ◌≤◌};
-ghost use Rattle.std.specs.Prelude.{ℕ, Bool, true, false, IsTrue, List, [], ◌∷◌, length, OnOk};
-ghost use Rattle.std.specs.Prelude.{OnErr, IfOk, IfErr, MatchOption};
+ghost use Rattle.std.specs.Prelude.{ℕ, Bool, true, false, IsTrue, List, [], ◌∷◌, length, take};
+ghost use Rattle.std.specs.Prelude.{OnOk, OnErr, IfOk, IfErr, MatchOption};
 ghost use Rattle.amqp_read.specs.Reading.{Reading, Stays, Takes};
 ghost use Rattle.amqp_read.specs.Steps.{Shows, MayCome, Ended, IsShort, Fails, NotTaken};
 ghost use Rattle.amqp_read.specs.Steps.{PassesCount, Holds, Looked, AtHand, ShowsBehind, NotSeen};
@@ -110,6 +110,14 @@ pub trait Read: sealed::Sealed + Drop {
             NotSeen true buffers (from + n) (reading self.old) (reading self.new) e) }
         ensures bytes_first { IfErr result (λ e. (e ≡ OutOfMemory) →
             (IsTrue buffers ⊎ Holds (from + n) (reading self.old).to_come)) };
+
+    /// Copies the next bytes that are at hand to the front of `block`, as many as it takes, and
+    /// says how many. All of them stay.
+    #[doc(hidden)]
+    fn show_at_hand(&self, block: &mut [u8]) -> usize
+        ensures len { length block.new ≡ length block.old }
+        ensures few { result ≤ length block.old }
+        ensures shown { Shows (reading self.now) (take result block.new) };
 
     /// Fills `block` with the next bytes and consumes them, where all of them are at hand; else
     /// nothing changes. No source is asked.

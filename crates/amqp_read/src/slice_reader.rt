@@ -187,6 +187,13 @@ impl<'s> Read for SliceReader<'s> {
     }
 
     #[inline(always)]
+    fn show_at_hand(&self, block: &mut [u8]) -> usize {
+        let n = block.len().min(self.rest.len());
+        block[..n].copy_from_slice(&self.rest[..n]);
+        n
+    }
+
+    #[inline(always)]
     fn take_at_hand(&mut self, block: &mut [u8]) -> bool {
         match self.get_byte_slice(block.len()) {
             Ok(bytes) => {

@@ -1,4 +1,4 @@
-use Rattle.std.proofs.Common.{refl, rules, to_z, of_z, w32}
+use Rattle.std.proofs.Common.{arith, refl, rules, to_z, of_z, w32}
 use mir.Val.{SFits}
 use Rattle.amqp_base.specs.Codes.{row}
 use Rattle.amqp_base.specs.Item.{scalar, int}
@@ -20,4 +20,5 @@ returns c =
       taken = refl;
       value = refl;
       one = refl;
+      some = omega arith;
     }

@@ -1,4 +1,4 @@
-use Rattle.std.proofs.Common.{refl, w64}
+use Rattle.std.proofs.Common.{arith, refl, w64}
 use Rattle.amqp_base.specs.Codes.{row}
 use Rattle.amqp_base.specs.Item.{scalar, ulong}
 use Rattle.amqp_base.specs.SameKind.{same_kind, place}
@@ -16,4 +16,5 @@ returns c = record {
   taken = refl;
   value = refl;
   one = refl;
+  some = omega arith;
 }

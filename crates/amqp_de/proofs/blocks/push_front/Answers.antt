@@ -1,0 +1,34 @@
+-- One number after the other, each behind its own constructor.
+use Rattle.std.proofs.Common.{rules, ◌≡◌, ◌+◌, ◌<◌, ◌≤◌, refl, sym, subst, ◌∙◌, ◌-◌, arith, [], take, drop, length}
+use Rattle.std.proofs.lemmas.List.{append-nil, take-take}
+use Rattle.amqp_base.specs.Wire.{bare}
+use Rattle.amqp_de.specs.Many.{IsElement}
+use Rattle.amqp_de.proofs.Many.{put_more}
+use Rattle.amqp_de.proofs.blocks.push_front.Goals as goal
+
+pub loop-many-init : goal.loop-many-init
+loop-many-init g c = record { put = record { values = []; meant = refl; many = refl; items = sym (append-nil _) }; so_many = omega arith; room = refl; within = omega arith; few = omega arith }
+
+pub overflow_sub-block : goal.overflow_sub-block
+overflow_sub-block g c = c.loop-many.invariant.within
+
+pub push_reserved-requires : goal.push_reserved-requires
+push_reserved-requires g c = omega (arith, c.loop-many.invariant.so_many, c.loop-many.invariant.room, c.requires.room, c.loop-many-test.true)
+
+pub loop-many-preserved : goal.loop-many-preserved
+loop-many-preserved g c =
+    let k = c.loop-many.many in
+    let at = c.loop-many.at in
+    let block = c.args.block.now in
+    let v = c.loop-many.invariant in
+    let p = c.push_reserved.ensures in
+    let n = c.at_front-number.result.1 in
+    let few = c.at_front-number.ensures.few in
+    let element = c.at_front-number.ensures.number (omega (arith, c.if-len-eq0.false)) in
+    record {
+      put = put_more _ _ k at n (at + n) block _ _ _ c.at_front-number.result.0 v.put refl (subst (λ b. IsElement g.T.Typed.meaning bare b c.at_front-number.result.0) (take-take n (at + 9 - at) (drop at block) (omega (arith, few))) element) p.items;
+      so_many = omega (arith, p.len, v.so_many);
+      room = p.capacity ∙ v.room;
+      within = omega (arith, few, v.within, c.if-block-at-ge-LONGEST.true);
+      few = omega (arith, c.loop-many-test.true);
+    }

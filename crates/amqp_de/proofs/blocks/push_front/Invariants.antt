@@ -1,0 +1,16 @@
+use Rattle.std.proofs.Common.{ℕ, ◌≡◌, ◌+◌, ◌-◌, ◌≤◌, length, take, vec_len, vec_capacity}
+use Rattle.amqp_base.specs.Wire.{bare}
+use Rattle.amqp_de.specs.Many.{PutBehind}
+use Rattle.amqp_de.proofs.blocks.push_front.Given as goal
+
+abbrev pub invariant-loop-many : goal.invariant-loop-many
+invariant-loop-many g l = record {
+  put : PutBehind g.T.Typed.meaning bare (take l.at l.block) l.many l.initial.items.items l.items.items;
+  so_many : vec_len l.items ≡ vec_len l.initial.items + l.many;
+  room : vec_capacity l.items ≡ vec_capacity l.initial.items;
+  within : l.at ≤ length l.block;
+  few : l.many ≤ l.most;
+}
+
+abbrev pub decreases-loop-many : goal.decreases-loop-many
+decreases-loop-many g l = l.most - l.many
