@@ -343,32 +343,3 @@ pub(crate) fn write_in_turn<W: Sink, T: Serialize>(
     parts.buffer.ended = true;
     Err(refused(Refusal::InvalidValue))
 }
-
-/// The mark of the first part.
-#[tactic(auto, unfolding(crate::specs::Compound::next_mark))]
-#[inline(always)]
-pub(crate) fn first_mark(shape: Shape) -> Mark
-    ensures { mark_of result ≡ next_mark shape [] }
-{
-    match shape {
-        Shape::List => Mark::Unmarked,
-        Shape::Array => Mark::First,
-        Shape::Tuple(_) => Mark::Unmarked,
-        Shape::Map => Mark::Unmarked,
-        Shape::Fields => Mark::Unmarked,
-    }
-}
-
-/// The setting that the parts are under.
-#[inline(always)]
-pub(crate) fn setting_inside(shape: Shape) -> Setting
-    ensures { result ≡ setting_inside shape }
-{
-    match shape {
-        Shape::List => Setting::Plain,
-        Shape::Array => Setting::Plain,
-        Shape::Tuple(_) => Setting::Plain,
-        Shape::Map => Setting::Plain,
-        Shape::Fields => Setting::DescribedMap,
-    }
-}

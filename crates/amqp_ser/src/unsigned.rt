@@ -88,24 +88,6 @@ impl<W: Sink> Serializer<W> {
         }
     }
 
-    /// The text of a uint where it stands.
-    #[inline(always)]
-    fn uint(&mut self, v: u32) -> Result<(), Refusal>
-        requires { self.old.ended ≡ false }
-        ensures law { Pays (state W.Write W.FaultCount self.old)
-            (marked (state W.Write W.FaultCount self.old).mark (scalar (uint v)))
-            (found_after (state W.Write W.FaultCount self.old).mark (kind_code (scalar (uint v)))
-            (state W.Write W.FaultCount self.old).found) ([]) Error.InvalidValue (as_error result)
-            (state W.Write W.FaultCount self.new) }
-    {
-        let mark = self.mark;
-        match mark {
-            Mark::Unmarked if v == 0 => self.append(&[0x43]),
-            Mark::Unmarked if v < 256 => self.append(&[0x52, v as u8]),
-            _ => self.four_bytes(EncodingCodes::Uint, v.to_be_bytes()),
-        }
-    }
-
     /// Writes a ulong (section 1.6.6): outside arrays 44 for 0, 53 and a byte up to 255, else 80
     /// and eight bytes, highest first; in an array eight bytes. It takes no memory of its own.
     ///
@@ -131,21 +113,4 @@ impl<W: Sink> Serializer<W> {
         }
     }
 
-    /// The text of a ulong where it stands.
-    #[inline(always)]
-    fn ulong(&mut self, v: u64) -> Result<(), Refusal>
-        requires { self.old.ended ≡ false }
-        ensures law { Pays (state W.Write W.FaultCount self.old)
-            (marked (state W.Write W.FaultCount self.old).mark (scalar (ulong v)))
-            (found_after (state W.Write W.FaultCount self.old).mark (kind_code (scalar (ulong v)))
-            (state W.Write W.FaultCount self.old).found) ([]) Error.InvalidValue (as_error result)
-            (state W.Write W.FaultCount self.new) }
-    {
-        let mark = self.mark;
-        match mark {
-            Mark::Unmarked if v == 0 => self.append(&[0x44]),
-            Mark::Unmarked if v < 256 => self.append(&[0x53, v as u8]),
-            _ => self.eight_bytes(EncodingCodes::Ulong, v.to_be_bytes()),
-        }
-    }
 }
