@@ -15,7 +15,7 @@ use Rattle.amqp_write.proofs.Counting.{goes_more}
 use Rattle.amqp_write.proofs.Steps.{fits_nil, kept_two}
 use Rattle.amqp_write.proofs.PartTexts.{true_false, bind_some, parts_more}
 use Rattle.amqp_write.proofs.NumberTexts.{some_is}
-use Rattle.amqp_ser.proofs.Compounds.{Lives, begun_moved, kept_from, kept_open, none_appends, none_extends}
+use Rattle.amqp_ser.proofs.Compounds.{Lives, begun_moved, kept_from, kept_open}
 
 unmarked_not : unmarked ≡ first → ⊥
 unmarked_not h = cc

@@ -18,7 +18,8 @@ use Rattle.amqp_base.specs.Codes.{row}
 use Rattle.amqp_base.specs.Sizes.{Size, sizes_in}
 use Rattle.amqp_ser.specs.State.{State, answering, Planned, Measured, size_in, Mark, unmarked, first, other, state, mark_of, found_of, contents_in, plan_in, measure_in}
 use Rattle.amqp_write.specs.declared.pass.Opened.{Opened}
-unfoldable pub use Rattle.amqp_write.specs.Wholes.{other_of, shape_code, narrow_of, empty_list, head_text, shape_text, whole_text, parts_text, next_mark, turned, is_map, awaits_value, Complete}
+pub use Rattle.amqp_write.specs.Wholes.{other_of, shape_code, narrow_of, empty_list, shape_text, turned, is_map, awaits_value, Complete}
+unfoldable pub use Rattle.amqp_write.specs.Wholes.{head_text, whole_text, parts_text, next_mark}
 use Rattle.amqp_ser.specs.Law.{Goes, placed, found_after, Wrote, Refused, Kept, Stops, unwritten}
 use Rattle.amqp_ser.specs.declared.compound.Parts.{Parts}
 use Rattle.amqp_ser.specs.declared.compound.Outer.{Outer as CodeOuter}

@@ -5,11 +5,11 @@ ghost use Rattle.amqp_base.specs.Item.{scalar, ubyte, ushort, uint, ulong};
 ghost use Rattle.amqp_base.specs.Canon.{kind_code};
 ghost use Rattle.amqp_ser.specs.State.{state};
 ghost use Rattle.amqp_ser.specs.Law.{Wrote, Refused, Stops, Spares, marked, found_after};
-ghost use Rattle.amqp_ser.specs.Appending.{Pays, as_error};
+ghost use Rattle.amqp_write.specs.Appending.{Pays, as_error};
 
 use crate::Serializer;
-use crate::serializer::{Mark, Refusal, refused};
 use amqp_base::{EncodingCodes, Error, Sink};
+use amqp_write::{Refusal, refused};
 use std::alloc::Global;
 
 impl<W: Sink> Serializer<W> {
@@ -29,10 +29,10 @@ impl<W: Sink> Serializer<W> {
             (state W.Write W.FaultCount self.new) }
     {
         let _ = alloc;
-        if self.ended {
+        if self.place.ended {
             return Err(refused(Refusal::InvalidValue));
         }
-        match self.one_byte(EncodingCodes::Ubyte, v) {
+        match self.place.ubyte(&mut self.writer, v) {
             Ok(()) => Ok(()),
             Err(e) => Err(refused(e)),
         }
@@ -54,10 +54,10 @@ impl<W: Sink> Serializer<W> {
             (state W.Write W.FaultCount self.new) }
     {
         let _ = alloc;
-        if self.ended {
+        if self.place.ended {
             return Err(refused(Refusal::InvalidValue));
         }
-        match self.two_bytes(EncodingCodes::Ushort, v.to_be_bytes()) {
+        match self.place.ushort(&mut self.writer, v) {
             Ok(()) => Ok(()),
             Err(e) => Err(refused(e)),
         }
@@ -79,10 +79,10 @@ impl<W: Sink> Serializer<W> {
             (state W.Write W.FaultCount self.new) }
     {
         let _ = alloc;
-        if self.ended {
+        if self.place.ended {
             return Err(refused(Refusal::InvalidValue));
         }
-        match self.uint(v) {
+        match self.place.uint(&mut self.writer, v) {
             Ok(()) => Ok(()),
             Err(e) => Err(refused(e)),
         }
@@ -104,10 +104,10 @@ impl<W: Sink> Serializer<W> {
             (state W.Write W.FaultCount self.new) }
     {
         let _ = alloc;
-        if self.ended {
+        if self.place.ended {
             return Err(refused(Refusal::InvalidValue));
         }
-        match self.ulong(v) {
+        match self.place.ulong(&mut self.writer, v) {
             Ok(()) => Ok(()),
             Err(e) => Err(refused(e)),
         }

@@ -1,6 +1,6 @@
 //! Where the next item stands, and the bytes that are appended there.
 
-ghost use Rattle.std.specs.Prelude.{◌≡◌, ◌≢◌, ◌++◌, [], false, Some};
+ghost use Rattle.std.specs.Prelude.{◌≡◌, ◌≢◌, ◌++◌, [], false, Some, None};
 ghost use Rattle.amqp_base.specs.Wire.{under};
 ghost use Rattle.amqp_base.specs.Shapes.{setting_inside};
 ghost use Rattle.amqp_write.specs.State.{stand, mark_of, found_of, unmarked, first};
@@ -47,6 +47,26 @@ pub struct Place {
 }
 
 impl Place {
+    /// Outside arrays, under this setting, where calls are answered.
+    #[inline(always)]
+    pub fn new(setting: Setting) -> Place
+        ensures { result ≡ record {
+          setting = setting;
+          mark = Mark.Unmarked;
+          found = None;
+          ended = false;
+          direct = false;
+        } }
+    {
+        Place {
+            setting,
+            mark: Mark::Unmarked,
+            found: None,
+            ended: false,
+            direct: false,
+        }
+    }
+
     /// Appends all of `bytes`, or ends.
     #[inline(always)]
     pub fn append<W: Sink>(&mut self, writer: &mut W, bytes: &[u8]) -> Result<(), Refusal>

@@ -19,7 +19,7 @@ unfolding state stand
 returns-in-Some-so_far-clause-ok g c =
     let d = c.if-not-self.false in
     let s = state g.W.Write g.W.FaultCount c.args.self.now in
-    let t = state g.W.Write g.W.FaultCount c.head.new.self in
+    let t = stand g.W.Write g.W.FaultCount c.head.new.writer c.head.new.self in
     let o = state g.W.Write g.W.FaultCount c.lend.new.self in
     let n = next_of _ _ _ (size_in c.in-Some.size) d c.in-Some.ensures.next in
     let live = lives_written _ _ _ c.lend.ensures.opened in
