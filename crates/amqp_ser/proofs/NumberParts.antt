@@ -1,16 +1,15 @@
 -- Numbers as parts of a compound, many at a time.
-use Rattle.std.proofs.Common.{◌≡◌, inl, inr, ℕ, ◌+◌, min, List, [], ◌∷◌, ◌++◌, length, length-append, refl, sym, ◌∙◌, ap, subst, arith, Option, Some, None, Bool, true, false, Result, Ok, Err, append_assoc}
+use Rattle.std.proofs.Common.{◌≡◌, inl, inr, ℕ, ◌+◌, List, [], ◌∷◌, ◌++◌, length, length-append, refl, sym, ◌∙◌, ap, subst, arith, Some, true, false, Result, Ok, Err, append_assoc}
 use Rattle.std.proofs.lemmas.List.{append-nil}
 use Rattle.amqp_base.specs.Item.{Item, items_of}
 use Rattle.amqp_base.specs.Shapes.{whole}
 use Rattle.amqp_base.specs.Sizes.{sizes, sizes_in}
-use Rattle.amqp_base.specs.Passes.{CountsMore}
 use Rattle.amqp_base.specs.declared.error.Error.{Error}
 use Rattle.amqp_base.specs.declared.shape.Shape.{Shape}
-use Rattle.amqp_ser.specs.State.{State, Mark, unmarked, first, Planned, Measured, contents_in, plan_in, measure_in}
-use Rattle.amqp_ser.specs.Law.{marked, Goes, Refused, Kept, measure_after, plan_after}
+use Rattle.amqp_ser.specs.State.{State, Mark, unmarked, first}
+use Rattle.amqp_ser.specs.Law.{marked, Goes, Refused, Kept}
 use Rattle.amqp_ser.specs.Compound.{Open, Back, Begun, Run, Holds, outer_of, parts_text, next_mark}
-use Rattle.amqp_write.specs.NumberTexts.{texts_at, AreTexts, HaveTextsOf, WritesNumbers, Stand}
+use Rattle.amqp_write.specs.NumberTexts.{texts_at, AreTexts, WritesNumbers, Stand}
 use Rattle.amqp_write.proofs.Counting.{goes_more}
 use Rattle.amqp_write.proofs.Steps.{fits_nil, kept_two}
 use Rattle.amqp_write.proofs.PartTexts.{true_false, bind_some, parts_more}

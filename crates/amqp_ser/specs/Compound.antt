@@ -1,26 +1,21 @@
 -- What contracts see of an open compound.
-use Rattle.std.specs.Prelude.{◌≡◌, ◌⊎◌, ◌-◌, ◌<◌, Ok, ℕ, ◌==◌, ◌&&◌, ◌≤◌, ◌+◌, ◌%◌, ◌++◌, set, nat_le, Bool, true, false, if◌then◌else◌, List, [], ◌∷◌, length, Option, Some, None, Result, Err, IfErr, OnErr, OnOk}
-use Rattle.std.specs.Int.{bytes_high_first}
+use Rattle.std.specs.Prelude.{◌≡◌, ◌⊎◌, ◌-◌, ◌<◌, Ok, ℕ, ◌≤◌, ◌+◌, ◌++◌, set, Bool, true, false, List, [], ◌∷◌, length, Option, Some, None, Result, Err, IfErr, OnErr, OnOk}
 use Rattle.std.specs.declared.io.Write as Write
 use Rattle.std.specs.declared.vec.Vec.{Vec}
 use Rattle.std.specs.Global.{Global}
 use Rattle.amqp_base.specs.declared.fault.FaultCount as FaultCount
 use Rattle.amqp_base.specs.declared.error.Error.{Error}
-use Rattle.amqp_base.specs.declared.format_code.EncodingCodes.{EncodingCodes}
-use Rattle.amqp_base.specs.declared.format_code.EncodingCodes.TheVariants.{List32, Map32, Array32}
 use Rattle.amqp_base.specs.declared.error.Error.TheVariants.{InvalidValue}
-use Rattle.amqp_base.specs.Item.{Item, Items, items_of}
+use Rattle.amqp_base.specs.Item.{Item, items_of}
 use Rattle.amqp_base.specs.Wire.{Constructor, under}
-use Rattle.amqp_base.specs.Canon.{limit, canons, array_body, kind_code, compound_text, wide_body}
 use Rattle.amqp_base.specs.Shapes.{whole, setting_inside}
 use Rattle.amqp_base.specs.Structs.{FieldItem, struct_shape, fields_parts, is_described_name}
-use Rattle.amqp_base.specs.Codes.{row}
 use Rattle.amqp_base.specs.Sizes.{Size, sizes_in}
-use Rattle.amqp_ser.specs.State.{State, answering, Planned, Measured, size_in, Mark, unmarked, first, other, state, mark_of, found_of, contents_in, plan_in, measure_in}
+use Rattle.amqp_ser.specs.State.{State, answering, Planned, Measured, size_in, Mark, unmarked, state, mark_of, found_of, contents_in, plan_in, measure_in}
 use Rattle.amqp_write.specs.declared.pass.Opened.{Opened}
 pub use Rattle.amqp_write.specs.Wholes.{other_of, shape_code, narrow_of, empty_list, shape_text, turned, is_map, awaits_value, Complete}
 unfoldable pub use Rattle.amqp_write.specs.Wholes.{head_text, whole_text, parts_text, next_mark}
-use Rattle.amqp_ser.specs.Law.{Goes, placed, found_after, Wrote, Refused, Kept, Stops, unwritten}
+use Rattle.amqp_ser.specs.Law.{Goes, found_after, Wrote, Refused, Kept, Stops, unwritten}
 use Rattle.amqp_ser.specs.declared.compound.Parts.{Parts}
 use Rattle.amqp_ser.specs.declared.compound.Outer.{Outer as CodeOuter}
 use Rattle.amqp_base.specs.declared.fault.Size.{Size as CodeSize}

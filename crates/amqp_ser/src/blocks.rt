@@ -59,6 +59,7 @@ impl<W: Sink> Serializer<W> {
             (state W.Write W.FaultCount self.old) (as_error result)
             (state W.Write W.FaultCount self.new) }
     {
-        self.place.append_numbers::<W, P, T>(&mut self.writer, values)
+        self.place
+            .append_numbers::<W, P, T>(&mut self.writer, values)
     }
 }

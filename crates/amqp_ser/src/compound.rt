@@ -5,16 +5,18 @@ ghost use Rattle.std.specs.Prelude.{◌∷◌, ℕ, Bool, List, [], true, false,
 ghost use Rattle.std.specs.Prelude.{OnErr, Err};
 ghost use Rattle.amqp_base.specs.Item.{Item};
 ghost use Rattle.amqp_base.specs.Shapes.{whole, setting_inside};
-ghost use Rattle.amqp_ser.specs.State.{State, state, mark_of, answering};
+ghost use Rattle.amqp_ser.specs.State.{State, state, answering};
 ghost use Rattle.amqp_write.specs.declared.pass.Opened.TheVariants.{Buffered as IsBuffered};
 ghost use Rattle.amqp_ser.specs.Law.{Refused};
 ghost use Rattle.amqp_ser.specs.Compound.{the_buffer, open_parts, awaits_value, Empty, Run, Holds};
-ghost use Rattle.amqp_ser.specs.Compound.{Complete, BeginsWith, EndsCompound, next_mark, Keeps};
+ghost use Rattle.amqp_ser.specs.Compound.{Complete, BeginsWith, EndsCompound, Keeps};
 ghost use Rattle.amqp_ser.specs.Compound.{WritesPart, part_in, outside_in};
 
 use crate::{Serialize, Serializer};
 use amqp_base::{EncodingCodes, Error, Pass, Setting, Shape, Sink};
-use amqp_write::{Mark, Opened, Place, Refusal, first_mark, handed_on, no_memory, refused, setting_inside};
+use amqp_write::{
+    Mark, Opened, Place, Refusal, first_mark, handed_on, no_memory, refused, setting_inside,
+};
 use std::alloc::{AllocError, Global};
 
 /// Room for so many bytes of parts is taken when a compound opens.

@@ -6,7 +6,7 @@ ghost use Rattle.amqp_ser.specs.State.{state};
 ghost use Rattle.amqp_ser.specs.Law.{Wrote, Refused, Stops, Spares};
 
 use crate::{Serialize, Serializer};
-use amqp_base::{EncodingCodes, Error, Sink};
+use amqp_base::{Error, Sink};
 use amqp_types::{Dec32, Dec64, Dec128};
 use amqp_write::{Refusal, refused};
 use std::alloc::Global;

@@ -1,14 +1,12 @@
 //! Numbers without a sign.
 
-ghost use Rattle.std.specs.Prelude.{◌≡◌, [], false, IfErr, OnOk};
+ghost use Rattle.std.specs.Prelude.{IfErr, OnOk};
 ghost use Rattle.amqp_base.specs.Item.{scalar, ubyte, ushort, uint, ulong};
-ghost use Rattle.amqp_base.specs.Canon.{kind_code};
 ghost use Rattle.amqp_ser.specs.State.{state};
-ghost use Rattle.amqp_ser.specs.Law.{Wrote, Refused, Stops, Spares, marked, found_after};
-ghost use Rattle.amqp_write.specs.Appending.{Pays, as_error};
+ghost use Rattle.amqp_ser.specs.Law.{Wrote, Refused, Stops, Spares};
 
 use crate::Serializer;
-use amqp_base::{EncodingCodes, Error, Sink};
+use amqp_base::{Error, Sink};
 use amqp_write::{Refusal, refused};
 use std::alloc::Global;
 
@@ -112,5 +110,4 @@ impl<W: Sink> Serializer<W> {
             Err(e) => Err(refused(e)),
         }
     }
-
 }

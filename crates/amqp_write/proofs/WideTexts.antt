@@ -61,12 +61,6 @@ plain_why v h = rw h refl
 pub refused_scalar : {A : Type 0} (s : State) (v : Scalar) (r : Result A Error) (t : State) → payload_length v ≡ 0 → Pays s (marked s.mark (scalar v)) (found_after s.mark (kind_code (scalar v)) s.found) [] InvalidValue r t → IfErr r (λ e. Refused s (scalar v) e t)
 refused_scalar s v r t plain p = refused_pays s (scalar v) _ _ [] InvalidValue r t refl refl (scalar_sizes v) (plain_why v plain) p
 
-pub wrote_wide : {A : Type 0} (s : State) (v : Scalar) (e : EncodingCodes) (d : List ℕ) (r : Result A Error) (t : State) → Wide s.mark v e d → Pays s (fixed_at s.mark e d) (found_after s.mark (Some (under e)) s.found) [] InvalidValue r t → OnOk r (Wrote s (scalar v) t)
-wrote_wide s v e d r t w p = wrote_scalar s v r t (pays_wide s v e d r t w p)
-
-pub refused_wide : {A : Type 0} (s : State) (v : Scalar) (e : EncodingCodes) (d : List ℕ) (r : Result A Error) (t : State) → Wide s.mark v e d → Pays s (fixed_at s.mark e d) (found_after s.mark (Some (under e)) s.found) [] InvalidValue r t → IfErr r (λ e. Refused s (scalar v) e t)
-refused_wide s v e d r t w p = refused_scalar s v r t w.plain (pays_wide s v e d r t w p)
-
 -- short texts
 pub uint_0 : (n : ℕ) → n ≡ 0 → marked unmarked (scalar (uint n)) ≡ Some (0x43 ∷ [])
 unfolding short_text

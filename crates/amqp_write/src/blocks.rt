@@ -1,6 +1,6 @@
 //! Numbers whose texts are written many at a time.
 
-ghost use Rattle.std.specs.Prelude.{◌≡◌, ◌*◌, ◌≤◌, length, map};
+ghost use Rattle.std.specs.Prelude.{◌*◌, ◌≤◌, length, map};
 ghost use Rattle.amqp_write.specs.State.{stand};
 ghost use Rattle.amqp_write.specs.Appending.{as_error};
 ghost use Rattle.amqp_write.specs.NumberTexts.{HaveTextsOf, PutsAll, WritesNumbers};
@@ -8,7 +8,7 @@ ghost use Rattle.amqp_write.specs.NumberTexts.{HaveTextsOf, PutsAll, WritesNumbe
 use crate::numbers::Texts;
 use crate::place::Place;
 use crate::refusal::Refusal;
-use amqp_base::{Error, Pass, Setting, Sink, Typed};
+use amqp_base::{Pass, Setting, Sink, Typed};
 
 /// So many numbers are written at a time.
 const MANY: usize = 32;
@@ -37,8 +37,7 @@ fn put_all<P: Texts<T>, T: Typed + Copy>(values: &[T], block: &mut [u8]) -> usiz
 #[inline(always)]
 fn few_lengths<P: Texts<T>, T: Typed + Copy>(values: &[T]) -> u32
     requires few { length values.now ≤ 4096 }
-    ensures texts { HaveTextsOf P.mark (map (λ v. T.meaning.item v Setting.Plain) values.now) result
-        }
+    ensures texts { HaveTextsOf P.mark (map (λ v. T.meaning.item v Setting.Plain) values.now) result }
 {
     let mut sum: u32 = 0;
     for value in values {
@@ -50,8 +49,7 @@ fn few_lengths<P: Texts<T>, T: Typed + Copy>(values: &[T]) -> u32
 /// The bytes of the texts, as far as a usize counts. Four bytes hold the sum of a few, so that the
 /// loop over them takes many at a time.
 fn lengths<P: Texts<T>, T: Typed + Copy>(values: &[T]) -> usize
-    ensures texts { HaveTextsOf P.mark (map (λ v. T.meaning.item v Setting.Plain) values.now) result
-        }
+    ensures texts { HaveTextsOf P.mark (map (λ v. T.meaning.item v Setting.Plain) values.now) result }
 {
     let mut sum: usize = 0;
     let mut rest = values;
@@ -70,7 +68,11 @@ fn lengths<P: Texts<T>, T: Typed + Copy>(values: &[T]) -> usize
 
 impl Place {
     /// Writes numbers. Where they are only counted, no text of theirs is made.
-    pub fn append_numbers<W: Sink, P: Texts<T>, T: Typed + Copy>(&mut self, writer: &mut W, values: &[T]) -> Result<(), Refusal>
+    pub fn append_numbers<W: Sink, P: Texts<T>, T: Typed + Copy>(
+        &mut self,
+        writer: &mut W,
+        values: &[T],
+    ) -> Result<(), Refusal>
         ensures law { WritesNumbers P.mark (map (λ v. T.meaning.item v Setting.Plain) values.now)
             (stand W.Write W.FaultCount writer.old self.old) (as_error result)
             (stand W.Write W.FaultCount writer.new self.new) }
@@ -87,7 +89,11 @@ impl Place {
     }
 
     /// Writes numbers, by blocks.
-    fn append_blocks<W: Sink, P: Texts<T>, T: Typed + Copy>(&mut self, writer: &mut W, values: &[T]) -> Result<(), Refusal>
+    fn append_blocks<W: Sink, P: Texts<T>, T: Typed + Copy>(
+        &mut self,
+        writer: &mut W,
+        values: &[T],
+    ) -> Result<(), Refusal>
         ensures law { WritesNumbers P.mark (map (λ v. T.meaning.item v Setting.Plain) values.now)
             (stand W.Write W.FaultCount writer.old self.old) (as_error result)
             (stand W.Write W.FaultCount writer.new self.new) }

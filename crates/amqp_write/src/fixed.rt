@@ -1,10 +1,8 @@
 //! Data of a fixed width.
 
-ghost use Rattle.std.specs.Prelude.{◌≡◌, ◌∷◌, [], false, length, Some};
+ghost use Rattle.std.specs.Prelude.{◌≡◌, ◌∷◌, [], false, length};
 ghost use Rattle.amqp_base.specs.Codes.{row};
-ghost use Rattle.amqp_base.specs.Wire.{under};
 ghost use Rattle.amqp_write.specs.State.{stand, mark_of, unmarked};
-ghost use Rattle.amqp_write.specs.Law.{found_after};
 ghost use Rattle.amqp_write.specs.Appending.{PaysUnder, fixed_at, as_error};
 
 use crate::place::{Mark, Place};
@@ -15,7 +13,13 @@ impl Place {
     /// Data where it stands. `text` is the code's byte and then the data: outside arrays all of it
     /// is one write.
     #[inline(always)]
-    fn fixed<W: Sink>(&mut self, writer: &mut W, code: EncodingCodes, bytes: &[u8], text: &[u8]) -> Result<(), Refusal>
+    fn fixed<W: Sink>(
+        &mut self,
+        writer: &mut W,
+        code: EncodingCodes,
+        bytes: &[u8],
+        text: &[u8],
+    ) -> Result<(), Refusal>
         requires answers { self.old.ended ≡ false }
         requires whole { text.now ≡ (row code).byte ∷ bytes.now }
         ensures law { PaysUnder (stand W.Write W.FaultCount writer.old self.old) code
@@ -31,7 +35,13 @@ impl Place {
 
     /// Data outside arrays. `text` is the code's byte and then the data.
     #[inline(always)]
-    fn plain_fixed<W: Sink>(&mut self, writer: &mut W, code: EncodingCodes, bytes: &[u8], text: &[u8]) -> Result<(), Refusal>
+    fn plain_fixed<W: Sink>(
+        &mut self,
+        writer: &mut W,
+        code: EncodingCodes,
+        bytes: &[u8],
+        text: &[u8],
+    ) -> Result<(), Refusal>
         requires answers { self.old.ended ≡ false }
         requires marked { mark_of self.old.mark ≡ unmarked }
         requires whole { text.now ≡ (row code).byte ∷ bytes.now }
@@ -46,7 +56,12 @@ impl Place {
 
     /// One byte of data.
     #[inline(always)]
-    pub fn one_byte<W: Sink>(&mut self, writer: &mut W, code: EncodingCodes, bytes: u8) -> Result<(), Refusal>
+    pub fn one_byte<W: Sink>(
+        &mut self,
+        writer: &mut W,
+        code: EncodingCodes,
+        bytes: u8,
+    ) -> Result<(), Refusal>
         requires { self.old.ended ≡ false }
         ensures law { PaysUnder (stand W.Write W.FaultCount writer.old self.old) code
             (fixed_at (mark_of self.old.mark) code (bytes ∷ [])) Error.InvalidValue
@@ -57,7 +72,12 @@ impl Place {
 
     /// Two bytes of data.
     #[inline(always)]
-    pub fn two_bytes<W: Sink>(&mut self, writer: &mut W, code: EncodingCodes, bytes: [u8; 2]) -> Result<(), Refusal>
+    pub fn two_bytes<W: Sink>(
+        &mut self,
+        writer: &mut W,
+        code: EncodingCodes,
+        bytes: [u8; 2],
+    ) -> Result<(), Refusal>
         requires { self.old.ended ≡ false }
         ensures law { PaysUnder (stand W.Write W.FaultCount writer.old self.old) code
             (fixed_at (mark_of self.old.mark) code bytes) Error.InvalidValue (as_error result)
@@ -69,7 +89,12 @@ impl Place {
 
     /// Four bytes of data.
     #[inline(always)]
-    pub fn four_bytes<W: Sink>(&mut self, writer: &mut W, code: EncodingCodes, bytes: [u8; 4]) -> Result<(), Refusal>
+    pub fn four_bytes<W: Sink>(
+        &mut self,
+        writer: &mut W,
+        code: EncodingCodes,
+        bytes: [u8; 4],
+    ) -> Result<(), Refusal>
         requires { self.old.ended ≡ false }
         ensures width { length bytes ≡ 4 }
         ensures law { PaysUnder (stand W.Write W.FaultCount writer.old self.old) code
@@ -82,7 +107,10 @@ impl Place {
 
     /// Four bytes of data outside arrays.
     #[inline(always)]
-    pub fn plain_four_bytes<W: Sink>(&mut self, writer: &mut W, code: EncodingCodes,
+    pub fn plain_four_bytes<W: Sink>(
+        &mut self,
+        writer: &mut W,
+        code: EncodingCodes,
         bytes: [u8; 4],
     ) -> Result<(), Refusal>
         requires answers { self.old.ended ≡ false }
@@ -98,7 +126,12 @@ impl Place {
 
     /// Eight bytes of data.
     #[inline(always)]
-    pub fn eight_bytes<W: Sink>(&mut self, writer: &mut W, code: EncodingCodes, bytes: [u8; 8]) -> Result<(), Refusal>
+    pub fn eight_bytes<W: Sink>(
+        &mut self,
+        writer: &mut W,
+        code: EncodingCodes,
+        bytes: [u8; 8],
+    ) -> Result<(), Refusal>
         requires { self.old.ended ≡ false }
         ensures width { length bytes ≡ 8 }
         ensures law { PaysUnder (stand W.Write W.FaultCount writer.old self.old) code
@@ -121,7 +154,10 @@ impl Place {
 
     /// Sixteen bytes of data.
     #[inline(always)]
-    pub fn sixteen_bytes<W: Sink>(&mut self, writer: &mut W, code: EncodingCodes,
+    pub fn sixteen_bytes<W: Sink>(
+        &mut self,
+        writer: &mut W,
+        code: EncodingCodes,
         bytes: [u8; 16],
     ) -> Result<(), Refusal>
         requires { self.old.ended ≡ false }

@@ -1,10 +1,8 @@
 //! Floating point numbers where they stand.
 
-ghost use Rattle.std.specs.Prelude.{◌≡◌, [], false};
+ghost use Rattle.std.specs.Prelude.{◌≡◌, false};
 ghost use Rattle.amqp_base.specs.Item.{scalar, float, double};
-ghost use Rattle.amqp_base.specs.Canon.{kind_code};
 ghost use Rattle.amqp_write.specs.State.{stand};
-ghost use Rattle.amqp_write.specs.Law.{marked, found_after};
 ghost use Rattle.amqp_write.specs.Appending.{PaysItem, as_error};
 
 use crate::place::Place;
@@ -24,8 +22,8 @@ impl Place {
         self.four_bytes(writer, EncodingCodes::Float, v.to_bits().to_be_bytes())
     }
 
-    /// A double (section 1.6.12): 82 and its bits in eight bytes; in an array the eight bytes. Under
-    /// another constructor than the first element's it is `InvalidValue`.
+    /// A double (section 1.6.12): 82 and its bits in eight bytes; in an array the eight bytes.
+    /// Under another constructor than the first element's it is `InvalidValue`.
     #[inline(always)]
     pub fn double<W: Sink>(&mut self, writer: &mut W, v: Double) -> Result<(), Refusal>
         requires { self.old.ended ≡ false }

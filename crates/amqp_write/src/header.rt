@@ -1,16 +1,15 @@
 //! Sizes and counts in front of a body.
 
 ghost use Rattle.std.specs.Prelude.{◌≡◌, ◌<◌, ◌≤◌, length, [], true, false, IfErr};
-ghost use Rattle.std.specs.Prelude.{OnErr, Some};
-ghost use Rattle.amqp_base.specs.Wire.{under};
+ghost use Rattle.std.specs.Prelude.{OnErr};
 ghost use Rattle.amqp_write.specs.State.{stand, mark_of, unmarked, answering, size_in};
-ghost use Rattle.amqp_write.specs.Law.{Kept, IsDevice, unwritten, found_after};
+ghost use Rattle.amqp_write.specs.Law.{Kept, IsDevice, unwritten};
 ghost use Rattle.amqp_write.specs.Appending.{PaysUnder, as_error};
 ghost use Rattle.amqp_write.specs.Wholes.{whole_text, shape_code, narrow_of, empty_list, head_text};
 
 use crate::place::{LONGEST, Mark, NARROW, Place};
 use crate::refusal::Refusal;
-use amqp_base::{EncodingCodes, Error, Shape, Sink, Size};
+use amqp_base::{EncodingCodes, Shape, Sink, Size};
 use std::io::ErrorKind;
 
 /// The code with a size and a count of four bytes each.
@@ -78,18 +77,25 @@ impl Place {
                     return self.append(writer, &[0x45]);
                 }
                 if size.length <= NARROW {
-                    return self.append(writer, &[
-                        narrow_byte(shape),
-                        (size.length + 1) as u8,
-                        (size.count % 256) as u8,
-                    ]);
+                    return self.append(
+                        writer,
+                        &[
+                            narrow_byte(shape),
+                            (size.length + 1) as u8,
+                            (size.count % 256) as u8,
+                        ],
+                    );
                 }
                 let code = wide_code(shape).byte();
-                self.append(writer, &[
-                    code, length[0], length[1], length[2], length[3], n[0], n[1], n[2], n[3],
-                ])
+                self.append(
+                    writer,
+                    &[
+                        code, length[0], length[1], length[2], length[3], n[0], n[1], n[2], n[3],
+                    ],
+                )
             }
-            _ => self.element(writer,
+            _ => self.element(
+                writer,
                 wide_code(shape),
                 &[
                     length[0], length[1], length[2], length[3], n[0], n[1], n[2], n[3],
@@ -103,7 +109,13 @@ impl Place {
     /// It answers again where that succeeds. A body of more than 4,294,967,291 bytes is
     /// `Io(Other)`.
     #[inline(never)]
-    pub fn finish<W: Sink>(&mut self, writer: &mut W, shape: Shape, count: usize, body: &[u8]) -> Result<(), Refusal>
+    pub fn finish<W: Sink>(
+        &mut self,
+        writer: &mut W,
+        shape: Shape,
+        count: usize,
+        body: &[u8],
+    ) -> Result<(), Refusal>
         ensures law { count ≤ length body.now → PaysUnder
             (answering (stand W.Write W.FaultCount writer.old self.old)) (shape_code shape)
             (whole_text shape (mark_of self.old.mark) count body.now) (unwritten (length body.now))
@@ -125,7 +137,8 @@ impl Place {
         let mark = self.mark;
         match mark {
             Mark::Unmarked => self.finish_unmarked(writer, shape, count, body),
-            _ => self.element(writer,
+            _ => self.element(
+                writer,
                 wide_code(shape),
                 &[size[0], size[1], size[2], size[3], n[0], n[1], n[2], n[3]],
                 body,
@@ -136,7 +149,13 @@ impl Place {
     /// Writes the whole outside arrays: an empty list as one byte, any other behind the shortest
     /// header.
     #[inline(always)]
-    fn finish_unmarked<W: Sink>(&mut self, writer: &mut W, shape: Shape, count: usize, body: &[u8]) -> Result<(), Refusal>
+    fn finish_unmarked<W: Sink>(
+        &mut self,
+        writer: &mut W,
+        shape: Shape,
+        count: usize,
+        body: &[u8],
+    ) -> Result<(), Refusal>
         requires answers { self.old.ended ≡ false }
         requires marked { mark_of self.old.mark ≡ unmarked }
         requires short { length body.now ≤ 4294967291 }

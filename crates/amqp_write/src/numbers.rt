@@ -158,8 +158,8 @@ fn uint_text(v: u32) -> (u8, u32, u32)
 /// The text of an uint that isn't 0, likewise.
 #[inline(always)]
 fn some_uint_text(v: u32) -> (u8, u32, u32)
-    ensures text { v ≢ 0 → IsFront (scalar (uint v)) (result.0 ∷ bytes_high_first 4 result.1)
-        result.2 }
+    ensures text { v ≢ 0 →
+        IsFront (scalar (uint v)) (result.0 ∷ bytes_high_first 4 result.1) result.2 }
 {
     if v < 256 {
         return (0x52, v << 24, 2);
@@ -181,8 +181,8 @@ fn ulong_text(v: u64) -> (u8, u64, u32)
 /// The text of a ulong that isn't 0, likewise.
 #[inline(always)]
 fn some_ulong_text(v: u64) -> (u8, u64, u32)
-    ensures text { v ≢ 0 → IsFront (scalar (ulong v)) (result.0 ∷ bytes_high_first 8 result.1)
-        result.2 }
+    ensures text { v ≢ 0 →
+        IsFront (scalar (ulong v)) (result.0 ∷ bytes_high_first 8 result.1) result.2 }
 {
     if v < 256 {
         return (0x53, v << 56, 2);

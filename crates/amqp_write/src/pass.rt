@@ -15,7 +15,9 @@ use std::io::{ErrorKind, Write};
 #[doc(hidden)]
 #[derive(Drop)]
 pub struct Measure {
+    /// The bytes so far, at most `usize::MAX`.
     pub length: usize,
+    /// The sizes so far, one for each compound that opened.
     pub sizes: Sizes,
 }
 
@@ -85,6 +87,7 @@ impl Sink for Measure {
 /// A text that is written into room for all of it.
 #[derive(Drop)]
 pub struct Reserved {
+    /// The text so far.
     pub bytes: Vec<u8>,
 }
 
@@ -104,8 +107,8 @@ impl Reserved {
     #[inline(always)]
     pub fn put(&mut self, more: &[u8]) -> Result<(), AllocError>
         ensures appended { OnOk result (self.new.bytes.items ≡ self.old.bytes.items ++ more.now) }
-        ensures fits { vec_len self.old.bytes + length more.now ≤ vec_capacity self.old.bytes → IsOk
-            result }
+        ensures fits { vec_len self.old.bytes + length more.now ≤ vec_capacity self.old.bytes →
+            IsOk result }
         ensures room { vec_capacity self.old.bytes ≤ vec_capacity self.new.bytes }
     {
         match self.bytes.extend_from_slice(more) {
@@ -118,8 +121,11 @@ impl Reserved {
 /// Writes in one go: the text so far, the sizes of all compounds, and how many of them opened.
 #[derive(Drop)]
 pub struct Plan {
+    /// The text so far.
     pub out: Reserved,
+    /// The sizes of all compounds, in the order in which they open.
     pub sizes: Sizes,
+    /// How many of them opened.
     pub next: usize,
 }
 

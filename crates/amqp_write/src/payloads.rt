@@ -1,24 +1,28 @@
 //! Texts and bytes where they stand.
 
-ghost use Rattle.std.specs.Prelude.{◌≡◌, [], false, length, Some};
+ghost use Rattle.std.specs.Prelude.{◌≡◌, false, length};
 ghost use Rattle.amqp_base.specs.Item.{scalar, binary, symbol};
-ghost use Rattle.amqp_base.specs.Canon.{kind_code};
-ghost use Rattle.amqp_base.specs.Wire.{under};
 ghost use Rattle.amqp_base.specs.Typing.{text_item};
 ghost use Rattle.amqp_write.specs.State.{stand, mark_of};
-ghost use Rattle.amqp_write.specs.Law.{marked, unwritten, found_after};
+ghost use Rattle.amqp_write.specs.Law.{unwritten};
 ghost use Rattle.amqp_write.specs.Appending.{PaysItem, PaysUnder, payload_at, as_error};
 
 use crate::place::{LONGEST, Mark, NARROW, Place};
 use crate::refusal::Refusal;
-use amqp_base::{EncodingCodes, Error, Setting, Sink};
+use amqp_base::{EncodingCodes, Setting, Sink};
 use std::io::ErrorKind;
 
 impl Place {
     /// Bytes behind a code and their length: `narrow` is the byte of the code with one byte of
     /// length, `code` the code with four. More than 4,294,967,291 bytes are `Io(Other)`.
     #[inline(always)]
-    fn payload_text<W: Sink>(&mut self, writer: &mut W, narrow: u8, code: EncodingCodes, bytes: &[u8]) -> Result<(), Refusal>
+    fn payload_text<W: Sink>(
+        &mut self,
+        writer: &mut W,
+        narrow: u8,
+        code: EncodingCodes,
+        bytes: &[u8],
+    ) -> Result<(), Refusal>
         requires { self.old.ended ≡ false }
         ensures law { PaysUnder (stand W.Write W.FaultCount writer.old self.old) code
             (payload_at (mark_of self.old.mark) narrow code bytes.now)
@@ -34,7 +38,8 @@ impl Place {
         let mark = self.mark;
         match mark {
             Mark::Unmarked if len <= NARROW => self.append_two(writer, &[narrow, len as u8], bytes),
-            Mark::Unmarked => self.append_two(writer,
+            Mark::Unmarked => self.append_two(
+                writer,
                 &[code.byte(), size[0], size[1], size[2], size[3]],
                 bytes,
             ),
@@ -60,8 +65,8 @@ impl Place {
         }
     }
 
-    /// A symbol, whatever the setting (section 1.6.21). Outside arrays up to 254 bytes stand behind one
-    /// byte of length, else behind four.
+    /// A symbol, whatever the setting (section 1.6.21). Outside arrays up to 254 bytes stand behind
+    /// one byte of length, else behind four.
     ///
     /// More than 4,294,967,291 bytes are `Io(Other)`; under another constructor than the first
     /// element's it is `InvalidValue`.

@@ -88,7 +88,12 @@ impl Place {
 
     /// Appends both, one after the other.
     #[inline(always)]
-    pub fn append_two<W: Sink>(&mut self, writer: &mut W, head: &[u8], body: &[u8]) -> Result<(), Refusal>
+    pub fn append_two<W: Sink>(
+        &mut self,
+        writer: &mut W,
+        head: &[u8],
+        body: &[u8],
+    ) -> Result<(), Refusal>
         ensures { Appended (stand W.Write W.FaultCount writer.old self.old) (head.now ++ body.now)
             (as_error result) (stand W.Write W.FaultCount writer.new self.new) }
     {
@@ -101,7 +106,10 @@ impl Place {
     /// Appends an element's data, behind its constructor where it is the first. An element of
     /// another constructor than the first one's is `InvalidValue`.
     #[inline(always)]
-    pub fn element<W: Sink>(&mut self, writer: &mut W, code: EncodingCodes,
+    pub fn element<W: Sink>(
+        &mut self,
+        writer: &mut W,
+        code: EncodingCodes,
         head: &[u8],
         body: &[u8],
     ) -> Result<(), Refusal>
@@ -130,7 +138,10 @@ impl Place {
 
     /// Appends the first element's data behind its constructor.
     #[inline(always)]
-    fn first_element<W: Sink>(&mut self, writer: &mut W, code: EncodingCodes,
+    fn first_element<W: Sink>(
+        &mut self,
+        writer: &mut W,
+        code: EncodingCodes,
         head: &[u8],
         body: &[u8],
     ) -> Result<(), Refusal>
@@ -152,7 +163,7 @@ impl Place {
     pub fn turn(&mut self)
         ensures mark { mark_of self.new.mark ≡ turned (mark_of self.old.mark)
             (found_of self.old.found) }
-        ensures others { self.new ≡ record self.old { mark = self.new.mark; } }
+        ensures others { self.new ≡ record self.old { mark = self.new.mark } }
     {
         let mark = self.mark;
         let found = self.found;

@@ -6,8 +6,8 @@ ghost use Rattle.amqp_write.specs.Appending.{error_of};
 use amqp_base::Error;
 use std::io::ErrorKind;
 
-/// Why nothing was written, inside these crates. It is small enough for registers, as an `Error` with
-/// its text isn't.
+/// Why nothing was written, inside these crates. It is small enough for registers, as an `Error`
+/// with its text isn't.
 #[derive(Clone, Copy)]
 pub enum Refusal {
     /// The writer's own fault; or `Other`: too long to write.

@@ -1,10 +1,8 @@
 //! Null, booleans, characters, timestamps and uuids where they stand.
 
-ghost use Rattle.std.specs.Prelude.{◌≡◌, [], false};
+ghost use Rattle.std.specs.Prelude.{◌≡◌, false};
 ghost use Rattle.amqp_base.specs.Item.{scalar, null, boolean, char, timestamp, uuid};
-ghost use Rattle.amqp_base.specs.Canon.{kind_code};
 ghost use Rattle.amqp_write.specs.State.{stand};
-ghost use Rattle.amqp_write.specs.Law.{marked, found_after};
 ghost use Rattle.amqp_write.specs.Appending.{PaysItem, as_error};
 
 use crate::place::{Mark, Place};
@@ -30,8 +28,8 @@ impl Place {
         }
     }
 
-    /// A boolean (section 1.6.2): outside arrays 41 for true and 42 for false, in an array one byte.
-    /// Under another constructor than the first element's it is `InvalidValue`.
+    /// A boolean (section 1.6.2): outside arrays 41 for true and 42 for false, in an array one
+    /// byte. Under another constructor than the first element's it is `InvalidValue`.
     #[inline(always)]
     pub fn boolean<W: Sink>(&mut self, writer: &mut W, v: bool) -> Result<(), Refusal>
         requires { self.old.ended ≡ false }
@@ -46,8 +44,8 @@ impl Place {
         }
     }
 
-    /// A char (section 1.6.16): 73 and its code point in four bytes; in an array the four bytes. Under
-    /// another constructor than the first element's it is `InvalidValue`.
+    /// A char (section 1.6.16): 73 and its code point in four bytes; in an array the four bytes.
+    /// Under another constructor than the first element's it is `InvalidValue`.
     #[inline(always)]
     pub fn char<W: Sink>(&mut self, writer: &mut W, v: char) -> Result<(), Refusal>
         requires { self.old.ended ≡ false }
@@ -69,8 +67,8 @@ impl Place {
         self.eight_bytes(writer, EncodingCodes::Timestamp, v.to_be_bytes())
     }
 
-    /// A uuid (section 1.6.18): 98 and its sixteen bytes; in an array the sixteen bytes. Under another
-    /// constructor than the first element's it is `InvalidValue`.
+    /// A uuid (section 1.6.18): 98 and its sixteen bytes; in an array the sixteen bytes. Under
+    /// another constructor than the first element's it is `InvalidValue`.
     #[inline(always)]
     pub fn uuid<W: Sink>(&mut self, writer: &mut W, v: &Uuid) -> Result<(), Refusal>
         requires { self.old.ended ≡ false }

@@ -1,10 +1,9 @@
 //! Numbers with a sign where they stand.
 
-ghost use Rattle.std.specs.Prelude.{◌≡◌, [], false};
+ghost use Rattle.std.specs.Prelude.{◌≡◌, false};
 ghost use Rattle.amqp_base.specs.Item.{scalar, byte, short, int, long};
-ghost use Rattle.amqp_base.specs.Canon.{kind_code};
 ghost use Rattle.amqp_write.specs.State.{stand, mark_of, unmarked};
-ghost use Rattle.amqp_write.specs.Law.{marked, found_after};
+ghost use Rattle.amqp_write.specs.Law.{marked};
 ghost use Rattle.amqp_write.specs.Appending.{PaysItem, as_error};
 
 use crate::place::{Mark, Place};
@@ -12,8 +11,8 @@ use crate::refusal::Refusal;
 use amqp_base::{EncodingCodes, Error, Sink};
 
 impl Place {
-    /// A byte (section 1.6.7): 51 and a byte; in an array the byte. Under another constructor than the
-    /// first element's it is `InvalidValue`.
+    /// A byte (section 1.6.7): 51 and a byte; in an array the byte. Under another constructor than
+    /// the first element's it is `InvalidValue`.
     #[inline(always)]
     pub fn byte<W: Sink>(&mut self, writer: &mut W, v: i8) -> Result<(), Refusal>
         requires { self.old.ended ≡ false }
@@ -23,8 +22,8 @@ impl Place {
         self.one_byte(writer, EncodingCodes::Byte, v.cast_unsigned())
     }
 
-    /// A short (section 1.6.8): 61 and two bytes, the high one first; in an array the two bytes. Under
-    /// another constructor than the first element's it is `InvalidValue`.
+    /// A short (section 1.6.8): 61 and two bytes, the high one first; in an array the two bytes.
+    /// Under another constructor than the first element's it is `InvalidValue`.
     #[inline(always)]
     pub fn short<W: Sink>(&mut self, writer: &mut W, v: i16) -> Result<(), Refusal>
         requires { self.old.ended ≡ false }
@@ -34,8 +33,8 @@ impl Place {
         self.two_bytes(writer, EncodingCodes::Short, v.to_be_bytes())
     }
 
-    /// An int (section 1.6.9): outside arrays 54 and a byte from -128 to 127, else 71 and four bytes;
-    /// in an array four bytes. Under another constructor than the first element's it is
+    /// An int (section 1.6.9): outside arrays 54 and a byte from -128 to 127, else 71 and four
+    /// bytes; in an array four bytes. Under another constructor than the first element's it is
     /// `InvalidValue`.
     #[inline(always)]
     pub fn int<W: Sink>(&mut self, writer: &mut W, v: i32) -> Result<(), Refusal>

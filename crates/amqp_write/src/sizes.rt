@@ -95,8 +95,8 @@ impl Sizes {
     /// The size at a place.
     #[inline(always)]
     pub fn get(&self, at: usize) -> Option<Size>
-        ensures first { IfSome result (λ z. drop at (listed self.now) ≡ size_in z ∷ drop (at + 1)
-            (listed self.now)) }
+        ensures first { IfSome result (λ z.
+            drop at (listed self.now) ≡ size_in z ∷ drop (at + 1) (listed self.now)) }
         ensures bound { IfSome result (λ _. at < usize.MAX) }
     {
         if at < FEW {

@@ -1,10 +1,8 @@
 //! Numbers without a sign where they stand.
 
-ghost use Rattle.std.specs.Prelude.{◌≡◌, [], false};
+ghost use Rattle.std.specs.Prelude.{◌≡◌, false};
 ghost use Rattle.amqp_base.specs.Item.{scalar, ubyte, ushort, uint, ulong};
-ghost use Rattle.amqp_base.specs.Canon.{kind_code};
 ghost use Rattle.amqp_write.specs.State.{stand};
-ghost use Rattle.amqp_write.specs.Law.{marked, found_after};
 ghost use Rattle.amqp_write.specs.Appending.{PaysItem, as_error};
 
 use crate::place::{Mark, Place};
@@ -23,8 +21,8 @@ impl Place {
         self.one_byte(writer, EncodingCodes::Ubyte, v)
     }
 
-    /// A ushort (section 1.6.4): 60 and two bytes, the high one first; in an array the two bytes. Under
-    /// another constructor than the first element's it is `InvalidValue`.
+    /// A ushort (section 1.6.4): 60 and two bytes, the high one first; in an array the two bytes.
+    /// Under another constructor than the first element's it is `InvalidValue`.
     #[inline(always)]
     pub fn ushort<W: Sink>(&mut self, writer: &mut W, v: u16) -> Result<(), Refusal>
         requires { self.old.ended ≡ false }
