@@ -15,24 +15,24 @@ use Rattle.amqp_base.specs.declared.error.Error.TheVariants.{OutOfMemory}
 use Rattle.amqp_base.specs.declared.shape.Setting.TheVariants.{Plain}
 use Rattle.amqp_base.specs.declared.shape.Shape.{Shape}
 use Rattle.amqp_ser.specs.State.{State, Planned, Mark, unmarked, first, other, answering, size_in, contents_in}
-use Rattle.amqp_ser.specs.declared.pass.Opened.{Opened}
+use Rattle.amqp_write.specs.declared.pass.Opened.{Opened}
 use Rattle.amqp_base.specs.Faults.{Extends}
-use Rattle.amqp_ser.proofs.Counting.{goes_more, next_refused}
+use Rattle.amqp_write.proofs.Counting.{goes_more, next_refused}
 use Rattle.amqp_ser.specs.Law.{text_for, fits, is_next, begins, same_size, marked, found_after, Goes, Wrote, Refused, Kept, IsDevice, Unwritten, unwritten}
-use Rattle.amqp_ser.specs.Appending.{Pays}
+use Rattle.amqp_write.specs.Appending.{Pays}
 use Rattle.amqp_ser.specs.Compound.{Keeps, Open, Empty, Begun, Buffers, Lent, Run, Holds, Complete, is_map, awaits_value, BeginsWith, whole_text, shape_code, parts_text, next_mark, other_of, turned}
-use Rattle.amqp_ser.proofs.Bytes.{extends_same, appends_none}
-use Rattle.amqp_ser.proofs.Steps.{Free, fits_free, wrote_pays, refused_pays, kept_two}
+use Rattle.amqp_write.proofs.Bytes.{extends_same, appends_none, none_extends}
+use Rattle.amqp_write.proofs.Steps.{Free, fits_free, wrote_pays, refused_pays, kept_two}
 use Rattle.amqp_base.specs.Faults.{IsFault}
 use Rattle.amqp_base.specs.declared.fault.Size.{Size as CodeSize}
 use Rattle.amqp_ser.specs.declared.serializer.Serializer.{Serializer}
 use Rattle.std.specs.declared.vec.Vec.{Vec}
 use Rattle.std.specs.Global.{Global}
 use Rattle.amqp_ser.specs.Compound.{Back, back, inner_of, outer_of, part_in, outside_in}
-use Rattle.amqp_ser.proofs.TextOf.{pays_text}
-use Rattle.amqp_ser.proofs.PartTexts.{parts_more, parts_none, bind_some, pairs_text, pairs_count, odd_count, true_false}
-use Rattle.amqp_ser.proofs.WhyTexts.{part_why, body_why}
-use Rattle.amqp_ser.proofs.Lengths.{parts_fit}
+use Rattle.amqp_write.proofs.TextOf.{pays_text}
+use Rattle.amqp_write.proofs.PartTexts.{parts_more, parts_none, bind_some, pairs_text, pairs_count, odd_count, true_false}
+use Rattle.amqp_write.proofs.WhyTexts.{part_why, body_why}
+use Rattle.amqp_write.proofs.Lengths.{parts_fit}
 
 kept_ended : (s : State) → Kept s (record s { ended = true })
 kept_ended s = record { bytes = extends_same s.contents; faults = omega arith; grows = refl }
@@ -43,12 +43,6 @@ next_none p l h k = let t : is_next p l ≡ true = rw h refl in true_false (sym 
 and_false : (b : Bool) → (b && false) ≡ false
 and_false true = refl
 and_false false = refl
-
-pub none_extends : (a b : Option (List ℕ)) → a ≡ None → Extends a b
-none_extends a b h = rw h tt
-
-pub none_appends : (a b : Option (List ℕ)) (xs : List ℕ) → a ≡ None → Appends a b xs
-none_appends a b xs h = rw h tt
 
 kept_lent : (s : State) (code : Option Constructor) (o : State) → Lent s code o → Kept s o
 kept_lent s code o l = record { bytes = none_extends _ _ l.was; faults = l.faults; grows = l.grows }
@@ -363,7 +357,7 @@ begun_moved shape s Opened.Buffered b o t start live k h = absurd (live refl)
 begun_moved shape s (Opened.Measured at before) b o t start live k h = record { so_far = h.so_far; room = h.room; plan = h.plan; measure = h.measure; place = h.place; counted = h.counted; no_plan = h.no_plan; counts = h.counts; outer = lent_moved s _ b o t k h.outer }
 begun_moved shape s (Opened.Written size from) b o t start live k h = record { so_far = h.so_far; left = h.left; head = h.head; plan = h.plan; next = h.next; measure = h.measure; text = h.text; goes_on = h.goes_on; no_measure = h.no_measure; behind = h.behind; outer = lent_moved s _ b o t k h.outer }
 
-pub inner_lives : (k : Opened) (o : State) (b : Serializer (Vec ℕ Global)) → Lives k → inner_of k o b ≡ record o { ended = b.ended }
+pub inner_lives : (k : Opened) (o : State) (b : Serializer (Vec ℕ Global)) → Lives k → inner_of k o b ≡ record o { ended = b.place.ended }
 inner_lives Opened.Buffered o b live = absurd (live refl)
 inner_lives (Opened.Measured at before) o b live = refl
 inner_lives (Opened.Written size from) o b live = refl
@@ -402,15 +396,15 @@ keeps_lives q p k b o t is after h ended = record {
   ended = λ _. ap (λ (x : State). x.ended) after ∙ ended_outer k b t ended;
 }
 
-pub inner_answers : (k : Opened) (o : State) (b : Serializer (Vec ℕ Global)) → (inner_of k o b).ended ≡ b.ended
+pub inner_answers : (k : Opened) (o : State) (b : Serializer (Vec ℕ Global)) → (inner_of k o b).ended ≡ b.place.ended
 inner_answers Opened.Buffered o b = refl
 inner_answers (Opened.Measured at before) o b = refl
 inner_answers (Opened.Written size from) o b = refl
 
-pub unbroken : (k : Opened) (o : State) (b : Serializer (Vec ℕ Global)) → Lives k → b.ended ≡ false → (inner_of k o b).ended ≡ true → ⊥
+pub unbroken : (k : Opened) (o : State) (b : Serializer (Vec ℕ Global)) → Lives k → b.place.ended ≡ false → (inner_of k o b).ended ≡ true → ⊥
 unbroken k o b live h i = true_false (sym i ∙ (ap (λ (x : State). x.ended) (inner_lives k o b live) ∙ h))
 
-pub broken_lives : (k : Opened) (o : State) (b : Serializer (Vec ℕ Global)) → Lives k → b.ended ≡ true → (inner_of k o b).ended ≡ true
+pub broken_lives : (k : Opened) (o : State) (b : Serializer (Vec ℕ Global)) → Lives k → b.place.ended ≡ true → (inner_of k o b).ended ≡ true
 broken_lives k o b live h = ap (λ (x : State). x.ended) (inner_lives k o b live) ∙ h
 
 -- one part more, which stands on the serializer itself

@@ -10,11 +10,11 @@ use Rattle.amqp_base.specs.declared.shape.Shape.{Shape}
 use Rattle.amqp_base.specs.declared.fault.Size.{Size as CodeSize}
 use Rattle.amqp_ser.specs.State.{State, Planned, Measured, size_in, contents_in, plan_in, measure_in}
 use Rattle.amqp_ser.specs.Law.{found_after, plan_after, measure_after, Goes}
-use Rattle.amqp_ser.specs.Appending.{Pays}
-use Rattle.amqp_ser.specs.declared.pass.Opened.{Opened}
+use Rattle.amqp_write.specs.Appending.{Pays}
+use Rattle.amqp_write.specs.declared.pass.Opened.{Opened}
 use Rattle.amqp_ser.specs.Compound.{Open, Back, back, Empty, Run, Holds, Begun, Lent, is_map, next_mark, shape_code, head_text}
-use Rattle.amqp_ser.proofs.Steps.{fits_nil}
-use Rattle.amqp_ser.proofs.Bytes.{appends_none}
+use Rattle.amqp_write.proofs.Steps.{fits_nil}
+use Rattle.amqp_write.proofs.Bytes.{appends_none}
 use Rattle.amqp_ser.proofs.Compounds.{run_none}
 
 some_same : {A : Type 0} (x y : A) → Some x ≡ Some y → x ≡ y

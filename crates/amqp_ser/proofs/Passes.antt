@@ -11,16 +11,17 @@ use Rattle.amqp_base.specs.declared.error.Error.{Error}
 use Rattle.amqp_base.specs.declared.shape.Shape.{Shape}
 use Rattle.amqp_ser.specs.State.{State, Mark, Planned, Measured, size_in}
 use Rattle.amqp_ser.specs.Law.{fits, is_next, begins, same_size, plan_after, measure_after, marked, found_after, Kept, IsDevice, unwritten, why_unwritten, Wrote, Refused}
-use Rattle.amqp_ser.specs.Appending.{Pays}
-use Rattle.amqp_ser.specs.declared.pass.Opened.{Opened}
+use Rattle.amqp_write.specs.Appending.{Pays}
+use Rattle.amqp_write.specs.declared.pass.Opened.{Opened}
 use Rattle.amqp_base.specs.declared.fault.Size.{Size as CodeSize}
 use Rattle.amqp_ser.specs.Compound.{Open, Back, back, RefusesOpen, Holds, Begun, Measures, Writes, Lent, Complete, is_map, head_text, parts_text, shape_code, back_measured, EndsMeasured, EndsWritten}
-use Rattle.amqp_ser.proofs.Steps.{fits_nil, wrote_pays, refused_pays, kept_two}
-use Rattle.amqp_ser.proofs.WhyTexts.{body_why}
-use Rattle.amqp_ser.proofs.Lengths.{parts_fit}
-use Rattle.amqp_ser.proofs.TextOf.{whole_none}
-use Rattle.amqp_ser.proofs.Heads.{whole_head, head_none, total, bool_cases}
-use Rattle.amqp_ser.proofs.Compounds.{kept_begun, full_refuses, whole_of_some, whole_of_none, whole_sizes, whole_code, none_extends, none_appends, none_text}
+use Rattle.amqp_write.proofs.Bytes.{none_extends, none_appends}
+use Rattle.amqp_write.proofs.Steps.{fits_nil, wrote_pays, refused_pays, kept_two}
+use Rattle.amqp_write.proofs.WhyTexts.{body_why}
+use Rattle.amqp_write.proofs.Lengths.{parts_fit}
+use Rattle.amqp_write.proofs.TextOf.{whole_none}
+use Rattle.amqp_write.proofs.Heads.{whole_head, head_none, total, bool_cases}
+use Rattle.amqp_ser.proofs.Compounds.{kept_begun, full_refuses, whole_of_some, whole_of_none, whole_sizes, whole_code, none_text}
 
 measures : (s : State) (shape : Shape) (k : Opened) (at before : ℕ) (o start : State) → k ≡ Opened.Measured at before → Begun shape s k o start → Measures s at before o start
 measures s shape k at before o start e b = subst (λ x. Begun shape s x o start) e b

@@ -1,31 +1,27 @@
 -- What contracts see of an open compound.
-use Rattle.std.specs.Prelude.{◌≡◌, ◌⊎◌, ◌-◌, ◌<◌, Ok, ℕ, ◌==◌, ◌&&◌, ◌≤◌, ◌+◌, ◌%◌, ◌++◌, set, nat_le, Bool, true, false, if◌then◌else◌, List, [], ◌∷◌, length, Option, Some, None, Result, Err, IfErr, OnErr, OnOk}
-use Rattle.std.specs.Int.{bytes_high_first}
+use Rattle.std.specs.Prelude.{◌≡◌, ◌⊎◌, ◌-◌, ◌<◌, Ok, ℕ, ◌≤◌, ◌+◌, ◌++◌, set, Bool, true, false, List, [], ◌∷◌, length, Option, Some, None, Result, Err, IfErr, OnErr, OnOk}
 use Rattle.std.specs.declared.io.Write as Write
 use Rattle.std.specs.declared.vec.Vec.{Vec}
 use Rattle.std.specs.Global.{Global}
 use Rattle.amqp_base.specs.declared.fault.FaultCount as FaultCount
 use Rattle.amqp_base.specs.declared.error.Error.{Error}
-use Rattle.amqp_base.specs.declared.format_code.EncodingCodes.{EncodingCodes}
-use Rattle.amqp_base.specs.declared.format_code.EncodingCodes.TheVariants.{List32, Map32, Array32}
 use Rattle.amqp_base.specs.declared.error.Error.TheVariants.{InvalidValue}
-use Rattle.amqp_base.specs.Item.{Item, Items, items_of}
+use Rattle.amqp_base.specs.Item.{Item, items_of}
 use Rattle.amqp_base.specs.Wire.{Constructor, under}
-use Rattle.amqp_base.specs.Canon.{limit, canons, array_body, kind_code, compound_text, wide_body}
 use Rattle.amqp_base.specs.Shapes.{whole, setting_inside}
 use Rattle.amqp_base.specs.Structs.{FieldItem, struct_shape, fields_parts, is_described_name}
-use Rattle.amqp_base.specs.Codes.{row}
 use Rattle.amqp_base.specs.Sizes.{Size, sizes_in}
-use Rattle.amqp_ser.specs.State.{State, answering, Planned, Measured, size_in, Mark, unmarked, first, other, state, mark_of, found_of, contents_in, plan_in, measure_in}
-use Rattle.amqp_ser.specs.declared.pass.Opened.{Opened}
-pub use Rattle.amqp_ser.specs.Texts.{other_of}
-use Rattle.amqp_ser.specs.Law.{Goes, placed, found_after, Wrote, Refused, Kept, Stops, unwritten}
+use Rattle.amqp_ser.specs.State.{State, answering, Planned, Measured, size_in, Mark, unmarked, state, mark_of, found_of, contents_in, plan_in, measure_in}
+use Rattle.amqp_write.specs.declared.pass.Opened.{Opened}
+pub use Rattle.amqp_write.specs.Wholes.{other_of, shape_code, narrow_of, empty_list, shape_text, turned, is_map, awaits_value, Complete}
+unfoldable pub use Rattle.amqp_write.specs.Wholes.{head_text, whole_text, parts_text, next_mark}
+use Rattle.amqp_ser.specs.Law.{Goes, found_after, Wrote, Refused, Kept, Stops, unwritten}
 use Rattle.amqp_ser.specs.declared.compound.Parts.{Parts}
 use Rattle.amqp_ser.specs.declared.compound.Outer.{Outer as CodeOuter}
 use Rattle.amqp_base.specs.declared.fault.Size.{Size as CodeSize}
 use Rattle.amqp_base.specs.declared.shape.Setting.{Setting}
 use Rattle.amqp_base.specs.declared.error.Error.TheVariants.{OutOfMemory}
-use Rattle.amqp_ser.specs.Appending.{Pays}
+use Rattle.amqp_write.specs.Appending.{Pays}
 use Rattle.amqp_ser.specs.declared.seq.SeqSerializer.{SeqSerializer}
 use Rattle.amqp_ser.specs.declared.tuples.TupleSerializer.{TupleSerializer}
 use Rattle.amqp_ser.specs.declared.map.MapSerializer.{MapSerializer}
@@ -50,60 +46,6 @@ pub record Open : Type 0 where
   pub count : ℕ
   pub opened : Opened
 
--- what is written of the parts
-unfoldable pub parts_text : Shape → Items → Option (List ℕ)
-parts_text Shape.List is = canons is
-parts_text Shape.Array is = array_body is
-parts_text (Shape.Tuple n) is = canons is
-parts_text Shape.Map is = canons is
-parts_text Shape.Fields is = canons is
-
-abbrev pub shape_code : Shape → EncodingCodes
-shape_code Shape.List = List32
-shape_code Shape.Array = Array32
-shape_code (Shape.Tuple n) = List32
-shape_code Shape.Map = Map32
-shape_code Shape.Fields = Map32
-
-abbrev pub narrow_of : Shape → ℕ
-narrow_of Shape.List = 0xc0
-narrow_of Shape.Array = 0xe0
-narrow_of (Shape.Tuple n) = 0xc0
-narrow_of Shape.Map = 0xc1
-narrow_of Shape.Fields = 0xc1
-
--- it is written as one byte
-abbrev pub empty_list : Shape → ℕ → Bool
-empty_list Shape.List n = n == 0
-empty_list Shape.Array n = false
-empty_list (Shape.Tuple k) n = n == 0
-empty_list Shape.Map n = false
-empty_list Shape.Fields n = false
-
--- the text of a compound outside arrays, by what is written of its parts
-abbrev pub shape_text : Shape → ℕ → List ℕ → Option (List ℕ)
-shape_text shape k b = if empty_list shape (length b) then Some (0x45 ∷ []) else compound_text (narrow_of shape) (row (shape_code shape)).byte k b
-
-unfoldable pub whole_text : Shape → Mark → ℕ → List ℕ → Option (List ℕ)
-whole_text shape unmarked k b = shape_text shape k b
-whole_text shape first k b = placed first (Some (under (shape_code shape))) (wide_body k b)
-whole_text shape (other d) k b = placed (other d) (Some (under (shape_code shape))) (wide_body k b)
-
--- the mark of the next part
-unfoldable pub next_mark : Shape → List Item → Mark
-next_mark Shape.List xs = unmarked
-next_mark Shape.Array [] = first
-next_mark Shape.Array (x ∷ xs) = other_of (kind_code x)
-next_mark (Shape.Tuple n) xs = unmarked
-next_mark Shape.Map xs = unmarked
-next_mark Shape.Fields xs = unmarked
-
--- the mark behind a first element
-abbrev pub turned : Mark → Option Constructor → Mark
-turned unmarked c = unmarked
-turned first c = other_of c
-turned (other d) c = other d
-
 -- from u to v by the parts in order
 pub record Run (shape : Shape) (u : State) (xs : List Item) (v : State) : Type 0 where
   pub bytes : List ℕ
@@ -114,7 +56,7 @@ pub record Run (shape : Shape) (u : State) (xs : List Item) (v : State) : Type 0
   pub answers : v.ended ≡ false
 
 abbrev pub the_buffer : Serializer (Vec ℕ Global) → State
-the_buffer b = record { contents = contents_in b.direct (Some b.writer.items); faults = 0; last_fault = None; grows = true; setting = b.setting; mark = mark_of b.mark; found = found_of b.found; plan = plan_in b.direct None; measure = measure_in b.direct None; ended = b.ended }
+the_buffer b = record { contents = contents_in b.place.direct (Some b.writer.items); faults = 0; last_fault = None; grows = true; setting = b.place.setting; mark = mark_of b.place.mark; found = found_of b.place.found; plan = plan_in b.place.direct None; measure = measure_in b.place.direct None; ended = b.place.ended }
 
 -- parts on a serializer
 abbrev pub outer_in : CodeOuter → Back
@@ -127,8 +69,8 @@ back b o = record o { setting = b.setting; mark = b.mark; found = b.found }
 -- what its parts are written to: a buffer, or the serializer itself
 abbrev pub inner_of : Opened → State → Serializer (Vec ℕ Global) → State
 inner_of Opened.Buffered o b = the_buffer b
-inner_of (Opened.Measured at before) o b = record o { ended = b.ended }
-inner_of (Opened.Written size from) o b = record o { ended = b.ended }
+inner_of (Opened.Measured at before) o b = record o { ended = b.place.ended }
+inner_of (Opened.Written size from) o b = record o { ended = b.place.ended }
 
 -- the serializer as it is to be when the compound has ended
 abbrev pub outer_of : Opened → State → Back → State
@@ -155,38 +97,11 @@ tuple_struct_state w f q = open_parts false (state w f q.ser.now) q.parts
 unfoldable pub struct_state : {W : Type 0} → Write.Ghosts W → FaultCount.Ghosts W → StructSerializer W Parts → Open
 struct_state w f q = open_parts false (state w f q.ser.now) q.parts
 
-abbrev pub is_map : Shape → Bool
-is_map Shape.List = false
-is_map Shape.Array = false
-is_map (Shape.Tuple n) = false
-is_map Shape.Map = true
-is_map Shape.Fields = true
-
--- a key stands last, without its value
-abbrev pub awaits_value : List Item → Bool
-awaits_value [] = false
-awaits_value (k ∷ []) = true
-awaits_value (k ∷ v ∷ xs) = awaits_value xs
-
--- no key is without its value, where the parts are keys and values in turn
-abbrev pub Complete : Bool → List Item → Type 0
-Complete pairs xs = (pairs && awaits_value xs) ≡ false
-
 -- what a buffer is at first
 pub record Empty (u : State) : Type 0 where
   pub contents : u.contents ≡ Some []
   pub plan : u.plan ≡ None
   pub measure : u.measure ≡ None
-
--- the header of a compound of this size
-unfoldable pub head_text : Shape → Mark → Size → Option (List ℕ)
-head_text shape unmarked z =
-    if empty_list shape z.length then Some (0x45 ∷ [])
-    else if nat_le z.length 254 then Some (narrow_of shape ∷ (z.length + 1) ∷ (z.count % 256) ∷ [])
-    else if nat_le z.length limit then Some ((row (shape_code shape)).byte ∷ (bytes_high_first 4 (z.length + 4) ++ bytes_high_first 4 (z.count % 4294967296)))
-    else None
-head_text shape first z = placed first (Some (under (shape_code shape))) (if nat_le z.length limit then Some (bytes_high_first 4 (z.length + 4) ++ bytes_high_first 4 (z.count % 4294967296)) else None)
-head_text shape (other d) z = placed (other d) (Some (under (shape_code shape))) (if nat_le z.length limit then Some (bytes_high_first 4 (z.length + 4) ++ bytes_high_first 4 (z.count % 4294967296)) else None)
 
 -- a serializer that a compound of a pass holds, as it is to be when the compound has ended
 pub record Lent (s : State) (code : Option Constructor) (o : State) : Type 0 where

@@ -5,17 +5,18 @@ ghost use Rattle.std.specs.Prelude.{◌∷◌, ℕ, Bool, List, [], true, false,
 ghost use Rattle.std.specs.Prelude.{OnErr, Err};
 ghost use Rattle.amqp_base.specs.Item.{Item};
 ghost use Rattle.amqp_base.specs.Shapes.{whole, setting_inside};
-ghost use Rattle.amqp_ser.specs.State.{State, state, mark_of, answering};
-ghost use Rattle.amqp_ser.specs.declared.pass.Opened.TheVariants.{Buffered as IsBuffered};
+ghost use Rattle.amqp_ser.specs.State.{State, state, answering};
+ghost use Rattle.amqp_write.specs.declared.pass.Opened.TheVariants.{Buffered as IsBuffered};
 ghost use Rattle.amqp_ser.specs.Law.{Refused};
 ghost use Rattle.amqp_ser.specs.Compound.{the_buffer, open_parts, awaits_value, Empty, Run, Holds};
-ghost use Rattle.amqp_ser.specs.Compound.{Complete, BeginsWith, EndsCompound, next_mark, Keeps};
+ghost use Rattle.amqp_ser.specs.Compound.{Complete, BeginsWith, EndsCompound, Keeps};
 ghost use Rattle.amqp_ser.specs.Compound.{WritesPart, part_in, outside_in};
 
-use crate::pass::Opened;
-use crate::serializer::{Mark, Refusal, handed_on, no_memory, refused};
 use crate::{Serialize, Serializer};
 use amqp_base::{EncodingCodes, Error, Pass, Setting, Shape, Sink};
+use amqp_write::{
+    Mark, Opened, Place, Refusal, first_mark, handed_on, no_memory, refused, setting_inside,
+};
 use std::alloc::{AllocError, Global};
 
 /// Room for so many bytes of parts is taken when a compound opens.
@@ -71,7 +72,7 @@ pub(crate) fn write_part<W: Sink, T: Serialize>(
         (open_parts pairs (state W.Write W.FaultCount ser.old) parts.old) result
         (open_parts pairs (state W.Write W.FaultCount ser.new) parts.new) }
 {
-    if parts.buffer.ended {
+    if parts.buffer.place.ended {
         return Err(refused(Refusal::InvalidValue));
     }
     match ser.writer.pass() {
@@ -81,13 +82,13 @@ pub(crate) fn write_part<W: Sink, T: Serialize>(
                 Err(e) => Err(e),
             },
             _ => {
-                parts.buffer.ended = true;
+                parts.buffer.place.ended = true;
                 Err(no_memory())
             }
         },
         _ => match parts.opened {
             Opened::Buffered => {
-                parts.buffer.ended = true;
+                parts.buffer.place.ended = true;
                 Err(no_memory())
             }
             _ => write_direct(ser, parts, alloc, value),
@@ -103,7 +104,7 @@ fn write_direct<W: Sink, T: Serialize>(
     alloc: Global,
     value: &T,
 ) -> Result<(), Error>
-    requires answers { parts.old.buffer.ended ≡ false }
+    requires answers { parts.old.buffer.place.ended ≡ false }
     requires direct { parts.old.opened ≢ IsBuffered }
     ensures ok { (pairs : Bool) → OnOk result ((s : State) (shape : Shape) (xs : List Item) →
         Holds s shape xs (open_parts pairs (state W.Write W.FaultCount ser.old) parts.old) →
@@ -118,7 +119,7 @@ fn write_direct<W: Sink, T: Serialize>(
     ensures kept { (pairs : Bool) → Keeps
         (open_parts pairs (state W.Write W.FaultCount ser.old) parts.old)
         (open_parts pairs (state W.Write W.FaultCount ser.new) parts.new) }
-    ensures ended { OnErr result (parts.new.buffer.ended ≡ true) }
+    ensures ended { OnErr result (parts.new.buffer.place.ended ≡ true) }
 {
     match write_on(ser, parts.shape, alloc, value) {
         Ok(()) => match parts.count.checked_add(1) {
@@ -127,12 +128,12 @@ fn write_direct<W: Sink, T: Serialize>(
                 Ok(())
             }
             None => {
-                parts.buffer.ended = true;
+                parts.buffer.place.ended = true;
                 Err(no_memory())
             }
         },
         Err(e) => {
-            parts.buffer.ended = true;
+            parts.buffer.place.ended = true;
             Err(handed_on(e))
         }
     }
@@ -167,15 +168,15 @@ fn write_in_array<W: Sink, T: Serialize>(
         (answering (state W.Write W.FaultCount ser.old)) (T.meaning.item value.now) result
         (state W.Write W.FaultCount ser.new) }
 {
-    ser.ended = false;
+    ser.place.ended = false;
     match value.serialize(alloc, ser) {
         Ok(()) => {
-            ser.ended = true;
+            ser.place.ended = true;
             ser.turn();
             Ok(())
         }
         Err(e) => {
-            ser.ended = true;
+            ser.place.ended = true;
             Err(e)
         }
     }
@@ -194,16 +195,16 @@ pub(crate) fn write_outside<W: Sink, T: Serialize>(
         (outside_in shape (state W.Write W.FaultCount ser.old)) (T.meaning.item value.now) result
         (state W.Write W.FaultCount ser.new) }
 {
-    ser.ended = false;
-    ser.mark = Mark::Unmarked;
-    ser.setting = setting_inside(shape);
+    ser.place.ended = false;
+    ser.place.mark = Mark::Unmarked;
+    ser.place.setting = setting_inside(shape);
     match value.serialize(alloc, ser) {
         Ok(()) => {
-            ser.ended = true;
+            ser.place.ended = true;
             Ok(())
         }
         Err(e) => {
-            ser.ended = true;
+            ser.place.ended = true;
             Err(handed_on(e))
         }
     }
@@ -225,11 +226,13 @@ impl Parts {
         };
         let buffer = Serializer {
             writer,
-            setting: setting_inside(shape),
-            mark: first_mark(shape),
-            found: None,
-            ended: false,
-            direct: false,
+            place: Place {
+                setting: setting_inside(shape),
+                mark: first_mark(shape),
+                found: None,
+                ended: false,
+                direct: false,
+            },
         };
         Ok(Parts {
             shape,
@@ -282,7 +285,7 @@ impl Parts {
         ensures stops { (pairs : Bool) (outer : State) → EndsCompound
             (open_parts pairs outer self.old) result (open_parts pairs outer self.new) }
     {
-        if self.buffer.ended {
+        if self.buffer.place.ended {
             return Err(refused(Refusal::InvalidValue));
         }
         match value.serialize(alloc, &mut self.buffer) {
@@ -293,12 +296,12 @@ impl Parts {
                     Ok(())
                 }
                 None => {
-                    self.buffer.ended = true;
+                    self.buffer.place.ended = true;
                     Err(Error::OutOfMemory)
                 }
             },
             Err(e) => {
-                self.buffer.ended = true;
+                self.buffer.place.ended = true;
                 Err(e)
             }
         }
@@ -333,42 +336,13 @@ pub(crate) fn write_in_turn<W: Sink, T: Serialize>(
     ensures stops { EndsCompound (open_parts true (state W.Write W.FaultCount ser.old) parts.old)
         result (open_parts true (state W.Write W.FaultCount ser.new) parts.new) }
 {
-    if parts.buffer.ended {
+    if parts.buffer.place.ended {
         return Err(refused(Refusal::InvalidValue));
     }
     let turn = parts.awaits_value();
     if turn == is_value {
         return write_part(ser, parts, alloc, part);
     }
-    parts.buffer.ended = true;
+    parts.buffer.place.ended = true;
     Err(refused(Refusal::InvalidValue))
-}
-
-/// The mark of the first part.
-#[tactic(auto, unfolding(crate::specs::Compound::next_mark))]
-#[inline(always)]
-pub(crate) fn first_mark(shape: Shape) -> Mark
-    ensures { mark_of result ≡ next_mark shape [] }
-{
-    match shape {
-        Shape::List => Mark::Unmarked,
-        Shape::Array => Mark::First,
-        Shape::Tuple(_) => Mark::Unmarked,
-        Shape::Map => Mark::Unmarked,
-        Shape::Fields => Mark::Unmarked,
-    }
-}
-
-/// The setting that the parts are under.
-#[inline(always)]
-pub(crate) fn setting_inside(shape: Shape) -> Setting
-    ensures { result ≡ setting_inside shape }
-{
-    match shape {
-        Shape::List => Setting::Plain,
-        Shape::Array => Setting::Plain,
-        Shape::Tuple(_) => Setting::Plain,
-        Shape::Map => Setting::Plain,
-        Shape::Fields => Setting::DescribedMap,
-    }
 }

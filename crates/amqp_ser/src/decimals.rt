@@ -5,10 +5,10 @@ ghost use Rattle.amqp_base.specs.Item.{scalar, decimal32, decimal64, decimal128}
 ghost use Rattle.amqp_ser.specs.State.{state};
 ghost use Rattle.amqp_ser.specs.Law.{Wrote, Refused, Stops, Spares};
 
-use crate::serializer::{Refusal, refused};
 use crate::{Serialize, Serializer};
-use amqp_base::{EncodingCodes, Error, Sink};
+use amqp_base::{Error, Sink};
 use amqp_types::{Dec32, Dec64, Dec128};
+use amqp_write::{Refusal, refused};
 use std::alloc::Global;
 
 impl<W: Sink> Serializer<W> {
@@ -28,10 +28,10 @@ impl<W: Sink> Serializer<W> {
             (state W.Write W.FaultCount self.new) }
     {
         let _ = alloc;
-        if self.ended {
+        if self.place.ended {
             return Err(refused(Refusal::InvalidValue));
         }
-        match self.four_bytes(EncodingCodes::Decimal32, *v.as_inner()) {
+        match self.place.decimal32(&mut self.writer, v) {
             Ok(()) => Ok(()),
             Err(e) => Err(refused(e)),
         }
@@ -53,10 +53,10 @@ impl<W: Sink> Serializer<W> {
             (state W.Write W.FaultCount self.new) }
     {
         let _ = alloc;
-        if self.ended {
+        if self.place.ended {
             return Err(refused(Refusal::InvalidValue));
         }
-        match self.eight_bytes(EncodingCodes::Decimal64, *v.as_inner()) {
+        match self.place.decimal64(&mut self.writer, v) {
             Ok(()) => Ok(()),
             Err(e) => Err(refused(e)),
         }
@@ -78,10 +78,10 @@ impl<W: Sink> Serializer<W> {
             (state W.Write W.FaultCount self.new) }
     {
         let _ = alloc;
-        if self.ended {
+        if self.place.ended {
             return Err(refused(Refusal::InvalidValue));
         }
-        match self.sixteen_bytes(EncodingCodes::Decimal128, *v.as_inner()) {
+        match self.place.decimal128(&mut self.writer, v) {
             Ok(()) => Ok(()),
             Err(e) => Err(refused(e)),
         }

@@ -5,15 +5,14 @@ ghost use Rattle.amqp_base.specs.Item.{Item};
 ghost use Rattle.amqp_base.specs.Shapes.{whole};
 ghost use Rattle.amqp_ser.specs.State.{State, Planned, Measured, state};
 ghost use Rattle.amqp_ser.specs.Law.{Wrote, Refused, Kept};
-ghost use Rattle.amqp_ser.specs.Appending.{as_error};
+ghost use Rattle.amqp_write.specs.Appending.{as_error};
 ghost use Rattle.amqp_ser.specs.Compound.{open_parts, Holds, Complete, back, outer_in};
 ghost use Rattle.amqp_ser.specs.Compound.{EndsMeasured, EndsWritten};
 
 use crate::Serializer;
 use crate::compound::{Outer, Parts};
-use crate::pass::Opened;
-use crate::serializer::{Refusal, no_memory, refused};
 use amqp_base::{Error, Pass, Shape, Sink, Size};
+use amqp_write::{Opened, Refusal, no_memory, refused};
 use std::io::ErrorKind;
 
 impl<W: Sink> Serializer<W> {
@@ -37,7 +36,7 @@ impl<W: Sink> Serializer<W> {
             (state W.Write W.FaultCount self.new) }
         ensures stays_ended { OnErr result ((state W.Write W.FaultCount self.old).ended ≡ true →
             (state W.Write W.FaultCount self.new).ended ≡ true) }
-        ensures ended { parts.buffer.ended ≡ true → result ≡ Err Error.InvalidValue }
+        ensures ended { parts.buffer.place.ended ≡ true → result ≡ Err Error.InvalidValue }
     {
         let Parts {
             shape,
@@ -46,14 +45,14 @@ impl<W: Sink> Serializer<W> {
             opened,
             outer,
         } = parts;
-        if buffer.ended {
+        if buffer.place.ended {
             return Err(refused(Refusal::InvalidValue));
         }
         match self.writer.pass() {
             Pass::Buffers => match opened {
                 Opened::Buffered => {
                     let body = buffer.into_inner();
-                    match self.finish(shape, count, &body) {
+                    match self.place.finish(&mut self.writer, shape, count, &body) {
                         Ok(()) => Ok(()),
                         Err(e) => Err(refused(e)),
                     }
@@ -97,7 +96,7 @@ impl<W: Sink> Serializer<W> {
             (state W.Write W.FaultCount self.new).ended ≡ true) }
     {
         self.restore(outer);
-        if !self.direct {
+        if !self.place.direct {
             return Err(Refusal::Io(ErrorKind::OutOfMemory));
         }
         let end = match self.writer.so_far() {
@@ -117,8 +116,8 @@ impl<W: Sink> Serializer<W> {
         if !self.writer.close_measured(at, size) {
             return Err(Refusal::Io(ErrorKind::OutOfMemory));
         }
-        self.ended = false;
-        self.head(shape, size)
+        self.place.ended = false;
+        self.place.head(&mut self.writer, shape, size)
     }
 
     /// Ends a compound that was written behind its header, which it has to agree with.
@@ -145,7 +144,7 @@ impl<W: Sink> Serializer<W> {
             None => return Err(no_memory()),
         };
         if from.checked_add(size.length) == Some(end) && count == size.count {
-            self.ended = false;
+            self.place.ended = false;
             return Ok(());
         }
         Err(refused(Refusal::InvalidValue))
@@ -163,9 +162,9 @@ impl<W: Sink> Serializer<W> {
                 mark,
                 found,
             } => {
-                self.setting = setting;
-                self.mark = mark;
-                self.found = found;
+                self.place.setting = setting;
+                self.place.mark = mark;
+                self.place.found = found;
             }
         }
     }

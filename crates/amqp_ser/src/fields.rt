@@ -169,7 +169,7 @@ impl<W: Sink> Serializer<W> {
             (struct_item (state W.Write W.FaultCount self.old).setting
             (F.items whole.now.fields)) e (state W.Write W.FaultCount self.new)) }
     {
-        match self.setting {
+        match self.place.setting {
             Setting::DescribedMap => self.fields_one_by_one(alloc, whole),
             _ => {
                 if whole.fields.has_descriptor() {

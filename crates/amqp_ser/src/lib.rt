@@ -1,5 +1,5 @@
 //! Writing values in the AMQP 1.0 encoding (OASIS AMQP 1.0 part 1, sections 1.2 to 1.6).
-#![tactic(auto, unfolding(crate::specs::State::state, crate::specs::Compound::open_state, crate::specs::Compound::tuple_state, crate::specs::Compound::map_state, crate::specs::Compound::tuple_struct_state, crate::specs::Compound::struct_state))]
+#![tactic(auto, unfolding(crate::specs::State::state, amqp_write::specs::State::stand, crate::specs::Compound::open_state, crate::specs::Compound::tuple_state, crate::specs::Compound::map_state, crate::specs::Compound::tuple_struct_state, crate::specs::Compound::struct_state))]
 
 mod blocks;
 mod compound;
@@ -7,34 +7,29 @@ mod decimals;
 mod each;
 mod ending;
 mod fields;
-mod fixed;
 mod floats;
-mod header;
 mod map;
 mod maps;
 mod measured;
 mod newtypes;
-mod numbers;
 mod opening;
 mod option;
-mod pass;
 mod payloads;
 mod scalars;
 mod seq;
 mod serialize;
 mod serializer;
 mod signed;
-mod sizes;
 mod structs;
 mod tuple_structs;
 mod tuples;
 mod unsigned;
 
+pub use amqp_write::Measure;
 pub use compound::Parts;
 pub use fields::{Struct, StructFields, Written};
 pub use map::MapSerializer;
 pub use measured::{measure, measured_size, measured_vec, write_measured};
-pub use pass::Measure;
 pub use seq::SeqSerializer;
 pub use serialize::{Numbers, Serialize};
 pub use serializer::Serializer;

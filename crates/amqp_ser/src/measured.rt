@@ -5,10 +5,9 @@ ghost use Rattle.amqp_base.specs.Canon.{canon};
 ghost use Rattle.amqp_ser.specs.Texts.{HasNoText};
 ghost use Rattle.amqp_ser.specs.Passes.{IsMeasureOf, HasLength, NoSize};
 
-use crate::pass::{Measure, Plan, Reserved};
-use crate::sizes::Sizes;
 use crate::{Serialize, Serializer};
 use amqp_base::{Error, Setting};
+use amqp_write::{Measure, Plan, Reserved, Sizes};
 use std::alloc::Global;
 use std::io::ErrorKind;
 
@@ -24,7 +23,7 @@ pub fn measure<T: Serialize>(alloc: Global, value: &T) -> Result<Measure, Error>
         length: 0,
         sizes: Sizes::new(alloc),
     });
-    ser.direct = true;
+    ser.place.direct = true;
     match value.serialize(alloc, &mut ser) {
         Ok(()) => {}
         Err(e) => return Err(e),
@@ -106,7 +105,7 @@ pub fn write_measured<T: Serialize>(
         sizes,
         next: 0,
     });
-    ser.direct = true;
+    ser.place.direct = true;
     match value.serialize(alloc, &mut ser) {
         Ok(()) => {}
         Err(e) => return Err(e),

@@ -7,10 +7,9 @@ ghost use Rattle.amqp_ser.specs.Compound.{open_parts, is_map, Holds, RefusesOpen
 ghost use Rattle.amqp_ser.specs.Compound.{outer_in};
 
 use crate::Serializer;
-use crate::compound::{Outer, Parts, first_mark, setting_inside};
-use crate::pass::Opened;
-use crate::serializer::{Mark, Refusal, no_memory, refused};
+use crate::compound::{Outer, Parts};
 use amqp_base::{Error, Pass, Setting, Shape, Sink};
+use amqp_write::{Opened, Place, Refusal, first_mark, no_memory, refused, setting_inside};
 use std::alloc::Global;
 
 impl<W: Sink> Serializer<W> {
@@ -25,7 +24,7 @@ impl<W: Sink> Serializer<W> {
         ensures err { RefusesOpen shape (state W.Write W.FaultCount self.old) result
             (state W.Write W.FaultCount self.new) }
     {
-        if self.ended {
+        if self.place.ended {
             return Err(refused(Refusal::InvalidValue));
         }
         match self.writer.pass() {
@@ -38,15 +37,15 @@ impl<W: Sink> Serializer<W> {
     /// Opens a compound whose parts go to a buffer.
     #[inline(always)]
     fn begin_buffered(&mut self, alloc: Global, shape: Shape) -> Result<Parts, Error>
-        requires answers { self.old.ended ≡ false }
+        requires answers { self.old.place.ended ≡ false }
         ensures ok { IfOk result (λ p. Holds (state W.Write W.FaultCount self.old) shape []
             (open_parts (is_map shape) (state W.Write W.FaultCount self.new) p)) }
         ensures held { OnOk result ((state W.Write W.FaultCount self.new).ended ≡ true) }
         ensures err { RefusesOpen shape (state W.Write W.FaultCount self.old) result
             (state W.Write W.FaultCount self.new) }
     {
-        self.ended = true;
-        if self.direct {
+        self.place.ended = true;
+        if self.place.direct {
             return Err(no_memory());
         }
         match Parts::new(alloc, shape) {
@@ -58,32 +57,32 @@ impl<W: Sink> Serializer<W> {
     /// Opens a compound that is measured, with a place for its size.
     #[inline(always)]
     fn begin_measured(&mut self, alloc: Global, shape: Shape) -> Result<Parts, Error>
-        requires answers { self.old.ended ≡ false }
+        requires answers { self.old.place.ended ≡ false }
         ensures ok { IfOk result (λ p. Holds (state W.Write W.FaultCount self.old) shape []
             (open_parts (is_map shape) (state W.Write W.FaultCount self.new) p)) }
         ensures held { OnOk result ((state W.Write W.FaultCount self.new).ended ≡ true) }
         ensures err { RefusesOpen shape (state W.Write W.FaultCount self.old) result
             (state W.Write W.FaultCount self.new) }
     {
-        if !self.direct {
-            self.ended = true;
+        if !self.place.direct {
+            self.place.ended = true;
             return Err(no_memory());
         }
         let before = match self.writer.so_far() {
             Some(before) => before,
             None => {
-                self.ended = true;
+                self.place.ended = true;
                 return Err(no_memory());
             }
         };
         if before >= usize::MAX {
-            self.ended = true;
+            self.place.ended = true;
             return Err(no_memory());
         }
         match self.writer.open_measured() {
             Some(at) => Ok(self.lend(alloc, shape, Opened::Measured { at, before })),
             None => {
-                self.ended = true;
+                self.place.ended = true;
                 Err(no_memory())
             }
         }
@@ -92,32 +91,32 @@ impl<W: Sink> Serializer<W> {
     /// Opens a compound that is written behind its header.
     #[inline(always)]
     fn begin_written(&mut self, alloc: Global, shape: Shape) -> Result<Parts, Error>
-        requires answers { self.old.ended ≡ false }
+        requires answers { self.old.place.ended ≡ false }
         ensures ok { IfOk result (λ p. Holds (state W.Write W.FaultCount self.old) shape []
             (open_parts (is_map shape) (state W.Write W.FaultCount self.new) p)) }
         ensures held { OnOk result ((state W.Write W.FaultCount self.new).ended ≡ true) }
         ensures err { RefusesOpen shape (state W.Write W.FaultCount self.old) result
             (state W.Write W.FaultCount self.new) }
     {
-        if !self.direct {
-            self.ended = true;
+        if !self.place.direct {
+            self.place.ended = true;
             return Err(no_memory());
         }
         let size = match self.writer.next_size() {
             Some(size) => size,
             None => {
-                self.ended = true;
+                self.place.ended = true;
                 return Err(no_memory());
             }
         };
-        match self.head(shape, size) {
+        match self.place.head(&mut self.writer, shape, size) {
             Ok(()) => {}
             Err(e) => return Err(refused(e)),
         }
         match self.writer.so_far() {
             Some(from) => Ok(self.lend(alloc, shape, Opened::Written { size, from })),
             None => {
-                self.ended = true;
+                self.place.ended = true;
                 Err(no_memory())
             }
         }
@@ -129,10 +128,10 @@ impl<W: Sink> Serializer<W> {
         ensures shape { result.shape ≡ shape }
         ensures count { result.count ≡ 0 }
         ensures opened { result.opened ≡ opened }
-        ensures answers { result.buffer.ended ≡ false }
-        ensures setting { (outer_in result.outer).setting ≡ self.old.setting }
-        ensures mark { (outer_in result.outer).mark ≡ mark_of self.old.mark }
-        ensures found { (outer_in result.outer).found ≡ found_of self.old.found }
+        ensures answers { result.buffer.place.ended ≡ false }
+        ensures setting { (outer_in result.outer).setting ≡ self.old.place.setting }
+        ensures mark { (outer_in result.outer).mark ≡ mark_of self.old.place.mark }
+        ensures found { (outer_in result.outer).found ≡ found_of self.old.place.found }
         ensures state { state W.Write W.FaultCount self.new ≡
             record (state W.Write W.FaultCount self.old) {
               setting = setting_inside shape;
@@ -142,21 +141,17 @@ impl<W: Sink> Serializer<W> {
             } }
     {
         let outer = Outer::Had {
-            setting: self.setting,
-            mark: self.mark,
-            found: self.found,
+            setting: self.place.setting,
+            mark: self.place.mark,
+            found: self.place.found,
         };
-        self.setting = setting_inside(shape);
-        self.mark = first_mark(shape);
-        self.found = None;
-        self.ended = true;
+        self.place.setting = setting_inside(shape);
+        self.place.mark = first_mark(shape);
+        self.place.found = None;
+        self.place.ended = true;
         let buffer = Serializer {
             writer: Vec::new(alloc),
-            setting: Setting::Plain,
-            mark: Mark::Unmarked,
-            found: None,
-            ended: false,
-            direct: false,
+            place: Place::new(Setting::Plain),
         };
         Parts {
             shape,

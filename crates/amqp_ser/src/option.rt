@@ -5,9 +5,9 @@ ghost use Rattle.amqp_base.specs.Item.{scalar, null};
 ghost use Rattle.amqp_ser.specs.State.{state};
 ghost use Rattle.amqp_ser.specs.Law.{Wrote, Refused, Stops, Spares};
 
-use crate::serializer::{Refusal, refused};
 use crate::{Serialize, Serializer};
 use amqp_base::{Error, Sink};
+use amqp_write::{Refusal, refused};
 use std::alloc::Global;
 
 impl<W: Sink> Serializer<W> {
@@ -42,13 +42,13 @@ impl<W: Sink> Serializer<W> {
         ensures stops { Stops (state W.Write W.FaultCount self.old) result
             (state W.Write W.FaultCount self.new) }
     {
-        if self.ended {
+        if self.place.ended {
             return Err(refused(Refusal::InvalidValue));
         }
         match value.serialize(alloc, self) {
             Ok(()) => Ok(()),
             Err(e) => {
-                self.ended = true;
+                self.place.ended = true;
                 Err(e)
             }
         }

@@ -12,9 +12,9 @@ ghost use Rattle.amqp_ser.specs.Compound.{BeginsWith, EndsCompound, IsEnded};
 ghost use Rattle.amqp_ser.specs.contracts.serializer.Serializer.{the_row};
 
 use crate::compound::write_part;
-use crate::serializer::{Refusal, refused};
 use crate::{Parts, Serialize, Serializer};
 use amqp_base::{Error, Setting, Shape, Sink};
+use amqp_write::{Refusal, refused};
 use std::alloc::Global;
 
 /// A tuple that is being written, part by part: a list of just so many elements as were announced.
@@ -114,7 +114,7 @@ impl<'a, W: Sink> TupleSerializer<'a, W> {
             result ≡ Err Error.InvalidValue }
     {
         let TupleSerializer { ser, parts } = self;
-        if parts.buffer.ended {
+        if parts.buffer.place.ended {
             return Err(refused(Refusal::InvalidValue));
         }
         if !parts.is_full() {

@@ -1,15 +1,13 @@
 //! Numbers without a sign.
 
-ghost use Rattle.std.specs.Prelude.{◌≡◌, [], false, IfErr, OnOk};
+ghost use Rattle.std.specs.Prelude.{IfErr, OnOk};
 ghost use Rattle.amqp_base.specs.Item.{scalar, ubyte, ushort, uint, ulong};
-ghost use Rattle.amqp_base.specs.Canon.{kind_code};
 ghost use Rattle.amqp_ser.specs.State.{state};
-ghost use Rattle.amqp_ser.specs.Law.{Wrote, Refused, Stops, Spares, marked, found_after};
-ghost use Rattle.amqp_ser.specs.Appending.{Pays, as_error};
+ghost use Rattle.amqp_ser.specs.Law.{Wrote, Refused, Stops, Spares};
 
 use crate::Serializer;
-use crate::serializer::{Mark, Refusal, refused};
-use amqp_base::{EncodingCodes, Error, Sink};
+use amqp_base::{Error, Sink};
+use amqp_write::{Refusal, refused};
 use std::alloc::Global;
 
 impl<W: Sink> Serializer<W> {
@@ -29,10 +27,10 @@ impl<W: Sink> Serializer<W> {
             (state W.Write W.FaultCount self.new) }
     {
         let _ = alloc;
-        if self.ended {
+        if self.place.ended {
             return Err(refused(Refusal::InvalidValue));
         }
-        match self.one_byte(EncodingCodes::Ubyte, v) {
+        match self.place.ubyte(&mut self.writer, v) {
             Ok(()) => Ok(()),
             Err(e) => Err(refused(e)),
         }
@@ -54,10 +52,10 @@ impl<W: Sink> Serializer<W> {
             (state W.Write W.FaultCount self.new) }
     {
         let _ = alloc;
-        if self.ended {
+        if self.place.ended {
             return Err(refused(Refusal::InvalidValue));
         }
-        match self.two_bytes(EncodingCodes::Ushort, v.to_be_bytes()) {
+        match self.place.ushort(&mut self.writer, v) {
             Ok(()) => Ok(()),
             Err(e) => Err(refused(e)),
         }
@@ -79,30 +77,12 @@ impl<W: Sink> Serializer<W> {
             (state W.Write W.FaultCount self.new) }
     {
         let _ = alloc;
-        if self.ended {
+        if self.place.ended {
             return Err(refused(Refusal::InvalidValue));
         }
-        match self.uint(v) {
+        match self.place.uint(&mut self.writer, v) {
             Ok(()) => Ok(()),
             Err(e) => Err(refused(e)),
-        }
-    }
-
-    /// The text of a uint where it stands.
-    #[inline(always)]
-    fn uint(&mut self, v: u32) -> Result<(), Refusal>
-        requires { self.old.ended ≡ false }
-        ensures law { Pays (state W.Write W.FaultCount self.old)
-            (marked (state W.Write W.FaultCount self.old).mark (scalar (uint v)))
-            (found_after (state W.Write W.FaultCount self.old).mark (kind_code (scalar (uint v)))
-            (state W.Write W.FaultCount self.old).found) ([]) Error.InvalidValue (as_error result)
-            (state W.Write W.FaultCount self.new) }
-    {
-        let mark = self.mark;
-        match mark {
-            Mark::Unmarked if v == 0 => self.append(&[0x43]),
-            Mark::Unmarked if v < 256 => self.append(&[0x52, v as u8]),
-            _ => self.four_bytes(EncodingCodes::Uint, v.to_be_bytes()),
         }
     }
 
@@ -122,30 +102,12 @@ impl<W: Sink> Serializer<W> {
             (state W.Write W.FaultCount self.new) }
     {
         let _ = alloc;
-        if self.ended {
+        if self.place.ended {
             return Err(refused(Refusal::InvalidValue));
         }
-        match self.ulong(v) {
+        match self.place.ulong(&mut self.writer, v) {
             Ok(()) => Ok(()),
             Err(e) => Err(refused(e)),
-        }
-    }
-
-    /// The text of a ulong where it stands.
-    #[inline(always)]
-    fn ulong(&mut self, v: u64) -> Result<(), Refusal>
-        requires { self.old.ended ≡ false }
-        ensures law { Pays (state W.Write W.FaultCount self.old)
-            (marked (state W.Write W.FaultCount self.old).mark (scalar (ulong v)))
-            (found_after (state W.Write W.FaultCount self.old).mark (kind_code (scalar (ulong v)))
-            (state W.Write W.FaultCount self.old).found) ([]) Error.InvalidValue (as_error result)
-            (state W.Write W.FaultCount self.new) }
-    {
-        let mark = self.mark;
-        match mark {
-            Mark::Unmarked if v == 0 => self.append(&[0x44]),
-            Mark::Unmarked if v < 256 => self.append(&[0x53, v as u8]),
-            _ => self.eight_bytes(EncodingCodes::Ulong, v.to_be_bytes()),
         }
     }
 }

@@ -2,7 +2,7 @@
 use Rattle.std.proofs.Common.{◌++◌, map, take, sym, ◌∙◌}
 use Rattle.amqp_base.specs.declared.shape.Setting.TheVariants.{Plain}
 use Rattle.amqp_ser.specs.Compound.{open_state}
-use Rattle.amqp_ser.proofs.PartTexts.{true_false}
+use Rattle.amqp_write.proofs.PartTexts.{true_false}
 use Rattle.amqp_ser.proofs.Compounds.{keeps_two, inner_answers}
 use Rattle.amqp_ser.proofs.ManyParts.{each_next, each_begins, each_all}
 use Rattle.amqp_ser.proofs.each.each_in_turn.Goals as goal

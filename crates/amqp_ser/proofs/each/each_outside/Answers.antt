@@ -3,15 +3,16 @@ use Rattle.std.proofs.Common.{◌≡◌, refl, ◌++◌, map, take, sym, ap, ◌
 use Rattle.amqp_base.specs.declared.shape.Shape.{Shape}
 use Rattle.amqp_base.specs.declared.shape.Setting.TheVariants.{Plain}
 use Rattle.amqp_ser.specs.State.{state}
+use Rattle.amqp_write.specs.State.{stand}
 use Rattle.amqp_ser.specs.Law.{Wrote, Refused}
 use Rattle.amqp_ser.specs.Compound.{open_state, outer_in, outside_in}
-use Rattle.amqp_ser.proofs.PartTexts.{true_false}
+use Rattle.amqp_write.proofs.PartTexts.{true_false}
 use Rattle.amqp_ser.proofs.Compounds.{Lives, plain_more, plain_begins, keeps_two, keeps_lives, inner_lives, inner_answers, broken_lives, direct_more, direct_refused, part_outside}
 use Rattle.amqp_ser.proofs.ManyParts.{each_next, each_begins, counted}
 use Rattle.amqp_ser.proofs.each.each_outside.Goals as goal
 
 pub loop-value-preserved : goal.loop-value-preserved
-unfolding state open_state
+unfolding state stand open_state
 loop-value-preserved g c =
     let f = λ (x : g.row.T.Denot). g.T.Typed.meaning.item x in
     let vs = c.args.values.now in
@@ -21,7 +22,7 @@ loop-value-preserved g c =
     let same = sym c.loop-value.invariant.parts in
     let live = subst (λ p. Lives p.opened) same c.requires.direct in
     let outside = subst (λ p. p.shape ≡ Shape.Array → ⊥) same c.requires.outside in
-    let answers = subst (λ p. p.buffer.ended ≡ false) same c.requires.answers in
+    let answers = subst (λ p. p.buffer.place.ended ≡ false) same c.requires.answers in
     let o = state g.W.Write g.W.FaultCount q.ser.now in
     let t = state g.W.Write g.W.FaultCount c.write_outside.new.ser in
     let w = c.in-Ok.ensures.ok in
@@ -37,7 +38,7 @@ loop-value-preserved g c =
     }
 
 pub returns-in-Err-clause-law : goal.returns-in-Err-clause-law
-unfolding state open_state
+unfolding state stand open_state
 returns-in-Err-clause-law g c =
     let f = λ (x : g.row.T.Denot). g.T.Typed.meaning.item x in
     let vs = c.args.values.now in
@@ -47,7 +48,7 @@ returns-in-Err-clause-law g c =
     let same = sym c.loop-value.invariant.parts in
     let live = subst (λ p. Lives p.opened) same c.requires.direct in
     let outside = subst (λ p. p.shape ≡ Shape.Array → ⊥) same c.requires.outside in
-    let answers = subst (λ p. p.buffer.ended ≡ false) same c.requires.answers in
+    let answers = subst (λ p. p.buffer.place.ended ≡ false) same c.requires.answers in
     let o = state g.W.Write g.W.FaultCount q.ser.now in
     let t = state g.W.Write g.W.FaultCount c.write_outside.new.ser in
     let e = c.in-Err.e in

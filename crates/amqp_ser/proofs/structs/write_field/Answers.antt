@@ -4,7 +4,7 @@ use Rattle.amqp_base.specs.declared.shape.Shape.{Shape}
 use Rattle.amqp_base.specs.Structs.{named, fields_parts}
 use Rattle.amqp_ser.specs.State.{state}
 use Rattle.amqp_ser.specs.Compound.{open_parts}
-use Rattle.amqp_ser.proofs.PartTexts.{true_false}
+use Rattle.amqp_write.proofs.PartTexts.{true_false}
 use Rattle.amqp_ser.proofs.Compounds.{inner_answers}
 use Rattle.amqp_ser.proofs.FieldParts.{fields_as, fields_answer, shape_of, list_of, field_more, field_refused}
 use Rattle.amqp_ser.proofs.structs.write_field.Goals as goal

@@ -1,14 +1,15 @@
 use Rattle.std.proofs.Common.{arith, length, refl, ap, ◌∙◌}
 use Rattle.amqp_ser.specs.State.{State, state}
-use Rattle.amqp_ser.specs.declared.pass.Opened.{Opened}
+use Rattle.amqp_write.specs.State.{stand}
+use Rattle.amqp_write.specs.declared.pass.Opened.{Opened}
 use Rattle.amqp_ser.specs.Compound.{outer_in}
-use Rattle.amqp_ser.proofs.Bytes.{measure_start}
+use Rattle.amqp_write.proofs.Bytes.{measure_start}
 use Rattle.amqp_ser.proofs.Compounds.{inner_lives, outer_lives, lives_measured}
 use Rattle.amqp_ser.proofs.Lending.{holds_measured, room_of, counted_of, plan_none, told_none}
 use Rattle.amqp_ser.proofs.serializer.Serializer.begin_measured.Goals as goal
 
 pub returns-in-Some-open_measured-clause-ok : goal.returns-in-Some-open_measured-clause-ok
-unfolding state
+unfolding state stand
 returns-in-Some-open_measured-clause-ok g c =
     let d = c.if-not-self.false in
     let s = state g.W.Write g.W.FaultCount c.args.self.now in

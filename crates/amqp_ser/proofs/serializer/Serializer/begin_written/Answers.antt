@@ -1,5 +1,6 @@
 use Rattle.std.proofs.Common.{refl, ap, ◌∙◌}
 use Rattle.amqp_ser.specs.State.{state, size_in}
+use Rattle.amqp_write.specs.State.{stand}
 use Rattle.amqp_ser.specs.Compound.{outer_in}
 use Rattle.amqp_ser.proofs.Compounds.{inner_lives, outer_lives, lives_written}
 use Rattle.amqp_ser.proofs.Passes.{refuses_headless}
@@ -7,18 +8,18 @@ use Rattle.amqp_ser.proofs.Lending.{holds_written, next_of, written_of, measure_
 use Rattle.amqp_ser.proofs.serializer.Serializer.begin_written.Goals as goal
 
 pub returns-in-Err-clause-err : goal.returns-in-Err-clause-err
-unfolding state
+unfolding state stand
 returns-in-Err-clause-err g c =
     let d = c.if-not-self.false in
     let n = next_of _ _ _ (size_in c.in-Some.size) d c.in-Some.ensures.next in
     rw c.refused.ensures (refuses_headless _ _ c.args.shape c.in-Some.size n.0 n.1 _ _ _ _ c.requires.answers (told_none _ _ d) n.2 n.3 refl c.in-Some.ensures.faults c.in-Some.ensures.grows c.in-Err.ensures.law)
 
 pub returns-in-Some-so_far-clause-ok : goal.returns-in-Some-so_far-clause-ok
-unfolding state
+unfolding state stand
 returns-in-Some-so_far-clause-ok g c =
     let d = c.if-not-self.false in
     let s = state g.W.Write g.W.FaultCount c.args.self.now in
-    let t = state g.W.Write g.W.FaultCount c.head.new.self in
+    let t = stand g.W.Write g.W.FaultCount c.head.new.writer c.head.new.self in
     let o = state g.W.Write g.W.FaultCount c.lend.new.self in
     let n = next_of _ _ _ (size_in c.in-Some.size) d c.in-Some.ensures.next in
     let live = lives_written _ _ _ c.lend.ensures.opened in

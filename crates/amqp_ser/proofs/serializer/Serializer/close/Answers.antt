@@ -1,29 +1,30 @@
 use Rattle.amqp_ser.specs.State.{state}
+use Rattle.amqp_write.specs.State.{stand}
 use Rattle.std.proofs.Common.{refl}
 use Rattle.amqp_ser.proofs.Compounds.{end_wrote_each, end_refused_each, contents_told}
 use Rattle.amqp_ser.proofs.Passes.{wrote_measured, refused_measured, wrote_written_each, refused_written_each, kept_at_end}
 use Rattle.amqp_ser.proofs.serializer.Serializer.close.Goals as goal
 
 pub returns-in-Ok-clause-ok : goal.returns-in-Ok-clause-ok
-unfolding state
+unfolding state stand
 returns-in-Ok-clause-ok g c = rw c.in-Buffered.is (λ pairs. end_wrote_each _ _ _ _ refl (contents_told _ _ _ (rw (c.deref.ensures.value, c.into_inner-body.ensures) refl)) c.in-Ok.ensures.law)
 
 pub returns-in-Buffered-clause-err : goal.returns-in-Buffered-clause-err
-unfolding state
+unfolding state stand
 returns-in-Buffered-clause-err g c = rw (c.refused-in-Err.ensures, c.in-Buffered.is) (λ pairs. end_refused_each _ _ _ _ refl (contents_told _ _ _ (rw (c.deref.ensures.value, c.into_inner-body.ensures) refl)) c.in-Err.ensures.law)
 
 pub returns-in-Ok-close_measured-clause-ok : goal.returns-in-Ok-close_measured-clause-ok
-unfolding state
+unfolding state stand
 returns-in-Ok-close_measured-clause-ok g c = rw c.in-Measured.is (λ pairs. wrote_measured _ c.in-Measured.at c.in-Measured.before _ _ refl refl c.in-Ok-close_measured.ensures.law)
 
 pub returns-in-Measured-clause-err : goal.returns-in-Measured-clause-err
-unfolding state
+unfolding state stand
 returns-in-Measured-clause-err g c = rw (c.refused-in-Err-close_measured.ensures, c.in-Measured.is) (λ pairs. refused_measured _ c.in-Measured.at c.in-Measured.before _ _ refl refl (kept_at_end _ _ _ c.in-Err-close_measured.ensures.kept) c.in-Err-close_measured.ensures.law)
 
 pub returns-in-Written-clause-ok : goal.returns-in-Written-clause-ok
-unfolding state
+unfolding state stand
 returns-in-Written-clause-ok g c = rw c.in-Written.is (λ pairs. wrote_written_each _ c.in-Written.size c.in-Written.from _ _ refl refl refl c.close_written.ensures.law)
 
 pub returns-in-Written-clause-err : goal.returns-in-Written-clause-err
-unfolding state
+unfolding state stand
 returns-in-Written-clause-err g c = rw c.in-Written.is (λ pairs. refused_written_each _ c.in-Written.size c.in-Written.from _ _ refl (kept_at_end _ _ _ c.close_written.ensures.kept) c.close_written.ensures.law)

@@ -1,0 +1,14 @@
+pub mod FixedTexts
+pub mod Bytes
+pub mod Counting
+pub mod Steps
+pub mod TextOf
+pub mod ShortNumbers
+pub mod WideTexts
+pub mod PayloadTexts
+pub mod PartTexts
+pub mod WhyTexts
+pub mod Lengths
+pub mod Heads
+pub mod NumberTexts
+pub mod NumberCounts

@@ -1,0 +1,67 @@
+-- Items without parts whose text is a payload behind its length.
+use Rattle.std.proofs.Common.{◌≡◌, ℕ, List, [], length, true, refl, ap, Some, Result, OnOk, IfErr}
+use Rattle.std.specs.Str.{is_utf8}
+use Rattle.amqp_base.specs.declared.format_code.EncodingCodes.{EncodingCodes}
+use Rattle.amqp_base.specs.declared.format_code.EncodingCodes.TheVariants.{Vbin32, Str32, Sym32}
+use Rattle.amqp_base.specs.declared.error.Error.{Error}
+use Rattle.amqp_base.specs.declared.shape.Setting.{Setting}
+use Rattle.amqp_base.specs.declared.shape.Setting.TheVariants.{Symbol}
+use Rattle.amqp_base.specs.Typing.{text_item}
+use Rattle.amqp_base.specs.Codes.{row, widest}
+use Rattle.amqp_base.specs.Wire.{under}
+use Rattle.amqp_base.specs.Item.{Scalar, scalar, binary, symbol}
+use Rattle.amqp_base.specs.Canon.{canon, body, kind_code, scalar_body, scalar_text, short_text}
+use Rattle.amqp_write.specs.State.{State, Mark, unmarked, first, other}
+use Rattle.amqp_write.specs.Texts.{payload_length, unwritten, why_unwritten}
+use Rattle.amqp_write.specs.Law.{marked, found_after, Wrote, Refused}
+use Rattle.amqp_write.specs.Appending.{PaysItem, PaysUnder, payload_at}
+use Rattle.amqp_write.proofs.Steps.{wrote_pays, refused_pays}
+use Rattle.amqp_write.proofs.TextOf.{pays_text, symbol_at, string_str, symbol_str, text_code_string, text_code_symbol, text_sizes, text_why}
+use Rattle.amqp_write.proofs.WideTexts.{scalar_sizes}
+
+-- v is written as the payload b
+pub record Carries (m : Mark) (v : Scalar) (narrow : ℕ) (e : EncodingCodes) (b : List ℕ) : Type 0 where
+  pub text : marked m (scalar v) ≡ payload_at m narrow e b
+  pub code : kind_code (scalar v) ≡ Some (under e)
+  pub payload : payload_length v ≡ length b
+
+-- from a payload to the item
+pub pays_payload : {A : Type 0} (s : State) (v : Scalar) (narrow : ℕ) (e : EncodingCodes) (b : List ℕ) (why : Error) (r : Result A Error) (t : State) → Carries s.mark v narrow e b → PaysUnder s e (payload_at s.mark narrow e b) why r t → PaysItem s (scalar v) why r t
+pays_payload s v narrow e b why r t h p = pays_text s _ _ _ _ [] why r t h.text (ap (λ k. found_after s.mark k s.found) h.code) p
+
+pub wrote_payload : {A : Type 0} (s : State) (v : Scalar) (why : Error) (r : Result A Error) (t : State) → PaysItem s (scalar v) why r t → OnOk r (Wrote s (scalar v) t)
+wrote_payload s v why r t p = wrote_pays s (scalar v) _ _ [] why r t refl refl (scalar_sizes v) p
+
+payload_why : (v : Scalar) (n : ℕ) → payload_length v ≡ n → why_unwritten (scalar v) ≡ unwritten n
+unfolding why_unwritten
+payload_why v n h = ap unwritten h
+
+pub refused_payload : {A : Type 0} (s : State) (v : Scalar) (n : ℕ) (r : Result A Error) (t : State) → payload_length v ≡ n → PaysItem s (scalar v) (unwritten n) r t → IfErr r (λ e. Refused s (scalar v) e t)
+refused_payload s v n r t h p = refused_pays s (scalar v) _ _ [] (unwritten n) r t refl refl (scalar_sizes v) (payload_why v n h) p
+
+binary_at : (m : Mark) (b : List ℕ) → marked m (scalar (binary b)) ≡ payload_at m 0xa0 Vbin32 b
+unfolding marked payload_at canon scalar_text short_text scalar_body body kind_code widest row
+binary_at unmarked b = refl
+binary_at first b = refl
+binary_at (other d) b = refl
+
+pub carries_binary : (m : Mark) (b : List ℕ) → Carries m (binary b) 0xa0 Vbin32 b
+unfolding kind_code widest
+carries_binary m b = record { text = binary_at m b; code = refl; payload = refl }
+
+pub carries_symbol : (m : Mark) (b : List ℕ) → is_utf8 b ≡ true → Carries m (symbol b) 0xa3 Sym32 b
+unfolding kind_code widest
+carries_symbol m b u = record { text = symbol_at m b u; code = refl; payload = refl }
+
+-- texts, under a setting
+pub pays_string : {A : Type 0} (s : State) (b : List ℕ) (setting : Setting) (why : Error) (r : Result A Error) (t : State) → (setting ≡ Symbol → ⊥) → is_utf8 b ≡ true → PaysUnder s Str32 (payload_at s.mark 0xa1 Str32 b) why r t → PaysItem s (text_item b setting) why r t
+pays_string s b setting why r t h u p = pays_text s _ _ _ _ [] why r t (string_str s.mark b setting h u) (ap (λ k. found_after s.mark k s.found) (text_code_string b setting h)) p
+
+pub pays_symbol : {A : Type 0} (s : State) (b : List ℕ) (setting : Setting) (why : Error) (r : Result A Error) (t : State) → setting ≡ Symbol → is_utf8 b ≡ true → PaysUnder s Sym32 (payload_at s.mark 0xa3 Sym32 b) why r t → PaysItem s (text_item b setting) why r t
+pays_symbol s b setting why r t h u p = pays_text s _ _ _ _ [] why r t (symbol_str s.mark b setting h u) (ap (λ k. found_after s.mark k s.found) (text_code_symbol b setting h)) p
+
+pub wrote_text : {A : Type 0} (s : State) (b : List ℕ) (setting : Setting) (why : Error) (r : Result A Error) (t : State) → PaysItem s (text_item b setting) why r t → OnOk r (Wrote s (text_item b setting) t)
+wrote_text s b setting why r t p = wrote_pays s (text_item b setting) _ _ [] why r t refl refl (text_sizes b setting) p
+
+pub refused_text : {A : Type 0} (s : State) (b : List ℕ) (setting : Setting) (r : Result A Error) (t : State) → PaysItem s (text_item b setting) (unwritten (length b)) r t → IfErr r (λ e. Refused s (text_item b setting) e t)
+refused_text s b setting r t p = refused_pays s (text_item b setting) _ _ [] (unwritten (length b)) r t refl refl (text_sizes b setting) (text_why b setting) p

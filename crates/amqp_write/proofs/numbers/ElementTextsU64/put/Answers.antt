@@ -1,0 +1,6 @@
+use Rattle.std.proofs.Common.{arith, ◌+◌, ◌-◌}
+use Rattle.amqp_write.proofs.NumberTexts.{puts_data, ulong_element}
+use Rattle.amqp_write.proofs.numbers.ElementTextsU64.put.Goals as goal
+
+pub returns : goal.returns
+returns c = record { text = rw (c.copy_from_slice.ensures.after, c.to_be_bytes.ensures) (puts_data _ _ c.args.at 8 (c.args.at + 8 - c.args.at) c.args.block.now _ (omega (arith, c.requires.room)) (omega arith) (omega arith) (ulong_element c.args.v (omega arith))) }

@@ -1,0 +1,13 @@
+use Rattle.amqp_write.specs.State.{stand}
+use Rattle.amqp_write.specs.Appending.{as_error}
+use Rattle.std.proofs.Common.{refl, ap}
+use Rattle.amqp_write.proofs.Steps.{appended_two, appended_ended}
+use Rattle.amqp_write.proofs.place.Place.append_two.Goals as goal
+
+pub returns-in-Ok : goal.returns-in-Ok
+unfolding stand
+returns-in-Ok g c = appended_two _ _ _ _ _ _ _ (rw c.in-Ok.is at c.append.ensures) c.append-in-Ok.ensures
+
+pub returns-in-Err : goal.returns-in-Err
+unfolding stand
+returns-in-Err g c = appended_ended _ _ _ _ _ _ _ (ap as_error c.in-Err.is) refl c.append.ensures

@@ -1,0 +1,7 @@
+pub mod State
+pub mod Texts
+pub mod Law
+pub mod Appending
+pub mod Wholes
+pub mod Passes
+pub mod NumberTexts

@@ -1,0 +1,115 @@
+//! Numbers whose texts are written many at a time.
+
+ghost use Rattle.std.specs.Prelude.{◌*◌, ◌≤◌, length, map};
+ghost use Rattle.amqp_write.specs.State.{stand};
+ghost use Rattle.amqp_write.specs.Appending.{as_error};
+ghost use Rattle.amqp_write.specs.NumberTexts.{HaveTextsOf, PutsAll, WritesNumbers};
+
+use crate::numbers::Texts;
+use crate::place::Place;
+use crate::refusal::Refusal;
+use amqp_base::{Pass, Setting, Sink, Typed};
+
+/// So many numbers are written at a time.
+const MANY: usize = 32;
+
+/// Room for the texts of so many.
+const ROOM: usize = 320;
+
+/// So many lengths are summed in four bytes.
+const SUMMED: usize = 4096;
+
+/// Writes the texts of the numbers into the block, one after the other: how many bytes they are.
+#[inline(always)]
+fn put_all<P: Texts<T>, T: Typed + Copy>(values: &[T], block: &mut [u8]) -> usize
+    requires room { length values.now * 10 ≤ length block.old }
+    ensures texts { PutsAll P.mark (map (λ v. T.meaning.item v Setting.Plain) values.now) block.old
+        result block.new }
+{
+    let mut at: usize = 0;
+    for value in values {
+        at = P::put(*value, block, at);
+    }
+    at
+}
+
+/// The bytes of the texts of a few numbers.
+#[inline(always)]
+fn few_lengths<P: Texts<T>, T: Typed + Copy>(values: &[T]) -> u32
+    requires few { length values.now ≤ 4096 }
+    ensures texts { HaveTextsOf P.mark (map (λ v. T.meaning.item v Setting.Plain) values.now) result }
+{
+    let mut sum: u32 = 0;
+    for value in values {
+        sum += P::text_len(*value);
+    }
+    sum
+}
+
+/// The bytes of the texts, as far as a usize counts. Four bytes hold the sum of a few, so that the
+/// loop over them takes many at a time.
+fn lengths<P: Texts<T>, T: Typed + Copy>(values: &[T]) -> usize
+    ensures texts { HaveTextsOf P.mark (map (λ v. T.meaning.item v Setting.Plain) values.now) result }
+{
+    let mut sum: usize = 0;
+    let mut rest = values;
+    while !rest.is_empty() {
+        let len = if rest.len() > SUMMED {
+            SUMMED
+        } else {
+            rest.len()
+        };
+        let (now, later) = rest.split_at(len);
+        rest = later;
+        sum = sum.saturating_add(few_lengths::<P, T>(now) as usize);
+    }
+    sum
+}
+
+impl Place {
+    /// Writes numbers. Where they are only counted, no text of theirs is made.
+    pub fn append_numbers<W: Sink, P: Texts<T>, T: Typed + Copy>(
+        &mut self,
+        writer: &mut W,
+        values: &[T],
+    ) -> Result<(), Refusal>
+        ensures law { WritesNumbers P.mark (map (λ v. T.meaning.item v Setting.Plain) values.now)
+            (stand W.Write W.FaultCount writer.old self.old) (as_error result)
+            (stand W.Write W.FaultCount writer.new self.new) }
+    {
+        match writer.pass() {
+            Pass::Measures => {
+                if writer.counts(lengths::<P, T>(values)) {
+                    return Ok(());
+                }
+                self.append_blocks::<W, P, T>(writer, values)
+            }
+            _ => self.append_blocks::<W, P, T>(writer, values),
+        }
+    }
+
+    /// Writes numbers, by blocks.
+    fn append_blocks<W: Sink, P: Texts<T>, T: Typed + Copy>(
+        &mut self,
+        writer: &mut W,
+        values: &[T],
+    ) -> Result<(), Refusal>
+        ensures law { WritesNumbers P.mark (map (λ v. T.meaning.item v Setting.Plain) values.now)
+            (stand W.Write W.FaultCount writer.old self.old) (as_error result)
+            (stand W.Write W.FaultCount writer.new self.new) }
+    {
+        let mut block = [0u8; ROOM];
+        let mut rest = values;
+        while !rest.is_empty() {
+            let len = if rest.len() > MANY { MANY } else { rest.len() };
+            let (now, later) = rest.split_at(len);
+            rest = later;
+            let end = put_all::<P, T>(now, &mut block);
+            match self.append(writer, &block[..end]) {
+                Ok(()) => {}
+                Err(e) => return Err(e),
+            }
+        }
+        Ok(())
+    }
+}

@@ -1,0 +1,24 @@
+//! Where bytes go, where the next item stands, and the text of one value or header. A private
+//! layer: users reach it through `amqp_ser`.
+#![tactic(auto, unfolding(crate::specs::State::stand))]
+
+mod blocks;
+mod decimals;
+mod fixed;
+mod floats;
+mod header;
+mod numbers;
+mod pass;
+mod payloads;
+mod place;
+mod refusal;
+mod scalars;
+mod signed;
+mod sizes;
+mod unsigned;
+
+pub use numbers::{Element, Outside, Texts};
+pub use pass::{Measure, Opened, Plan, Reserved};
+pub use place::{Mark, Place, first_mark, setting_inside};
+pub use refusal::{Refusal, handed_on, no_memory, refused};
+pub use sizes::Sizes;
