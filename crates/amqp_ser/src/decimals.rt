@@ -1,14 +1,12 @@
 //! Decimals.
 
-ghost use Rattle.std.specs.Prelude.{IfErr, OnOk};
 ghost use Rattle.amqp_base.specs.Item.{scalar, decimal32, decimal64, decimal128};
 ghost use Rattle.amqp_ser.specs.State.{state};
-ghost use Rattle.amqp_ser.specs.Law.{Wrote, Refused, Stops, Spares};
+ghost use Rattle.amqp_ser.specs.Law.{Writes};
 
 use crate::{Serialize, Serializer};
 use amqp_base::{Error, Sink};
 use amqp_types::{Dec32, Dec64, Dec128};
-use amqp_write::{Refusal, refused};
 use std::alloc::Global;
 
 impl<W: Sink> Serializer<W> {
@@ -18,23 +16,11 @@ impl<W: Sink> Serializer<W> {
     /// `InvalidValue`: the array that it is to stand in has elements under another constructor.
     #[inline(always)]
     pub fn serialize_decimal32(&mut self, alloc: Global, v: &Dec32) -> Result<(), Error>
-        ensures ok { OnOk result (Wrote (state W.Write W.FaultCount self.old)
-            (scalar (decimal32 v.now)) (state W.Write W.FaultCount self.new)) }
-        ensures err { IfErr result (λ e. Refused (state W.Write W.FaultCount self.old)
-            (scalar (decimal32 v.now)) e (state W.Write W.FaultCount self.new)) }
-        ensures stops { Stops (state W.Write W.FaultCount self.old) result
-            (state W.Write W.FaultCount self.new) }
-        ensures spares { Spares (state W.Write W.FaultCount self.old) result
+        ensures { Writes (state W.Write W.FaultCount self.old) (scalar (decimal32 v.now)) result
             (state W.Write W.FaultCount self.new) }
     {
         let _ = alloc;
-        if self.place.ended {
-            return Err(refused(Refusal::InvalidValue));
-        }
-        match self.place.decimal32(&mut self.writer, v) {
-            Ok(()) => Ok(()),
-            Err(e) => Err(refused(e)),
-        }
+        self.leaf(v)
     }
 
     /// Writes a decimal64 (section 1.6.14): 84 and its eight bytes; in an array the eight bytes. It
@@ -43,23 +29,11 @@ impl<W: Sink> Serializer<W> {
     /// `InvalidValue`: the array that it is to stand in has elements under another constructor.
     #[inline(always)]
     pub fn serialize_decimal64(&mut self, alloc: Global, v: &Dec64) -> Result<(), Error>
-        ensures ok { OnOk result (Wrote (state W.Write W.FaultCount self.old)
-            (scalar (decimal64 v.now)) (state W.Write W.FaultCount self.new)) }
-        ensures err { IfErr result (λ e. Refused (state W.Write W.FaultCount self.old)
-            (scalar (decimal64 v.now)) e (state W.Write W.FaultCount self.new)) }
-        ensures stops { Stops (state W.Write W.FaultCount self.old) result
-            (state W.Write W.FaultCount self.new) }
-        ensures spares { Spares (state W.Write W.FaultCount self.old) result
+        ensures { Writes (state W.Write W.FaultCount self.old) (scalar (decimal64 v.now)) result
             (state W.Write W.FaultCount self.new) }
     {
         let _ = alloc;
-        if self.place.ended {
-            return Err(refused(Refusal::InvalidValue));
-        }
-        match self.place.decimal64(&mut self.writer, v) {
-            Ok(()) => Ok(()),
-            Err(e) => Err(refused(e)),
-        }
+        self.leaf(v)
     }
 
     /// Writes a decimal128 (section 1.6.15): 94 and its sixteen bytes; in an array the sixteen
@@ -68,23 +42,11 @@ impl<W: Sink> Serializer<W> {
     /// `InvalidValue`: the array that it is to stand in has elements under another constructor.
     #[inline(always)]
     pub fn serialize_decimal128(&mut self, alloc: Global, v: &Dec128) -> Result<(), Error>
-        ensures ok { OnOk result (Wrote (state W.Write W.FaultCount self.old)
-            (scalar (decimal128 v.now)) (state W.Write W.FaultCount self.new)) }
-        ensures err { IfErr result (λ e. Refused (state W.Write W.FaultCount self.old)
-            (scalar (decimal128 v.now)) e (state W.Write W.FaultCount self.new)) }
-        ensures stops { Stops (state W.Write W.FaultCount self.old) result
-            (state W.Write W.FaultCount self.new) }
-        ensures spares { Spares (state W.Write W.FaultCount self.old) result
+        ensures { Writes (state W.Write W.FaultCount self.old) (scalar (decimal128 v.now)) result
             (state W.Write W.FaultCount self.new) }
     {
         let _ = alloc;
-        if self.place.ended {
-            return Err(refused(Refusal::InvalidValue));
-        }
-        match self.place.decimal128(&mut self.writer, v) {
-            Ok(()) => Ok(()),
-            Err(e) => Err(refused(e)),
-        }
+        self.leaf(v)
     }
 }
 

@@ -3,9 +3,10 @@
 ghost use Rattle.std.specs.Prelude.{◌≡◌, false};
 ghost use Rattle.amqp_ser.specs.State.{Fresh, state};
 ghost use Rattle.amqp_ser.specs.Compound.{turned};
+ghost use Rattle.amqp_ser.specs.Law.{Writes};
 
-use amqp_base::{Setting, Sink};
-use amqp_write::Place;
+use amqp_base::{Error, Setting, Sink};
+use amqp_write::{Leaf, Place, Refusal, refused};
 
 /// Writes values to a writer, one item after the other, in the AMQP 1.0 encoding (part 1, section
 /// 1.2).
@@ -96,6 +97,21 @@ impl<W: Sink> Serializer<W> {
     {
         let Serializer { writer, place: _ } = self;
         writer
+    }
+
+    /// Writes a value without parts.
+    #[inline(always)]
+    pub(crate) fn leaf<L: Leaf>(&mut self, value: L) -> Result<(), Error>
+        ensures { Writes (state W.Write W.FaultCount self.old) (L.shows value self.old.place.setting)
+            result (state W.Write W.FaultCount self.new) }
+    {
+        if self.place.ended {
+            return Err(refused(Refusal::InvalidValue));
+        }
+        match value.put(&mut self.place, &mut self.writer) {
+            Ok(()) => Ok(()),
+            Err(e) => Err(refused(e)),
+        }
     }
 
     /// Behind a first element the others stand under its constructor.

@@ -1,13 +1,11 @@
 //! Numbers without a sign.
 
-ghost use Rattle.std.specs.Prelude.{IfErr, OnOk};
 ghost use Rattle.amqp_base.specs.Item.{scalar, ubyte, ushort, uint, ulong};
 ghost use Rattle.amqp_ser.specs.State.{state};
-ghost use Rattle.amqp_ser.specs.Law.{Wrote, Refused, Stops, Spares};
+ghost use Rattle.amqp_ser.specs.Law.{Writes};
 
 use crate::Serializer;
 use amqp_base::{Error, Sink};
-use amqp_write::{Refusal, refused};
 use std::alloc::Global;
 
 impl<W: Sink> Serializer<W> {
@@ -17,23 +15,11 @@ impl<W: Sink> Serializer<W> {
     /// `InvalidValue`: the array that it is to stand in has elements under another constructor.
     #[inline(always)]
     pub fn serialize_u8(&mut self, alloc: Global, v: u8) -> Result<(), Error>
-        ensures ok { OnOk result (Wrote (state W.Write W.FaultCount self.old) (scalar (ubyte v))
-            (state W.Write W.FaultCount self.new)) }
-        ensures err { IfErr result (λ e. Refused (state W.Write W.FaultCount self.old)
-            (scalar (ubyte v)) e (state W.Write W.FaultCount self.new)) }
-        ensures stops { Stops (state W.Write W.FaultCount self.old) result
-            (state W.Write W.FaultCount self.new) }
-        ensures spares { Spares (state W.Write W.FaultCount self.old) result
+        ensures { Writes (state W.Write W.FaultCount self.old) (scalar (ubyte v)) result
             (state W.Write W.FaultCount self.new) }
     {
         let _ = alloc;
-        if self.place.ended {
-            return Err(refused(Refusal::InvalidValue));
-        }
-        match self.place.ubyte(&mut self.writer, v) {
-            Ok(()) => Ok(()),
-            Err(e) => Err(refused(e)),
-        }
+        self.leaf(v)
     }
 
     /// Writes a ushort (section 1.6.4): 60 and two bytes, the high one first; in an array the two
@@ -42,23 +28,11 @@ impl<W: Sink> Serializer<W> {
     /// `InvalidValue`: the array that it is to stand in has elements under another constructor.
     #[inline(always)]
     pub fn serialize_u16(&mut self, alloc: Global, v: u16) -> Result<(), Error>
-        ensures ok { OnOk result (Wrote (state W.Write W.FaultCount self.old) (scalar (ushort v))
-            (state W.Write W.FaultCount self.new)) }
-        ensures err { IfErr result (λ e. Refused (state W.Write W.FaultCount self.old)
-            (scalar (ushort v)) e (state W.Write W.FaultCount self.new)) }
-        ensures stops { Stops (state W.Write W.FaultCount self.old) result
-            (state W.Write W.FaultCount self.new) }
-        ensures spares { Spares (state W.Write W.FaultCount self.old) result
+        ensures { Writes (state W.Write W.FaultCount self.old) (scalar (ushort v)) result
             (state W.Write W.FaultCount self.new) }
     {
         let _ = alloc;
-        if self.place.ended {
-            return Err(refused(Refusal::InvalidValue));
-        }
-        match self.place.ushort(&mut self.writer, v) {
-            Ok(()) => Ok(()),
-            Err(e) => Err(refused(e)),
-        }
+        self.leaf(v)
     }
 
     /// Writes a uint (section 1.6.5): outside arrays 43 for 0, 52 and a byte up to 255, else 70 and
@@ -67,23 +41,11 @@ impl<W: Sink> Serializer<W> {
     /// `InvalidValue`: the array that it is to stand in has elements under another constructor.
     #[inline(always)]
     pub fn serialize_u32(&mut self, alloc: Global, v: u32) -> Result<(), Error>
-        ensures ok { OnOk result (Wrote (state W.Write W.FaultCount self.old) (scalar (uint v))
-            (state W.Write W.FaultCount self.new)) }
-        ensures err { IfErr result (λ e. Refused (state W.Write W.FaultCount self.old)
-            (scalar (uint v)) e (state W.Write W.FaultCount self.new)) }
-        ensures stops { Stops (state W.Write W.FaultCount self.old) result
-            (state W.Write W.FaultCount self.new) }
-        ensures spares { Spares (state W.Write W.FaultCount self.old) result
+        ensures { Writes (state W.Write W.FaultCount self.old) (scalar (uint v)) result
             (state W.Write W.FaultCount self.new) }
     {
         let _ = alloc;
-        if self.place.ended {
-            return Err(refused(Refusal::InvalidValue));
-        }
-        match self.place.uint(&mut self.writer, v) {
-            Ok(()) => Ok(()),
-            Err(e) => Err(refused(e)),
-        }
+        self.leaf(v)
     }
 
     /// Writes a ulong (section 1.6.6): outside arrays 44 for 0, 53 and a byte up to 255, else 80
@@ -92,22 +54,10 @@ impl<W: Sink> Serializer<W> {
     /// `InvalidValue`: the array that it is to stand in has elements under another constructor.
     #[inline(always)]
     pub fn serialize_u64(&mut self, alloc: Global, v: u64) -> Result<(), Error>
-        ensures ok { OnOk result (Wrote (state W.Write W.FaultCount self.old) (scalar (ulong v))
-            (state W.Write W.FaultCount self.new)) }
-        ensures err { IfErr result (λ e. Refused (state W.Write W.FaultCount self.old)
-            (scalar (ulong v)) e (state W.Write W.FaultCount self.new)) }
-        ensures stops { Stops (state W.Write W.FaultCount self.old) result
-            (state W.Write W.FaultCount self.new) }
-        ensures spares { Spares (state W.Write W.FaultCount self.old) result
+        ensures { Writes (state W.Write W.FaultCount self.old) (scalar (ulong v)) result
             (state W.Write W.FaultCount self.new) }
     {
         let _ = alloc;
-        if self.place.ended {
-            return Err(refused(Refusal::InvalidValue));
-        }
-        match self.place.ulong(&mut self.writer, v) {
-            Ok(()) => Ok(()),
-            Err(e) => Err(refused(e)),
-        }
+        self.leaf(v)
     }
 }

@@ -9,8 +9,8 @@ use Rattle.amqp_base.specs.declared.error.Error.TheVariants.{OutOfMemory}
 use Rattle.amqp_base.specs.Faults.{IsFault}
 use Rattle.amqp_write.specs.State.{State, Planned}
 use Rattle.amqp_write.proofs.Counting.{goes_more}
-use Rattle.amqp_write.specs.Law.{marked, text_for, found_after, fits, is_next, Wrote, Refused, Kept, IsDevice, why_unwritten}
-use Rattle.amqp_write.specs.Appending.{Appended, Pays}
+use Rattle.amqp_write.specs.Law.{marked, text_for, found_after, fits, is_next, Wrote, Refused, Writes, Kept, IsDevice, why_unwritten}
+use Rattle.amqp_write.specs.Appending.{Appended, Pays, PaysWhole}
 use Rattle.amqp_write.proofs.Bytes.{extends_more, extends_same}
 
 apart : true ≡ false → ⊥
@@ -143,4 +143,13 @@ refused_pays s i text found l why (Err e) t is same z name p = record {
   kept = p.kept;
   device = p.device;
   cause = λ h. elim p.refused [ inl m ↦ inl m | inr d ↦ inr (elim d [ inl f ↦ inl f | inr w ↦ inr (record { none = rw (is, z) w.none; named = λ plan. w.named plan ∙ sym name }) ]) ];
+}
+
+-- an item that is written whole, on a serializer that answers
+pub writes_whole : {A : Type 0} (s : State) (i : Item) (r : Result A Error) (t : State) → s.ended ≡ false → PaysWhole s i r t → Writes s i r t
+writes_whole s i r t answers p = record {
+  ok = wrote_pays s i _ _ (sizes i) _ r t refl refl refl p;
+  err = refused_pays s i _ _ (sizes i) _ r t refl refl refl refl p;
+  stops = record { err = p.err; ended = λ h. absurd (apart (sym h ∙ answers)) };
+  spares = p.spares;
 }

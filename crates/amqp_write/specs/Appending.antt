@@ -5,13 +5,13 @@ use Rattle.amqp_base.specs.declared.format_code.EncodingCodes.{EncodingCodes}
 use Rattle.amqp_base.specs.Wire.{Constructor, under}
 use Rattle.amqp_base.specs.Item.{Item}
 use Rattle.amqp_base.specs.Canon.{◌>>=◌, or_else, when, short_payload, sized, kind_code}
-use Rattle.amqp_base.specs.Sizes.{Size}
+use Rattle.amqp_base.specs.Sizes.{Size, sizes}
 use Rattle.amqp_base.specs.Faults.{refusal_of, IsFault}
 use Rattle.amqp_base.specs.declared.error.Error.{Error}
 use Rattle.amqp_base.specs.declared.error.Error.TheVariants.{OutOfMemory}
 use Rattle.amqp_write.specs.State.{State, Mark, unmarked, first, other}
 use Rattle.amqp_write.specs.declared.refusal.Refusal.{Refusal}
-use Rattle.amqp_write.specs.Law.{placed, marked, found_after, fits, Goes, IsDevice, Kept, Spares}
+use Rattle.amqp_write.specs.Law.{placed, marked, found_after, fits, Goes, IsDevice, Kept, Spares, why_unwritten}
 
 -- the text of a text, under its widest code or a narrow one
 unfoldable pub payload_at : Mark → ℕ → EncodingCodes → List ℕ → Option (List ℕ)
@@ -64,3 +64,7 @@ PaysItem s i why r t = Pays s (marked s.mark i) (found_after s.mark (kind_code i
 -- a text whose constructor is this code, where it is a first element
 abbrev pub PaysUnder : {A : Type 0} → State → EncodingCodes → Option (List ℕ) → Error → Result A Error → State → Type 0
 PaysUnder s e text why r t = Pays s text (found_after s.mark (Some (under e)) s.found) [] why r t
+
+-- writing an item: its own text, sizes and refusal
+abbrev pub PaysWhole : {A : Type 0} → State → Item → Result A Error → State → Type 0
+PaysWhole s i r t = Pays s (marked s.mark i) (found_after s.mark (kind_code i) s.found) (sizes i) (why_unwritten i) r t

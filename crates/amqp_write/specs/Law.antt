@@ -1,5 +1,5 @@
 -- The law of writing.
-use Rattle.std.specs.Prelude.{◌≡◌, ◌⊎◌, ℕ, ◌+◌, ◌<◌, ◌≤◌, ◌==◌, ◌&&◌, Bool, true, false, List, [], ◌∷◌, ◌++◌, length, drop, min, Option, None, Some, Result, Err, OnErr, IfErr}
+use Rattle.std.specs.Prelude.{◌≡◌, ◌⊎◌, ℕ, ◌+◌, ◌<◌, ◌≤◌, ◌==◌, ◌&&◌, Bool, true, false, List, [], ◌∷◌, ◌++◌, length, drop, min, Option, None, Some, Result, Err, OnOk, OnErr, IfErr}
 use Rattle.std.specs.Io.KnownBytes.{Appends}
 use Rattle.amqp_base.specs.Item.{Item}
 use Rattle.amqp_base.specs.Wire.{Constructor}
@@ -97,3 +97,10 @@ pub record Stops {A : Type 0} (s : State) (r : Result A Error) (t : State) : Typ
 -- want of memory comes only where the writer grows or answered a fault
 abbrev pub Spares : {A : Type 0} → State → Result A Error → State → Type 0
 Spares s r t = IfErr r (λ e. e ≡ OutOfMemory → (s.grows ≡ true) ⊎ (s.faults < t.faults))
+
+-- what a call that writes an item does
+pub record Writes {A : Type 0} (s : State) (i : Item) (r : Result A Error) (t : State) : Type 0 where
+  pub ok : OnOk r (Wrote s i t)
+  pub err : IfErr r (λ e. Refused s i e t)
+  pub stops : Stops s r t
+  pub spares : Spares s r t

@@ -7,6 +7,7 @@ mod decimals;
 mod fixed;
 mod floats;
 mod header;
+mod leaf;
 mod numbers;
 mod pass;
 mod payloads;
@@ -17,6 +18,7 @@ mod signed;
 mod sizes;
 mod unsigned;
 
+pub use leaf::Leaf;
 pub use numbers::{Element, Outside, Texts};
 pub use pass::{Measure, Opened, Plan, Reserved};
 pub use place::{Mark, Place, first_mark, setting_inside};
