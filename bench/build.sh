@@ -10,7 +10,7 @@ trap 'exit 1' HUP INT TERM
 say() { echo "bench: $*" >&2; }
 
 # The workspace, with the crate of the exports. Libraries that are built are taken along: of those rt builds what has changed.
-uses='amqp_base amqp_types amqp_read amqp_ser amqp_data amqp_de serde_amqp'
+uses='amqp_base amqp_types amqp_read amqp_write amqp_ser amqp_data amqp_de serde_amqp'
 mkdir -p "$work/.git" "$work/crates"
 (cd ../crates && tar cf - --exclude='*/out' .) | (cd "$work/crates" && tar xf -)
 for it in $uses; do
