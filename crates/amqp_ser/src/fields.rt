@@ -88,9 +88,7 @@ impl StructFields for () {
         alloc: Global,
         out: &mut StructSerializer<'_, W>,
     ) -> Result<(), Error> {
-        let _ = alloc;
-        let _ = out;
-        Ok(())
+        self.write_values(alloc, out)
     }
 }
 
