@@ -102,8 +102,8 @@ impl<W: Sink> Serializer<W> {
     /// Writes a value without parts.
     #[inline(always)]
     pub(crate) fn leaf<L: Leaf>(&mut self, value: L) -> Result<(), Error>
-        ensures { Writes (state W.Write W.FaultCount self.old) (L.shows value self.old.place.setting)
-            result (state W.Write W.FaultCount self.new) }
+        ensures { Writes (state W.Write W.FaultCount self.old)
+            (L.shows value self.old.place.setting) result (state W.Write W.FaultCount self.new) }
     {
         if self.place.ended {
             return Err(refused(Refusal::InvalidValue));

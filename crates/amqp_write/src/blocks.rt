@@ -37,7 +37,8 @@ fn put_all<P: Texts<T>, T: Typed + Copy>(values: &[T], block: &mut [u8]) -> usiz
 #[inline(always)]
 fn few_lengths<P: Texts<T>, T: Typed + Copy>(values: &[T]) -> u32
     requires few { length values.now ≤ 4096 }
-    ensures texts { HaveTextsOf P.mark (map (λ v. T.meaning.item v Setting.Plain) values.now) result }
+    ensures texts { HaveTextsOf P.mark (map (λ v. T.meaning.item v Setting.Plain) values.now)
+        result }
 {
     let mut sum: u32 = 0;
     for value in values {
@@ -49,7 +50,8 @@ fn few_lengths<P: Texts<T>, T: Typed + Copy>(values: &[T]) -> u32
 /// The bytes of the texts, as far as a usize counts. Four bytes hold the sum of a few, so that the
 /// loop over them takes many at a time.
 fn lengths<P: Texts<T>, T: Typed + Copy>(values: &[T]) -> usize
-    ensures texts { HaveTextsOf P.mark (map (λ v. T.meaning.item v Setting.Plain) values.now) result }
+    ensures texts { HaveTextsOf P.mark (map (λ v. T.meaning.item v Setting.Plain) values.now)
+        result }
 {
     let mut sum: usize = 0;
     let mut rest = values;
