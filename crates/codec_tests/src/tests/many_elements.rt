@@ -1,7 +1,7 @@
 //! Arrays and lists of more numbers than are read or written at a time.
 
 use super::answer::{Answer, UNEXPECTED_EOF, is, told};
-use super::bytes::{is_read_as, is_text};
+use super::bytes::{is_read_as, is_text, is_written_as};
 use Answer::{InvalidFormatCode, InvalidValue, Taken};
 use amqp_de::{Deserialize, Deserializer};
 use amqp_read::{Read, SliceReader};
@@ -59,32 +59,31 @@ where
     }
 }
 
-/// The list of them is written as the bytes, which are read as the list.
-fn is_list(alloc: Global, bytes: &[u8]) -> bool {
+/// The bytes are read as the list of them, which is written as them or not.
+fn is_list(alloc: Global, bytes: &[u8], is_written: bool) -> bool {
     match hundred::<u32>(alloc) {
-        Some(numbers) => is_text(alloc, &numbers, bytes),
+        Some(numbers) => {
+            let is_read = is_read_as(alloc, bytes, &numbers);
+            is_written_as(alloc, &numbers, bytes) == is_written && is_read
+        }
         None => false,
     }
 }
 
-/// The bytes are read as they are.
-fn is_vector(alloc: Global, bytes: &[u8]) -> bool {
-    match hundred::<u32>(alloc) {
-        Some(numbers) => is_read_as(alloc, bytes, &numbers),
-        None => false,
+/// What a vector of uints, or else of ints, answers.
+fn told_by<R: Read>(de: &mut Deserializer<R>, alloc: Global, are_uints: bool) -> Answer {
+    if are_uints {
+        told(Vec::<u32>::deserialize(alloc, de))
+    } else {
+        told(Vec::<i32>::deserialize(alloc, de))
     }
 }
 
-/// The type answers so to the bytes, of which it takes so many.
-fn stops<'s, T: Deserialize<SliceReader<'s>>>(
-    alloc: Global,
-    bytes: &'s [u8],
-    answer: Answer,
-    taken: usize,
-) -> bool {
+/// A vector of uints, or else of ints, answers so to the bytes, of which it takes so many.
+fn stops(alloc: Global, bytes: &[u8], are_uints: bool, answer: Answer, taken: usize) -> bool {
     let mut de = Deserializer::new(SliceReader::new(bytes));
-    let told = told(T::deserialize(alloc, &mut de));
-    told == answer && de.into_reader().bytes_consumed() == taken
+    let told = told_by(&mut de, alloc, are_uints);
+    de.into_reader().bytes_consumed() == taken && told == answer
 }
 
 /// What holds of the bytes.
@@ -108,13 +107,13 @@ fn holds(alloc: Global, bytes: &[u8], check: Check) -> bool {
         Uints => is_array::<u32>(alloc, bytes),
         Ints => is_array::<i32>(alloc, bytes),
         Ulongs => is_array::<u64>(alloc, bytes),
-        List => is_list(alloc, bytes),
-        Vector => is_vector(alloc, bytes),
+        List => is_list(alloc, bytes, true),
+        Vector => is_list(alloc, bytes, false),
         Front(len, answer, taken) => match bytes.get(..len) {
-            Some(front) => stops::<Vec<u32>>(alloc, front, answer, taken),
+            Some(front) => stops(alloc, front, true, answer, taken),
             None => false,
         },
-        AsInts(answer, taken) => stops::<Vec<i32>>(alloc, bytes, answer, taken),
+        AsInts(answer, taken) => stops(alloc, bytes, false, answer, taken),
     }
 }
 
@@ -137,12 +136,16 @@ fn a_hundred_numbers_are_written_and_read(rt: HostRuntime) {
     assert!(rt; is_so(alloc, LIST, 1, b"\x52", List));
 }
 
-/// A list or an array is read from the front of the bytes, and 99 behind it.
+/// A list or an array is read, and 99 behind it.
+fn are_read<R: Read>(de: &mut Deserializer<R>, alloc: Global) -> bool {
+    let first = told_by(de, alloc, true);
+    is(u32::deserialize(alloc, de), Ok(99)) && first == Taken
+}
+
+/// The same from the front of the bytes.
 fn reads_on(alloc: Global, bytes: &[u8]) -> bool {
     let mut de = Deserializer::new(SliceReader::new(bytes));
-    let first = told(Vec::<u32>::deserialize(alloc, &mut de));
-    let behind = is(u32::deserialize(alloc, &mut de), Ok(99));
-    first == Taken && behind
+    are_read(&mut de, alloc)
 }
 
 /// An array of a hundred uints is read, and 99 behind it.

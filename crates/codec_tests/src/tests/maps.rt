@@ -1,9 +1,10 @@
 //! Maps: `OrderedMap` and `BTreeMap`, repeated keys, what headers are refused for, and the most
 //! pairs that are read.
 
-use super::answer::{Answer, UNEXPECTED_EOF, told};
-use super::bytes::{is_made_as, is_made_read, is_made_text, is_written_as, refuses};
+use super::answer::{Answer, UNEXPECTED_EOF, gave, told};
+use super::bytes::{is_made_as, is_made_text, is_written_as, refuses};
 use super::made::{map, map_of, string};
+use super::ordered_map::{are_pairs, is_at};
 use amqp_base::Error;
 use amqp_de::{Deserialize, Deserializer};
 use amqp_read::{Read, SliceReader};
@@ -66,6 +67,11 @@ fn a_map_is_its_keys_and_values_in_turn(rt: HostRuntime) {
     );
 }
 
+/// What a map of booleans answers to the bytes.
+fn booleans(alloc: Global, bytes: &[u8]) -> Result<OrderedMap<u32, bool>, Error> {
+    from_slice(alloc, bytes)
+}
+
 /// The value under the key 0 is true.
 fn has_zero(outcome: Result<OrderedMap<u32, bool>, Error>) -> bool {
     match outcome {
@@ -74,16 +80,37 @@ fn has_zero(outcome: Result<OrderedMap<u32, bool>, Error>) -> bool {
     }
 }
 
+/// What a map of booleans answers that is read.
+fn takes<R: Read>(de: &mut Deserializer<R>, alloc: Global) -> Answer {
+    told(OrderedMap::<u32, bool>::deserialize(alloc, de))
+}
+
+/// It takes all of the bytes.
+fn takes_all(alloc: Global, bytes: &[u8]) -> bool {
+    let mut de = Deserializer::new(SliceReader::new(bytes));
+    let is_taken = takes(&mut de, alloc) == Answer::Taken;
+    de.into_reader().bytes_consumed() == bytes.len() && is_taken
+}
+
+/// The bytes, all of them, are read as the map of these pairs.
+fn is_read(alloc: Global, pairs: &[(u32, bool)], bytes: &[u8]) -> bool {
+    match map(alloc, pairs) {
+        Some(value) => gave(booleans(alloc, bytes), &value) && takes_all(alloc, bytes),
+        None => false,
+    }
+}
+
+/// The two forms of a header.
+const FORMS: &[(&[(u32, bool)], &[u8])] = &[(&[], b"\xc1\x01\x00"), (&[(0, true)], WIDE)];
+
+const WIDE: &[u8] = b"\xd1\x00\x00\x00\x06\x00\x00\x00\x02\x43\x41";
+
 #[test]
 fn both_forms_of_a_map_are_read(rt: HostRuntime) {
     let alloc = rt.alloc();
-    let wide = b"\xd1\x00\x00\x00\x06\x00\x00\x00\x02\x43\x41";
-    assert!(rt; has_zero(from_slice(alloc, wide)));
-    for (pairs, bytes) in [
-        ([].as_slice(), b"\xc1\x01\x00".as_slice()),
-        (&[(0u32, true)], wide),
-    ] {
-        assert!(rt; is_made_read(alloc, map(alloc, pairs), bytes));
+    assert!(rt; has_zero(booleans(alloc, WIDE)));
+    for (pairs, bytes) in FORMS {
+        assert!(rt; is_read(alloc, pairs, bytes));
     }
 }
 
@@ -114,31 +141,12 @@ fn bytes_that_are_no_map(rt: HostRuntime) {
     }
 }
 
-/// The pair stands there.
-fn is_at(pairs: &[(u32, u32)], place: usize, key: u32, value: u32) -> bool {
-    match pairs.get(place) {
-        Some(pair) => pair.0 == key && pair.1 == value,
-        None => false,
-    }
-}
-
 /// An `OrderedMap` that is read from the bytes gives these pairs in order.
 fn is_ordered(alloc: Global, bytes: &[u8], want: &[(u32, u32)]) -> bool {
     match ordered(alloc, bytes) {
         Ok(map) => are_pairs(&map, want),
         Err(_) => false,
     }
-}
-
-/// The map gives these pairs in order.
-fn are_pairs(map: &OrderedMap<u32, u32>, want: &[(u32, u32)]) -> bool {
-    let mut place = 0usize;
-    let mut is_so = true;
-    for (key, value) in map.iter() {
-        is_so = is_at(want, place, *key, *value) && is_so;
-        place = place.saturating_add(1);
-    }
-    is_so && place == want.len()
 }
 
 /// The same of a `BTreeMap`.
