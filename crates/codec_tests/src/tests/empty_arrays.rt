@@ -1,8 +1,9 @@
 //! Empty arrays of each type, in both forms, without an element constructor and with one of
 //! another type.
 
+use super::asked::{Asked, taken};
 use amqp_de::{Deserialize, Deserializer};
-use amqp_read::{Read, SliceReader};
+use amqp_read::Read;
 use amqp_types::{
     Array, Binary, Dec32, Dec64, Dec128, Double, Float, OrderedMap, Symbol, Timestamp, Uuid,
 };
@@ -88,11 +89,10 @@ fn is_none_of<R: Read>(de: &mut Deserializer<R>, alloc: Global, of: Of) -> bool 
     }
 }
 
-/// All of the bytes are read as an empty array of this type.
-fn is_empty(alloc: Global, bytes: &[u8], of: Of) -> bool {
-    let mut de = Deserializer::new(SliceReader::new(bytes));
-    let is_so = is_none_of(&mut de, alloc, of);
-    de.into_reader().bytes_consumed() == bytes.len() && is_so
+impl Asked for Of {
+    fn is_answered<R: Read>(&self, alloc: Global, de: &mut Deserializer<R>) -> bool {
+        is_none_of(de, alloc, *self)
+    }
 }
 
 /// The four texts of an empty array.
@@ -107,7 +107,7 @@ const TEXTS: &[&[u8]] = &[
 fn are_empty(alloc: Global, of: Of) -> bool {
     let mut is_so = true;
     for bytes in TEXTS {
-        is_so = is_empty(alloc, bytes, of) && is_so;
+        is_so = taken(alloc, bytes, &of) == Some(bytes.len()) && is_so;
     }
     is_so
 }

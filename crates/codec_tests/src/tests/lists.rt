@@ -2,7 +2,7 @@
 //! Every form and refusal of a list of ints is a line of the probe's run.
 
 use super::answer::{Answer, UNEXPECTED_EOF};
-use super::bytes::{is_front, is_list, is_made_text, refuses};
+use super::bytes::{is_front, is_made_as, is_made_text, refuses};
 use super::calls::{Call, End, Part, all_go};
 use super::made::{and, both, list, strings};
 use super::puts::{Element, Put, writes};
@@ -25,18 +25,22 @@ fn is_made_front<'s, T: Deserialize<SliceReader<'s>> + PartialEq>(
     }
 }
 
-/// A list of the int 5, and bytes behind the count.
-const FIVE: &[u8] = b"\xc0\x02\x01\x71\x00\x00\x00\x05\x00\x43";
+/// Lists of ints, as they are written; the probe's run reads them.
+const INTS: &[(&[i32], &[u8])] = &[
+    (&[], b"\x45"),
+    (&[1, 2], b"\xc0\x05\x02\x54\x01\x54\x02"),
+    (
+        &[1, 2, 3, 4],
+        b"\xc0\x09\x04\x54\x01\x54\x02\x54\x03\x54\x04",
+    ),
+];
 
 #[test]
-fn a_list_is_written_in_its_shortest_form_and_read_by_its_count(rt: HostRuntime) {
+fn a_list_is_written_in_its_shortest_form(rt: HostRuntime) {
     let alloc = rt.alloc();
-    assert!(rt; is_list::<i32>(alloc, &[], b"\x45"));
-    assert!(rt; is_list(alloc, &[1i32, 2], b"\xc0\x05\x02\x54\x01\x54\x02"));
-    let four = b"\xc0\x09\x04\x54\x01\x54\x02\x54\x03\x54\x04";
-    assert!(rt; is_list(alloc, &[1i32, 2, 3, 4], four));
-    // bytes behind the count stay
-    assert!(rt; is_made_front(alloc, list(alloc, &[5i32]), FIVE, 8));
+    for (elements, bytes) in INTS {
+        assert!(rt; is_made_as(alloc, list(alloc, elements), bytes));
+    }
 }
 
 /// [[1, 256], [], [7]] in each of the three forms of a list.

@@ -1,6 +1,7 @@
 //! Arrays and lists of more numbers than are read or written at a time.
 
 use super::answer::{Answer, UNEXPECTED_EOF, is, told};
+use super::asked::{Asked, taken};
 use super::bytes::{is_read_as, is_text, is_written_as};
 use Answer::{InvalidFormatCode, InvalidValue, Taken};
 use amqp_de::{Deserialize, Deserializer};
@@ -79,11 +80,23 @@ fn told_by<R: Read>(de: &mut Deserializer<R>, alloc: Global, are_uints: bool) ->
     }
 }
 
+/// A vector of uints, or else of ints, and what it answers.
+#[derive(Drop)]
+struct Numbers {
+    are_uints: bool,
+    answer: Answer,
+}
+
+impl Asked for Numbers {
+    fn is_answered<R: Read>(&self, alloc: Global, de: &mut Deserializer<R>) -> bool {
+        told_by(de, alloc, self.are_uints) == self.answer
+    }
+}
+
 /// A vector of uints, or else of ints, answers so to the bytes, of which it takes so many.
-fn stops(alloc: Global, bytes: &[u8], are_uints: bool, answer: Answer, taken: usize) -> bool {
-    let mut de = Deserializer::new(SliceReader::new(bytes));
-    let told = told_by(&mut de, alloc, are_uints);
-    de.into_reader().bytes_consumed() == taken && told == answer
+fn stops(alloc: Global, bytes: &[u8], are_uints: bool, answer: Answer, count: usize) -> bool {
+    let numbers = Numbers { are_uints, answer };
+    taken(alloc, bytes, &numbers) == Some(count)
 }
 
 /// What holds of the bytes.
@@ -109,11 +122,11 @@ fn holds(alloc: Global, bytes: &[u8], check: Check) -> bool {
         Ulongs => is_array::<u64>(alloc, bytes),
         List => is_list(alloc, bytes, true),
         Vector => is_list(alloc, bytes, false),
-        Front(len, answer, taken) => match bytes.get(..len) {
-            Some(front) => stops(alloc, front, true, answer, taken),
+        Front(len, answer, count) => match bytes.get(..len) {
+            Some(front) => stops(alloc, front, true, answer, count),
             None => false,
         },
-        AsInts(answer, taken) => stops(alloc, bytes, false, answer, taken),
+        AsInts(answer, count) => stops(alloc, bytes, false, answer, count),
     }
 }
 
@@ -136,16 +149,14 @@ fn a_hundred_numbers_are_written_and_read(rt: HostRuntime) {
     assert!(rt; is_so(alloc, LIST, 1, b"\x52", List));
 }
 
-/// A list or an array is read, and 99 behind it.
-fn are_read<R: Read>(de: &mut Deserializer<R>, alloc: Global) -> bool {
-    let first = told_by(de, alloc, true);
-    is(u32::deserialize(alloc, de), Ok(99)) && first == Taken
-}
+/// A list or an array of uints, and 99 behind it.
+struct NumbersAndOne;
 
-/// The same from the front of the bytes.
-fn reads_on(alloc: Global, bytes: &[u8]) -> bool {
-    let mut de = Deserializer::new(SliceReader::new(bytes));
-    are_read(&mut de, alloc)
+impl Asked for NumbersAndOne {
+    fn is_answered<R: Read>(&self, alloc: Global, de: &mut Deserializer<R>) -> bool {
+        let first = told_by(de, alloc, true);
+        is(u32::deserialize(alloc, de), Ok(99)) && first == Taken
+    }
 }
 
 /// An array of a hundred uints is read, and 99 behind it.
@@ -154,7 +165,7 @@ fn goes_on(alloc: Global) -> bool {
         Some(bytes) => {
             let mut bytes = bytes;
             let is_longer = bytes.extend_from_slice(b"\x52\x63").is_ok();
-            reads_on(alloc, bytes.as_slice()) && is_longer
+            taken(alloc, bytes.as_slice(), &NumbersAndOne) == Some(412) && is_longer
         }
         None => false,
     }

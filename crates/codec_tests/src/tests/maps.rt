@@ -2,12 +2,13 @@
 //! pairs that are read.
 
 use super::answer::{Answer, UNEXPECTED_EOF, gave, told};
+use super::asked::{Asked, taken};
 use super::bytes::{is_made_as, is_made_text, is_written_as, refuses};
 use super::made::{map, map_of, string};
 use super::ordered_map::{are_pairs, is_at};
 use amqp_base::Error;
 use amqp_de::{Deserialize, Deserializer};
-use amqp_read::{Read, SliceReader};
+use amqp_read::Read;
 use amqp_types::{OrderedMap, Timestamp};
 use serde_amqp::from_slice;
 use std::alloc::Global;
@@ -80,22 +81,22 @@ fn has_zero(outcome: Result<OrderedMap<u32, bool>, Error>) -> bool {
     }
 }
 
-/// What a map of booleans answers that is read.
-fn takes<R: Read>(de: &mut Deserializer<R>, alloc: Global) -> Answer {
-    told(OrderedMap::<u32, bool>::deserialize(alloc, de))
-}
+/// One map of booleans is read.
+struct OneMap;
 
-/// It takes all of the bytes.
-fn takes_all(alloc: Global, bytes: &[u8]) -> bool {
-    let mut de = Deserializer::new(SliceReader::new(bytes));
-    let is_taken = takes(&mut de, alloc) == Answer::Taken;
-    de.into_reader().bytes_consumed() == bytes.len() && is_taken
+impl Asked for OneMap {
+    fn is_answered<R: Read>(&self, alloc: Global, de: &mut Deserializer<R>) -> bool {
+        told(OrderedMap::<u32, bool>::deserialize(alloc, de)) == Answer::Taken
+    }
 }
 
 /// The bytes, all of them, are read as the map of these pairs.
 fn is_read(alloc: Global, pairs: &[(u32, bool)], bytes: &[u8]) -> bool {
     match map(alloc, pairs) {
-        Some(value) => gave(booleans(alloc, bytes), &value) && takes_all(alloc, bytes),
+        Some(value) => {
+            let is_whole = taken(alloc, bytes, &OneMap) == Some(bytes.len());
+            gave(booleans(alloc, bytes), &value) && is_whole
+        }
         None => false,
     }
 }
@@ -213,22 +214,22 @@ fn wide(alloc: Global, pairs: u32) -> Option<Vec<u8>> {
     if is_so { Some(bytes) } else { None }
 }
 
-/// How many pairs an `OrderedMap` has that is read.
-fn length<R: Read>(de: &mut Deserializer<R>, alloc: Global) -> usize {
-    match OrderedMap::<u32, ()>::deserialize(alloc, de) {
-        Ok(map) => map.len(),
-        Err(_) => 0,
+/// An `OrderedMap` of 32,768 pairs is read.
+struct Most;
+
+impl Asked for Most {
+    fn is_answered<R: Read>(&self, alloc: Global, de: &mut Deserializer<R>) -> bool {
+        match OrderedMap::<u32, ()>::deserialize(alloc, de) {
+            Ok(map) => map.len() == 32_768,
+            Err(_) => false,
+        }
     }
 }
 
 /// 32,768 pairs are read from the bytes, all of them.
 fn are_most(alloc: Global, most: Option<Vec<u8>>) -> bool {
     match most {
-        Some(most) => {
-            let mut de = Deserializer::new(SliceReader::new(most.as_slice()));
-            let length = length(&mut de, alloc);
-            de.into_reader().bytes_consumed() == most.len() && length == 32_768
-        }
+        Some(most) => taken(alloc, most.as_slice(), &Most) == Some(most.len()),
         None => false,
     }
 }

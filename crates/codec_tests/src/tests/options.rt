@@ -1,9 +1,10 @@
 //! Values that may be missing: null, or the item of the value.
 
 use super::answer::{Answer, UNEXPECTED_EOF, gave, told};
+use super::asked::{Asked, taken};
 use super::bytes::{are_texts, is_list, is_read_as, is_text, is_written_as};
 use amqp_de::{Deserialize, Deserializer};
-use amqp_read::{Read, SliceReader};
+use amqp_read::Read;
 use std::alloc::Global;
 
 const INTS: &[(Option<i32>, &[u8])] = &[(None, b"\x40"), (Some(1), b"\x54\x01")];
@@ -36,38 +37,35 @@ fn is_next<R: Read, T: Deserialize<R> + PartialEq>(
 }
 
 /// Options one after the other: of values without parts, of a list and of a tuple.
-fn are_next<R: Read>(de: &mut Deserializer<R>, alloc: Global) -> bool {
-    let first = is_next::<R, i32>(de, alloc, None);
-    let second = is_next(de, alloc, Some(1i32));
-    let third = is_next::<R, ()>(de, alloc, None);
-    let fourth = is_next(de, alloc, Some(Vec::<u32>::new(alloc)));
-    let fifth = is_next::<R, (u32, bool)>(de, alloc, None);
-    first && second && third && fourth && fifth
-}
+struct Options;
 
-/// They stand at the front of the bytes, and take so many of them.
-fn are_front(alloc: Global, bytes: &[u8], taken: usize) -> bool {
-    let mut de = Deserializer::new(SliceReader::new(bytes));
-    let is_so = are_next(&mut de, alloc);
-    de.into_reader().bytes_consumed() == taken && is_so
+impl Asked for Options {
+    fn is_answered<R: Read>(&self, alloc: Global, de: &mut Deserializer<R>) -> bool {
+        let first = is_next::<R, i32>(de, alloc, None);
+        let second = is_next(de, alloc, Some(1i32));
+        let third = is_next::<R, ()>(de, alloc, None);
+        let fourth = is_next(de, alloc, Some(Vec::<u32>::new(alloc)));
+        let fifth = is_next::<R, (u32, bool)>(de, alloc, None);
+        first && second && third && fourth && fifth
+    }
 }
 
 #[test]
 fn null_comes_before_the_value(rt: HostRuntime) {
-    assert!(rt; are_front(rt.alloc(), b"\x40\x54\x01\x40\x45\x40", 6));
+    let bytes = b"\x40\x54\x01\x40\x45\x40";
+    assert!(rt; taken(rt.alloc(), bytes, &Options) == Some(6));
 }
 
 /// An option of an int is refused so, and what is asked for next because of that.
-fn are_refused<R: Read>(de: &mut Deserializer<R>, alloc: Global, name: Answer) -> bool {
-    let first = told(de.deserialize_option::<i32>(alloc));
-    let again = told(de.deserialize_option::<i32>(alloc));
-    first == name && again == Answer::InvalidValue
-}
+#[derive(Drop)]
+struct Refused(Answer);
 
-/// The same at the front of the bytes.
-fn refuses(alloc: Global, bytes: &[u8], name: Answer) -> bool {
-    let mut de = Deserializer::new(SliceReader::new(bytes));
-    are_refused(&mut de, alloc, name)
+impl Asked for Refused {
+    fn is_answered<R: Read>(&self, alloc: Global, de: &mut Deserializer<R>) -> bool {
+        let first = told(de.deserialize_option::<i32>(alloc));
+        let again = told(de.deserialize_option::<i32>(alloc));
+        first == self.0 && again == Answer::InvalidValue
+    }
 }
 
 const NO_OPTIONS: &[(&[u8], Answer)] = &[
@@ -80,6 +78,6 @@ const NO_OPTIONS: &[(&[u8], Answer)] = &[
 #[test]
 fn bytes_that_are_no_option(rt: HostRuntime) {
     for (bytes, name) in NO_OPTIONS {
-        assert!(rt; refuses(rt.alloc(), bytes, *name));
+        assert!(rt; taken(rt.alloc(), bytes, &Refused(*name)).is_some());
     }
 }

@@ -1,9 +1,10 @@
 //! Structs and tuple structs by hand, opened by their form and written field by field.
 
 use super::answer::{Answer, UNEXPECTED_EOF, is, name_of, told};
+use super::asked::{Asked, taken};
 use amqp_base::{DESCRIBED_LIST, DESCRIBED_MAP, DESCRIPTOR, Error, Sink};
 use amqp_de::{Deserialize, Deserializer, StructAccess};
-use amqp_read::{Read, SliceReader};
+use amqp_read::Read;
 use amqp_ser::{Serialize, Serializer, StructSerializer, TupleStructSerializer};
 use std::alloc::Global;
 
@@ -88,51 +89,46 @@ fn ends<R: Read>(foo: StructAccess<'_, R>, alloc: Global, steps: &[Step], ended:
     is_so && end == ended
 }
 
-/// A struct of two fields is opened and answers the steps, and then the end or else the opening
-/// answers so.
-fn opens<R: Read>(
-    de: &mut Deserializer<R>,
-    alloc: Global,
+/// A struct of this name and two fields is opened and answers the steps, and then the end or else
+/// the opening answers so.
+#[derive(Drop)]
+struct Struct {
     name: &'static str,
-    steps: &[Step],
+    steps: &'static [Step],
     answer: Answer,
-) -> bool {
-    match de.deserialize_struct(alloc, name, 2) {
-        Ok(foo) => ends(foo, alloc, steps, answer),
-        Err(e) => steps.is_empty() && name_of(&e) == answer,
+}
+
+impl Asked for Struct {
+    fn is_answered<R: Read>(&self, alloc: Global, de: &mut Deserializer<R>) -> bool {
+        match de.deserialize_struct(alloc, self.name, 2) {
+            Ok(foo) => ends(foo, alloc, self.steps, self.answer),
+            Err(e) => self.steps.is_empty() && name_of(&e) == self.answer,
+        }
     }
 }
 
-/// The same at the front of the bytes.
-fn goes(alloc: Global, name: &'static str, bytes: &[u8], steps: &[Step], answer: Answer) -> bool {
-    let mut de = Deserializer::new(SliceReader::new(bytes));
-    opens(&mut de, alloc, name, steps, answer)
-}
-
-/// The number is the first of two fields of a tuple struct, whose end answers so.
-fn ends_row<R: Read>(de: &mut Deserializer<R>, alloc: Global, first: u32, end: Answer) -> bool {
+/// 13 is the first of two fields of a tuple struct, whose end answers so.
+fn ends_row<R: Read>(de: &mut Deserializer<R>, alloc: Global, end: Answer) -> bool {
     match de.deserialize_tuple_struct(alloc, "Foo", 2) {
-        Ok(foo) => ends(foo, alloc, &[Number(Ok(Some(first)))], end),
+        Ok(foo) => ends(foo, alloc, &[Number(Ok(Some(13)))], end),
         Err(_) => false,
     }
 }
 
-/// What the next boolean answers.
-fn next_bool<R: Read>(de: &mut Deserializer<R>) -> Answer {
-    told(de.deserialize_bool())
-}
-
 /// A tuple struct with a field left unread is refused at its end, and so is what follows it.
-fn row_ends_behind_its_fields(alloc: Global) -> bool {
-    let mut de = Deserializer::new(SliceReader::new(ROW));
-    let is_ended = ends_row(&mut de, alloc, 13, Answer::SequenceLengthMismatch);
-    next_bool(&mut de) == Answer::InvalidValue && is_ended
+struct Row;
+
+impl Asked for Row {
+    fn is_answered<R: Read>(&self, alloc: Global, de: &mut Deserializer<R>) -> bool {
+        let is_ended = ends_row(de, alloc, Answer::SequenceLengthMismatch);
+        told(de.deserialize_bool()) == Answer::InvalidValue && is_ended
+    }
 }
 
 const REFUSED: Answer = Answer::InvalidValue;
 
 /// The name of a struct, its bytes, the steps, and the answer of the end or of the opening.
-const STRUCTS: &[(&str, &[u8], &[Step], Answer)] = &[
+const STRUCTS: &[(&'static str, &[u8], &'static [Step], Answer)] = &[
     // a list has the fields in order, and no names
     (
         "Foo",
@@ -164,13 +160,29 @@ const STRUCTS: &[(&str, &[u8], &[Step], Answer)] = &[
     ("Foo", b"\xc1\x01\x00", &[], Answer::Taken),
 ];
 
+/// A struct of this name at the front of the bytes does so.
+fn goes(
+    alloc: Global,
+    name: &'static str,
+    bytes: &[u8],
+    steps: &'static [Step],
+    answer: Answer,
+) -> bool {
+    let asked = Struct {
+        name,
+        steps,
+        answer,
+    };
+    taken(alloc, bytes, &asked).is_some()
+}
+
 #[test]
 fn a_struct_is_read_as_a_list_in_order_or_a_map_by_its_names(rt: HostRuntime) {
     let alloc = rt.alloc();
     for (name, bytes, steps, answer) in STRUCTS {
         assert!(rt; goes(alloc, name, bytes, steps, *answer), "{bytes:?}");
     }
-    assert!(rt; row_ends_behind_its_fields(alloc));
+    assert!(rt; taken(alloc, ROW, &Row).is_some());
 }
 
 /// What comes of the field.
