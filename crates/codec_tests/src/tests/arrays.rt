@@ -1,6 +1,6 @@
-//! Arrays: `Array` both ways, and `Vec`, which is read from an array as from a list. What is read as
-//! an array of ints or strings, as a list of ints or units or as a list of those, and what isn't,
-//! are lines of the probe's run.
+//! Arrays: `Array` both ways, and `Vec`, which is read from an array as from a list. What is read
+//! as an array of ints or strings, as a list of ints or units or as a list of those, and what
+//! isn't, are lines of the probe's run.
 
 use super::answer::{Answer, UNEXPECTED_EOF};
 use super::bytes::{

@@ -2,6 +2,7 @@
 
 use super::answer::{Answer, UNEXPECTED_EOF, is, name_of, told};
 use super::asked::{Asked, taken};
+use super::written::{By, Writes, writes_so, written};
 use amqp_base::{DESCRIBED_LIST, DESCRIBED_MAP, DESCRIPTOR, Error, Sink};
 use amqp_de::{Deserialize, Deserializer, StructAccess};
 use amqp_read::Read;
@@ -204,17 +205,15 @@ fn puts_foo<W: Sink>(foo: StructSerializer<'_, W>, alloc: Global) -> bool {
 }
 
 /// The struct `{ bar: 13, is_fool: true }` is taken.
-fn puts_struct<W: Sink>(ser: &mut Serializer<W>, alloc: Global) -> bool {
-    match ser.serialize_struct(alloc, "Foo", 2) {
-        Ok(foo) => puts_foo(foo, alloc),
-        Err(_) => false,
-    }
-}
+struct Foo;
 
-/// What the serializer appends for that struct.
-fn struct_is(alloc: Global, ser: Serializer<Vec<u8>>, bytes: &[u8]) -> bool {
-    let mut ser = ser;
-    puts_struct(&mut ser, alloc) && ser.writer.as_slice() == bytes
+impl Writes for Foo {
+    fn is_answered<W: Sink>(&self, alloc: Global, ser: &mut Serializer<W>) -> bool {
+        match ser.serialize_struct(alloc, "Foo", 2) {
+            Ok(foo) => puts_foo(foo, alloc),
+            Err(_) => false,
+        }
+    }
 }
 
 /// What comes of the field of a tuple struct.
@@ -235,17 +234,15 @@ fn puts_pair<W: Sink>(pair: TupleStructSerializer<'_, W>, alloc: Global) -> bool
 }
 
 /// A tuple struct of 13 and true is taken.
-fn puts_tuple_struct<W: Sink>(ser: &mut Serializer<W>, alloc: Global) -> bool {
-    match ser.serialize_tuple_struct(alloc, "Pair", 0) {
-        Ok(pair) => puts_pair(pair, alloc),
-        Err(_) => false,
-    }
-}
+struct Pair;
 
-/// What the serializer appends for that tuple struct.
-fn tuple_struct_is(alloc: Global, ser: Serializer<Vec<u8>>, bytes: &[u8]) -> bool {
-    let mut ser = ser;
-    puts_tuple_struct(&mut ser, alloc) && ser.writer.as_slice() == bytes
+impl Writes for Pair {
+    fn is_answered<W: Sink>(&self, alloc: Global, ser: &mut Serializer<W>) -> bool {
+        match ser.serialize_tuple_struct(alloc, "Pair", 0) {
+            Ok(pair) => puts_pair(pair, alloc),
+            Err(_) => false,
+        }
+    }
 }
 
 /// What comes of writing a field of this name, and the end behind it.
@@ -259,35 +256,35 @@ fn put_one<W: Sink>(foo: StructSerializer<'_, W>, alloc: Global, key: &'static s
     }
 }
 
-/// What comes of writing a struct of this name with a field of this name.
-fn puts_named<W: Sink>(
-    ser: &mut Serializer<W>,
-    alloc: Global,
-    name: &'static str,
-    key: &'static str,
-) -> Answer {
-    match ser.serialize_struct(alloc, name, 1) {
-        Ok(foo) => put_one(foo, alloc, key),
-        Err(e) => name_of(&e),
+/// The name of a struct, that of its one field, and what comes of writing it.
+#[derive(Drop)]
+struct Named(&'static str, &'static str, Answer);
+
+impl Writes for Named {
+    fn is_answered<W: Sink>(&self, alloc: Global, ser: &mut Serializer<W>) -> bool {
+        match ser.serialize_struct(alloc, self.0, 1) {
+            Ok(foo) => put_one(foo, alloc, self.1) == self.2,
+            Err(e) => name_of(&e) == self.2,
+        }
     }
 }
 
-/// The same into a vector.
-fn named(alloc: Global, name: &'static str, key: &'static str) -> Answer {
-    let mut ser = Serializer::new(Vec::new(alloc));
-    puts_named(&mut ser, alloc, name, key)
-}
+/// The names of descriptors are reserved.
+const NAMES: &[Named] = &[
+    Named("Foo", "bar", Answer::Taken),
+    Named("Foo", DESCRIPTOR, Answer::InvalidValue),
+    Named(DESCRIBED_MAP, "bar", Answer::InvalidValue),
+];
 
 #[test]
 fn a_struct_is_written_as_a_list_or_under_the_described_map_setting_a_map(rt: HostRuntime) {
     let alloc = rt.alloc();
     let map = b"\xc1\x12\x04\xa1\x03bar\x52\x0d\xa1\x07is_fool\x41";
-    assert!(rt; struct_is(alloc, Serializer::new(Vec::new(alloc)), ROW));
-    assert!(rt; struct_is(alloc, Serializer::described_list(Vec::new(alloc)), ROW));
-    assert!(rt; struct_is(alloc, Serializer::described_map(Vec::new(alloc)), map));
-    assert!(rt; tuple_struct_is(alloc, Serializer::described_map(Vec::new(alloc)), ROW));
-    // the names of descriptors are reserved
-    assert!(rt; named(alloc, "Foo", "bar") == Answer::Taken);
-    assert!(rt; named(alloc, "Foo", DESCRIPTOR) == Answer::InvalidValue);
-    assert!(rt; named(alloc, DESCRIBED_MAP, "bar") == Answer::InvalidValue);
+    assert!(rt; writes_so(alloc, By::New, &Foo, ROW));
+    assert!(rt; writes_so(alloc, By::DescribedList, &Foo, ROW));
+    assert!(rt; writes_so(alloc, By::DescribedMap, &Foo, map));
+    assert!(rt; writes_so(alloc, By::DescribedMap, &Pair, ROW));
+    for named in NAMES {
+        assert!(rt; written(alloc, By::New, named).is_some());
+    }
 }
