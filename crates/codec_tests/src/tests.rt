@@ -1,10 +1,12 @@
-//! A file a family of types or calls, written and read; `answer`, `bytes`, `calls`, `made`, `printed`
-//! and `puts` hold what the tests of all families call. A row of `calls` or `puts` is one call of the
-//! codec, which stands there once: its contract is dear in each function that calls it.
+//! A file a family of types or calls, written and read; `answer`, `asked`, `bytes`, `calls`,
+//! `made`, `printed`, `puts` and `written` hold what the tests of all families call. A row of
+//! `calls` or `puts` is one call of the codec, which stands there once: its contract is dear in
+//! each function that calls it.
 
 mod answer;
 mod array_calls;
 mod arrays;
+mod asked;
 mod bytes;
 mod calls;
 mod constants;
@@ -35,3 +37,4 @@ mod source;
 mod structs;
 mod tuples;
 mod user_types;
+mod written;

@@ -41,6 +41,15 @@ pub(crate) fn is_made_as<T: Serialize + Drop>(
     }
 }
 
+/// Each value is written as its bytes.
+pub(crate) fn are_written<T: Serialize>(alloc: Global, rows: &[(T, &[u8])]) -> bool {
+    let mut is_so = true;
+    for (value, bytes) in rows {
+        is_so = is_written_as(alloc, value, bytes) && is_so;
+    }
+    is_so
+}
+
 /// What the type answers to the bytes.
 fn read<'s, T: Deserialize<SliceReader<'s>>>(alloc: Global, bytes: &'s [u8]) -> Answer {
     told(from_slice::<T>(alloc, bytes))
@@ -79,6 +88,18 @@ pub(crate) fn is_front<'s, T: Deserialize<SliceReader<'s>> + PartialEq>(
     let mut de = Deserializer::new(SliceReader::new(bytes));
     let is_taken = takes::<_, T>(&mut de, alloc) == Answer::Taken;
     is_taken && de.into_reader().bytes_consumed() == taken && means(alloc, bytes, value)
+}
+
+/// Each value stands at the front of its bytes, and takes so many of them.
+pub(crate) fn are_fronts<'s, T>(alloc: Global, rows: &[(T, &'s [u8], usize)]) -> bool
+where
+    T: Deserialize<SliceReader<'s>> + PartialEq,
+{
+    let mut is_so = true;
+    for (value, bytes, taken) in rows {
+        is_so = is_front(alloc, bytes, value, *taken) && is_so;
+    }
+    is_so
 }
 
 /// The bytes, all of them, are read as the value.

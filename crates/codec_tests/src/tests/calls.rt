@@ -1,9 +1,10 @@
 //! What the calls of a deserializer answer, one after the other.
 
 use super::answer::{Answer, gave, is, name_of, told};
+use super::asked::{Asked, taken};
 use amqp_base::{EncodingCodes, Error};
 use amqp_de::{Deserialize, Deserializer, ListAccess, MapAccess, SeqAccess};
-use amqp_read::{Read, SliceReader};
+use amqp_read::Read;
 use amqp_types::{Dec32, Double, Float, Timestamp, Uuid};
 use std::alloc::Global;
 
@@ -362,18 +363,34 @@ fn are_answered<R: Read>(de: &mut Deserializer<R>, alloc: Global, calls: &[Call]
     is_so && !de.is_human_readable()
 }
 
+/// Calls, and others behind them.
+#[derive(Drop)]
+struct Calls<'c> {
+    first: &'c [Call],
+    behind: &'c [Call],
+}
+
+impl Asked for Calls<'_> {
+    fn is_answered<R: Read>(&self, alloc: Global, de: &mut Deserializer<R>) -> bool {
+        let is_so = are_answered(de, alloc, self.first);
+        are_answered(de, alloc, self.behind) && is_so
+    }
+}
+
 /// A deserializer of the bytes answers the calls, and then so many bytes are consumed.
-pub(crate) fn goes(alloc: Global, bytes: &[u8], calls: &[Call], taken: usize) -> bool {
-    let mut de = Deserializer::new(SliceReader::new(bytes));
-    let is_so = are_answered(&mut de, alloc, calls);
-    de.into_reader().bytes_consumed() == taken && is_so
+pub(crate) fn goes(alloc: Global, bytes: &[u8], calls: &[Call], count: usize) -> bool {
+    let calls = Calls {
+        first: calls,
+        behind: &[],
+    };
+    taken(alloc, bytes, &calls) == Some(count)
 }
 
 /// Each row of bytes goes so.
 pub(crate) fn all_go(alloc: Global, rows: &[(&[u8], &[Call], usize)]) -> bool {
     let mut is_so = true;
-    for (bytes, calls, taken) in rows {
-        is_so = goes(alloc, bytes, calls, *taken) && is_so;
+    for (bytes, calls, count) in rows {
+        is_so = goes(alloc, bytes, calls, *count) && is_so;
     }
     is_so
 }
@@ -391,18 +408,19 @@ const REFUSED: &[Call] = &[
 ];
 
 /// The same, and each call behind these is refused and consumes nothing.
-pub(crate) fn ends(alloc: Global, bytes: &[u8], calls: &[Call], taken: usize) -> bool {
-    let mut de = Deserializer::new(SliceReader::new(bytes));
-    let is_so = are_answered(&mut de, alloc, calls);
-    let is_ended = are_answered(&mut de, alloc, REFUSED);
-    de.into_reader().bytes_consumed() == taken && is_so && is_ended
+fn ends(alloc: Global, bytes: &[u8], calls: &[Call], count: usize) -> bool {
+    let calls = Calls {
+        first: calls,
+        behind: REFUSED,
+    };
+    taken(alloc, bytes, &calls) == Some(count)
 }
 
 /// Each row of bytes ends so.
 pub(crate) fn all_end(alloc: Global, rows: &[(&[u8], &[Call], usize)]) -> bool {
     let mut is_so = true;
-    for (bytes, calls, taken) in rows {
-        is_so = ends(alloc, bytes, calls, *taken) && is_so;
+    for (bytes, calls, count) in rows {
+        is_so = ends(alloc, bytes, calls, *count) && is_so;
     }
     is_so
 }

@@ -1,12 +1,14 @@
 //! Floats, decimals, timestamps and uuids, whose data are so many bytes.
 
 use super::answer::{Answer, gave, told};
+use super::asked::{Asked, taken};
 use super::bytes::has_forms;
 use super::calls::{Call, goes};
 use super::puts::{Put, writes};
 use amqp_de::Deserializer;
-use amqp_read::{Read, SliceReader};
+use amqp_read::Read;
 use amqp_types::{Dec32, Dec64, Dec128, Decimal, Double, Float, Timestamp, Uuid};
+use std::alloc::Global;
 
 /// Bytes of another kind.
 const OTHER: Answer = Answer::InvalidFormatCode;
@@ -193,22 +195,22 @@ fn is_decimal<R: Read>(de: &mut Deserializer<R>, want: &Decimal) -> bool {
     gave(de.deserialize_decimal(), want)
 }
 
-/// The next decimal is refused so.
-fn refuses_decimal<R: Read>(de: &mut Deserializer<R>, name: Answer) -> bool {
-    told(de.deserialize_decimal()) == name
+/// Decimals of each width by one call, and a float, which is none.
+struct Decimals;
+
+impl Asked for Decimals {
+    fn is_answered<R: Read>(&self, _alloc: Global, de: &mut Deserializer<R>) -> bool {
+        let first = is_decimal(de, &Decimal::Dec32(Dec32::from(*b"abcd")));
+        let second = is_decimal(de, &Decimal::Dec64(Dec64::from(*b"abcdefgh")));
+        let wide = Decimal::Dec128(Dec128::from(*b"abcdefghijklmnop"));
+        let third = is_decimal(de, &wide);
+        let is_refused = told(de.deserialize_decimal()) == OTHER;
+        first && second && third && is_refused
+    }
 }
 
 #[test]
 fn decimals_of_every_width_are_read_by_one_call(rt: HostRuntime) {
     let bytes = b"\x74abcd\x84abcdefgh\x94abcdefghijklmnop\x72";
-    let mut de = Deserializer::new(SliceReader::new(bytes));
-    assert!(rt; is_decimal(&mut de, &Decimal::Dec32(Dec32::from(*b"abcd"))));
-    assert!(rt; is_decimal(&mut de, &Decimal::Dec64(Dec64::from(*b"abcdefgh"))));
-    assert!(rt;
-        is_decimal(
-            &mut de,
-            &Decimal::Dec128(Dec128::from(*b"abcdefghijklmnop"))
-        )
-    );
-    assert!(rt; refuses_decimal(&mut de, Answer::InvalidFormatCode));
+    assert!(rt; taken(rt.alloc(), bytes, &Decimals).is_some());
 }

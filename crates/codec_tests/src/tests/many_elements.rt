@@ -1,7 +1,8 @@
 //! Arrays and lists of more numbers than are read or written at a time.
 
 use super::answer::{Answer, UNEXPECTED_EOF, is, told};
-use super::bytes::{is_read_as, is_text};
+use super::asked::{Asked, taken};
+use super::bytes::{is_read_as, is_text, is_written_as};
 use Answer::{InvalidFormatCode, InvalidValue, Taken};
 use amqp_de::{Deserialize, Deserializer};
 use amqp_read::{Read, SliceReader};
@@ -59,32 +60,43 @@ where
     }
 }
 
-/// The list of them is written as the bytes, which are read as the list.
-fn is_list(alloc: Global, bytes: &[u8]) -> bool {
+/// The bytes are read as the list of them, which is written as them or not.
+fn is_list(alloc: Global, bytes: &[u8], is_written: bool) -> bool {
     match hundred::<u32>(alloc) {
-        Some(numbers) => is_text(alloc, &numbers, bytes),
+        Some(numbers) => {
+            let is_read = is_read_as(alloc, bytes, &numbers);
+            is_written_as(alloc, &numbers, bytes) == is_written && is_read
+        }
         None => false,
     }
 }
 
-/// The bytes are read as they are.
-fn is_vector(alloc: Global, bytes: &[u8]) -> bool {
-    match hundred::<u32>(alloc) {
-        Some(numbers) => is_read_as(alloc, bytes, &numbers),
-        None => false,
+/// What a vector of uints, or else of ints, answers.
+fn told_by<R: Read>(de: &mut Deserializer<R>, alloc: Global, are_uints: bool) -> Answer {
+    if are_uints {
+        told(Vec::<u32>::deserialize(alloc, de))
+    } else {
+        told(Vec::<i32>::deserialize(alloc, de))
     }
 }
 
-/// The type answers so to the bytes, of which it takes so many.
-fn stops<'s, T: Deserialize<SliceReader<'s>>>(
-    alloc: Global,
-    bytes: &'s [u8],
+/// A vector of uints, or else of ints, and what it answers.
+#[derive(Drop)]
+struct Numbers {
+    are_uints: bool,
     answer: Answer,
-    taken: usize,
-) -> bool {
-    let mut de = Deserializer::new(SliceReader::new(bytes));
-    let told = told(T::deserialize(alloc, &mut de));
-    told == answer && de.into_reader().bytes_consumed() == taken
+}
+
+impl Asked for Numbers {
+    fn is_answered<R: Read>(&self, alloc: Global, de: &mut Deserializer<R>) -> bool {
+        told_by(de, alloc, self.are_uints) == self.answer
+    }
+}
+
+/// A vector of uints, or else of ints, answers so to the bytes, of which it takes so many.
+fn stops(alloc: Global, bytes: &[u8], are_uints: bool, answer: Answer, count: usize) -> bool {
+    let numbers = Numbers { are_uints, answer };
+    taken(alloc, bytes, &numbers) == Some(count)
 }
 
 /// What holds of the bytes.
@@ -108,13 +120,13 @@ fn holds(alloc: Global, bytes: &[u8], check: Check) -> bool {
         Uints => is_array::<u32>(alloc, bytes),
         Ints => is_array::<i32>(alloc, bytes),
         Ulongs => is_array::<u64>(alloc, bytes),
-        List => is_list(alloc, bytes),
-        Vector => is_vector(alloc, bytes),
-        Front(len, answer, taken) => match bytes.get(..len) {
-            Some(front) => stops::<Vec<u32>>(alloc, front, answer, taken),
+        List => is_list(alloc, bytes, true),
+        Vector => is_list(alloc, bytes, false),
+        Front(len, answer, count) => match bytes.get(..len) {
+            Some(front) => stops(alloc, front, true, answer, count),
             None => false,
         },
-        AsInts(answer, taken) => stops::<Vec<i32>>(alloc, bytes, answer, taken),
+        AsInts(answer, count) => stops(alloc, bytes, false, answer, count),
     }
 }
 
@@ -137,12 +149,14 @@ fn a_hundred_numbers_are_written_and_read(rt: HostRuntime) {
     assert!(rt; is_so(alloc, LIST, 1, b"\x52", List));
 }
 
-/// A list or an array is read from the front of the bytes, and 99 behind it.
-fn reads_on(alloc: Global, bytes: &[u8]) -> bool {
-    let mut de = Deserializer::new(SliceReader::new(bytes));
-    let first = told(Vec::<u32>::deserialize(alloc, &mut de));
-    let behind = is(u32::deserialize(alloc, &mut de), Ok(99));
-    first == Taken && behind
+/// A list or an array of uints, and 99 behind it.
+struct NumbersAndOne;
+
+impl Asked for NumbersAndOne {
+    fn is_answered<R: Read>(&self, alloc: Global, de: &mut Deserializer<R>) -> bool {
+        let first = told_by(de, alloc, true);
+        is(u32::deserialize(alloc, de), Ok(99)) && first == Taken
+    }
 }
 
 /// An array of a hundred uints is read, and 99 behind it.
@@ -151,7 +165,7 @@ fn goes_on(alloc: Global) -> bool {
         Some(bytes) => {
             let mut bytes = bytes;
             let is_longer = bytes.extend_from_slice(b"\x52\x63").is_ok();
-            reads_on(alloc, bytes.as_slice()) && is_longer
+            taken(alloc, bytes.as_slice(), &NumbersAndOne) == Some(412) && is_longer
         }
         None => false,
     }

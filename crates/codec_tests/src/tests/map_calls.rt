@@ -3,6 +3,7 @@
 use super::answer::{Answer, told};
 use super::calls::{Call, Pair, all_go};
 use super::puts::{Entry, Put, is_pair, writes_all};
+use super::written::{By, Writes, written};
 use Call::{Map, Truth};
 use Pair::{Key, Value};
 use amqp_base::Sink;
@@ -70,19 +71,24 @@ fn puts_pairs<W: Sink>(map: MapSerializer<'_, W>, alloc: Global) -> bool {
 }
 
 /// A map of them is taken.
-fn puts_map32<W: Sink>(ser: &mut Serializer<W>, alloc: Global) -> bool {
-    match ser.serialize_map(alloc, None) {
-        Ok(map) => puts_pairs(map, alloc),
-        Err(_) => false,
+struct Map32;
+
+impl Writes for Map32 {
+    fn is_answered<W: Sink>(&self, alloc: Global, ser: &mut Serializer<W>) -> bool {
+        match ser.serialize_map(alloc, None) {
+            Ok(map) => puts_pairs(map, alloc),
+            Err(_) => false,
+        }
     }
 }
 
 /// It is written as a map32.
 fn writes_map32(alloc: Global) -> bool {
-    let mut ser = Serializer::new(Vec::new(alloc));
-    let is_put = puts_map32(&mut ser, alloc);
     let front = b"\xd1\x00\x00\x01\x36\x00\x00\x00\x66\x70\x00\x00\x01\x00\x40";
-    is_put && ser.writer.len() == 9 + 51 * 6 && ser.writer.as_slice().starts_with(front)
+    match written(alloc, By::New, &Map32) {
+        Some(bytes) => bytes.len() == 9 + 51 * 6 && bytes.as_slice().starts_with(front),
+        None => false,
+    }
 }
 
 /// A value comes first: it is refused, and all that follows.

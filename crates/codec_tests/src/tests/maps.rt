@@ -1,12 +1,14 @@
 //! Maps: `OrderedMap` and `BTreeMap`, repeated keys, what headers are refused for, and the most
 //! pairs that are read.
 
-use super::answer::{Answer, UNEXPECTED_EOF, told};
-use super::bytes::{is_made_as, is_made_read, is_made_text, is_written_as, refuses};
+use super::answer::{Answer, UNEXPECTED_EOF, gave, told};
+use super::asked::{Asked, taken};
+use super::bytes::{is_made_as, is_made_text, is_written_as, refuses};
 use super::made::{map, map_of, string};
+use super::ordered_map::{are_pairs, is_at};
 use amqp_base::Error;
 use amqp_de::{Deserialize, Deserializer};
-use amqp_read::{Read, SliceReader};
+use amqp_read::Read;
 use amqp_types::{OrderedMap, Timestamp};
 use serde_amqp::from_slice;
 use std::alloc::Global;
@@ -66,6 +68,11 @@ fn a_map_is_its_keys_and_values_in_turn(rt: HostRuntime) {
     );
 }
 
+/// What a map of booleans answers to the bytes.
+fn booleans(alloc: Global, bytes: &[u8]) -> Result<OrderedMap<u32, bool>, Error> {
+    from_slice(alloc, bytes)
+}
+
 /// The value under the key 0 is true.
 fn has_zero(outcome: Result<OrderedMap<u32, bool>, Error>) -> bool {
     match outcome {
@@ -74,16 +81,37 @@ fn has_zero(outcome: Result<OrderedMap<u32, bool>, Error>) -> bool {
     }
 }
 
+/// One map of booleans is read.
+struct OneMap;
+
+impl Asked for OneMap {
+    fn is_answered<R: Read>(&self, alloc: Global, de: &mut Deserializer<R>) -> bool {
+        told(OrderedMap::<u32, bool>::deserialize(alloc, de)) == Answer::Taken
+    }
+}
+
+/// The bytes, all of them, are read as the map of these pairs.
+fn is_read(alloc: Global, pairs: &[(u32, bool)], bytes: &[u8]) -> bool {
+    match map(alloc, pairs) {
+        Some(value) => {
+            let is_whole = taken(alloc, bytes, &OneMap) == Some(bytes.len());
+            gave(booleans(alloc, bytes), &value) && is_whole
+        }
+        None => false,
+    }
+}
+
+/// The two forms of a header.
+const FORMS: &[(&[(u32, bool)], &[u8])] = &[(&[], b"\xc1\x01\x00"), (&[(0, true)], WIDE)];
+
+const WIDE: &[u8] = b"\xd1\x00\x00\x00\x06\x00\x00\x00\x02\x43\x41";
+
 #[test]
 fn both_forms_of_a_map_are_read(rt: HostRuntime) {
     let alloc = rt.alloc();
-    let wide = b"\xd1\x00\x00\x00\x06\x00\x00\x00\x02\x43\x41";
-    assert!(rt; has_zero(from_slice(alloc, wide)));
-    for (pairs, bytes) in [
-        ([].as_slice(), b"\xc1\x01\x00".as_slice()),
-        (&[(0u32, true)], wide),
-    ] {
-        assert!(rt; is_made_read(alloc, map(alloc, pairs), bytes));
+    assert!(rt; has_zero(booleans(alloc, WIDE)));
+    for (pairs, bytes) in FORMS {
+        assert!(rt; is_read(alloc, pairs, bytes));
     }
 }
 
@@ -114,31 +142,12 @@ fn bytes_that_are_no_map(rt: HostRuntime) {
     }
 }
 
-/// The pair stands there.
-fn is_at(pairs: &[(u32, u32)], place: usize, key: u32, value: u32) -> bool {
-    match pairs.get(place) {
-        Some(pair) => pair.0 == key && pair.1 == value,
-        None => false,
-    }
-}
-
 /// An `OrderedMap` that is read from the bytes gives these pairs in order.
 fn is_ordered(alloc: Global, bytes: &[u8], want: &[(u32, u32)]) -> bool {
     match ordered(alloc, bytes) {
         Ok(map) => are_pairs(&map, want),
         Err(_) => false,
     }
-}
-
-/// The map gives these pairs in order.
-fn are_pairs(map: &OrderedMap<u32, u32>, want: &[(u32, u32)]) -> bool {
-    let mut place = 0usize;
-    let mut is_so = true;
-    for (key, value) in map.iter() {
-        is_so = is_at(want, place, *key, *value) && is_so;
-        place = place.saturating_add(1);
-    }
-    is_so && place == want.len()
 }
 
 /// The same of a `BTreeMap`.
@@ -205,22 +214,22 @@ fn wide(alloc: Global, pairs: u32) -> Option<Vec<u8>> {
     if is_so { Some(bytes) } else { None }
 }
 
-/// How many pairs an `OrderedMap` has that is read.
-fn length<R: Read>(de: &mut Deserializer<R>, alloc: Global) -> usize {
-    match OrderedMap::<u32, ()>::deserialize(alloc, de) {
-        Ok(map) => map.len(),
-        Err(_) => 0,
+/// An `OrderedMap` of 32,768 pairs is read.
+struct Most;
+
+impl Asked for Most {
+    fn is_answered<R: Read>(&self, alloc: Global, de: &mut Deserializer<R>) -> bool {
+        match OrderedMap::<u32, ()>::deserialize(alloc, de) {
+            Ok(map) => map.len() == 32_768,
+            Err(_) => false,
+        }
     }
 }
 
 /// 32,768 pairs are read from the bytes, all of them.
 fn are_most(alloc: Global, most: Option<Vec<u8>>) -> bool {
     match most {
-        Some(most) => {
-            let mut de = Deserializer::new(SliceReader::new(most.as_slice()));
-            let length = length(&mut de, alloc);
-            de.into_reader().bytes_consumed() == most.len() && length == 32_768
-        }
+        Some(most) => taken(alloc, most.as_slice(), &Most) == Some(most.len()),
         None => false,
     }
 }

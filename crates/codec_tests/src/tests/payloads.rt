@@ -2,7 +2,7 @@
 //! probe's run.
 
 use super::answer::{Answer, UNEXPECTED_EOF};
-use super::bytes::{is_form, is_made_text, is_read_as, is_written_as, refuses_each};
+use super::bytes::{is_form, is_made_as, is_read_as, is_written_as, refuses_each};
 use super::calls::{Call, goes};
 use super::made::{string, symbol};
 use super::puts::{Put, writes};
@@ -85,7 +85,7 @@ fn a_long_binary_has_the_wide_constructor(rt: HostRuntime) {
     }
 }
 
-/// Texts as strings, and as symbols.
+/// Texts as strings, and as symbols, as they are written.
 const TEXTS: &[(&str, &[u8], &[u8])] = &[
     ("", b"\xa1\x00", b"\xa3\x00"),
     ("ab", b"\xa1\x02ab", b"\xa3\x02ab"),
@@ -97,8 +97,8 @@ const TEXTS: &[(&str, &[u8], &[u8])] = &[
 fn strings_and_symbols_are_texts(rt: HostRuntime) {
     let alloc = rt.alloc();
     for (text, own, name) in TEXTS {
-        assert!(rt; is_made_text(alloc, string(alloc, text), own), "{text}");
-        assert!(rt; is_made_text(alloc, symbol(alloc, text), name), "{text}");
+        assert!(rt; is_made_as(alloc, string(alloc, text), own), "{text}");
+        assert!(rt; is_made_as(alloc, symbol(alloc, text), name), "{text}");
     }
     assert!(rt; is_written_as(alloc, &SymbolRef("ab"), b"\xa3\x02ab"));
 }

@@ -1,6 +1,7 @@
 //! What the calls of a serializer answer, one after the other, and what they write.
 
 use super::answer::{Answer, name_of, told};
+use super::written::{By, Writes, writes_so};
 use amqp_base::Sink;
 use amqp_ser::{MapSerializer, SeqSerializer, Serialize, Serializer};
 use amqp_types::{Dec32, Dec64, Dec128, Double, Float, Uuid};
@@ -408,14 +409,23 @@ fn puts<W: Sink>(ser: &mut Serializer<W>, alloc: Global, put: Put<'_>) -> Answer
     }
 }
 
+/// Calls with their answers.
+#[derive(Drop)]
+struct Calls<'c, 'p>(&'c [(Put<'p>, Answer)]);
+
+impl Writes for Calls<'_, '_> {
+    fn is_answered<W: Sink>(&self, alloc: Global, ser: &mut Serializer<W>) -> bool {
+        let mut is_so = !ser.is_human_readable();
+        for (put, want) in self.0 {
+            is_so = puts(ser, alloc, *put) == *want && is_so;
+        }
+        is_so && !ser.is_human_readable()
+    }
+}
+
 /// A serializer answers the calls so, and has then written the bytes.
 pub(crate) fn goes(alloc: Global, calls: &[(Put<'_>, Answer)], bytes: &[u8]) -> bool {
-    let mut ser = Serializer::new(Vec::new(alloc));
-    let mut is_so = !ser.is_human_readable();
-    for (put, want) in calls {
-        is_so = puts(&mut ser, alloc, *put) == *want && is_so;
-    }
-    is_so && !ser.is_human_readable() && ser.writer.as_slice() == bytes
+    writes_so(alloc, By::New, &Calls(calls), bytes)
 }
 
 /// Each row of calls goes so.
@@ -427,12 +437,21 @@ pub(crate) fn writes_all(alloc: Global, rows: &[(&[(Put<'_>, Answer)], &[u8])]) 
     is_so
 }
 
+/// Calls that are taken.
+#[derive(Drop)]
+struct Taken<'c, 'p>(&'c [Put<'p>]);
+
+impl Writes for Taken<'_, '_> {
+    fn is_answered<W: Sink>(&self, alloc: Global, ser: &mut Serializer<W>) -> bool {
+        let mut is_so = !ser.is_human_readable();
+        for put in self.0 {
+            is_so = puts(ser, alloc, *put) == Answer::Taken && is_so;
+        }
+        is_so
+    }
+}
+
 /// A serializer takes all of these, and has then written the bytes.
 pub(crate) fn writes(alloc: Global, calls: &[Put<'_>], bytes: &[u8]) -> bool {
-    let mut ser = Serializer::from(Vec::new(alloc));
-    let mut is_so = !ser.is_human_readable();
-    for put in calls {
-        is_so = puts(&mut ser, alloc, *put) == Answer::Taken && is_so;
-    }
-    is_so && ser.writer.as_slice() == bytes
+    writes_so(alloc, By::From, &Taken(calls), bytes)
 }

@@ -3,6 +3,7 @@
 use super::answer::{Answer, told};
 use super::made::{list, string};
 use super::puts::{Element, Put, goes, puts_value, writes};
+use super::written::{By, Writes, writes_so};
 use amqp_base::{Counted, Sink};
 use amqp_ser::Serializer;
 use std::alloc::Global;
@@ -33,25 +34,32 @@ fn puts_strings<W: Sink>(ser: &mut Serializer<W>, alloc: Global, text: Option<St
     }
 }
 
-/// They are written as these bytes.
-fn writes_strings_as(alloc: Global, ser: Serializer<Vec<u8>>, bytes: &[u8]) -> bool {
-    let mut ser = ser;
-    puts_strings(&mut ser, alloc, string(alloc, "a")) && ser.writer.as_slice() == bytes
+/// Three strings, each of them `a`.
+struct Strings;
+
+impl Writes for Strings {
+    fn is_answered<W: Sink>(&self, alloc: Global, ser: &mut Serializer<W>) -> bool {
+        puts_strings(ser, alloc, string(alloc, "a"))
+    }
 }
 
+const SYMBOLS: &[u8] = b"\xa3\x01a\xa3\x01a\xa3\x01a";
+
+const STRINGS: &[u8] = b"\xa1\x01a\xa1\x01a\xa1\x01a";
+
 /// The symbol setting stays; strings stay strings under the settings of described values.
+const BY_SETTING: &[(By, &[u8])] = &[
+    (By::Symbol, SYMBOLS),
+    (By::DescribedList, STRINGS),
+    (By::DescribedMap, STRINGS),
+    (By::DescribedBasic, STRINGS),
+];
+
 #[test]
 fn strings_are_written_by_the_setting(rt: HostRuntime) {
-    let alloc = rt.alloc();
-    let symbols = b"\xa3\x01a\xa3\x01a\xa3\x01a";
-    let strings = b"\xa1\x01a\xa1\x01a\xa1\x01a";
-    assert!(rt; writes_strings_as(alloc, Serializer::symbol(Vec::new(alloc)), symbols));
-    let list = Serializer::described_list(Vec::new(alloc));
-    assert!(rt; writes_strings_as(alloc, list, strings));
-    let map = Serializer::described_map(Vec::new(alloc));
-    assert!(rt; writes_strings_as(alloc, map, strings));
-    let basic = Serializer::described_basic(Vec::new(alloc));
-    assert!(rt; writes_strings_as(alloc, basic, strings));
+    for (by, bytes) in BY_SETTING {
+        assert!(rt; writes_so(rt.alloc(), *by, &Strings, bytes));
+    }
 }
 
 const REFUSED: Answer = Answer::InvalidValue;

@@ -1,6 +1,6 @@
 //! The reader over a slice.
 
-use super::answer::{Answer, UNEXPECTED_EOF, answer_of, gave_bytes, is};
+use super::answer::{Answer, UNEXPECTED_EOF, gave_bytes, is, told};
 use amqp_read::{Read, SliceReader, read_const_bytes};
 use std::alloc::Global;
 
@@ -18,38 +18,59 @@ enum Call {
 
 use Call::{GetByteSlice, Next, Peek, PeekBytes, ReadBytes, ReadNothing, ReadTwo};
 
-/// The call answers so, and the reader is at the position behind it. Only a look at missing bytes
-/// is no refusal, and a refusal leaves the buffer.
-fn answers(reader: &mut SliceReader<'_>, alloc: Global, call: Call, position: usize) -> bool {
-    let is_so = match call {
+/// A buffer of two bytes is filled so, or refused and left.
+fn reads_two<R: Read>(reader: &mut R, want: Option<[u8; 2]>) -> bool {
+    let mut buf = [1, 2];
+    let answer = told(reader.read_exact(&mut buf));
+    match want {
+        Some(want) => answer == Answer::Taken && buf == want,
+        None => answer == UNEXPECTED_EOF && buf == [1, 2],
+    }
+}
+
+/// The call of any reader answers so. Only a look at missing bytes is no refusal.
+fn is_answered<R: Read>(reader: &mut R, alloc: Global, call: Call) -> bool {
+    match call {
         Peek(byte) => is(reader.peek(), Ok(byte)),
         Next(byte) => is(reader.next(), Ok(byte)),
         PeekBytes(n, bytes) => is(reader.peek_bytes(n), Ok(bytes)),
-        GetByteSlice(n, bytes) => is(reader.get_byte_slice(n), bytes.ok_or(UNEXPECTED_EOF)),
         ReadBytes(n, bytes) => gave_bytes(reader.read_bytes(alloc, n), bytes),
         ReadNothing => reader.read_exact(&mut []).is_ok(),
-        ReadTwo(bytes) => {
-            let mut buf = [1, 2];
-            let answer = answer_of(&reader.read_exact(&mut buf));
-            match bytes {
-                Some(want) => answer == Answer::Taken && buf == want,
-                None => answer == UNEXPECTED_EOF && buf == [1, 2],
-            }
-        }
+        ReadTwo(bytes) => reads_two(reader, bytes),
+        GetByteSlice(_, _) => false,
+    }
+}
+
+/// The call answers so, and the reader is at the position behind it.
+fn answers(reader: &mut SliceReader<'_>, alloc: Global, call: Call, position: usize) -> bool {
+    let is_so = match call {
+        GetByteSlice(n, bytes) => is(reader.get_byte_slice(n), bytes.ok_or(UNEXPECTED_EOF)),
+        _ => is_answered(reader, alloc, call),
     };
     is_so && reader.bytes_consumed() == position
 }
 
-/// A reader over the bytes answers the calls, and is at the position behind each; all bytes behind
-/// it are at hand.
-fn goes(alloc: Global, bytes: &[u8], calls: &[(Call, usize)]) -> bool {
-    let mut reader = SliceReader::new(bytes);
-    let mut is_so = reader.bytes_consumed() == 0;
+/// A reader over so many bytes answers the calls, and is at the position behind each; all bytes
+/// behind it are at hand.
+fn goes_on(
+    reader: &mut SliceReader<'_>,
+    alloc: Global,
+    len: usize,
+    calls: &[(Call, usize)],
+) -> bool {
+    let mut is_so = true;
     for (call, position) in calls {
-        is_so = answers(&mut reader, alloc, *call, *position) && is_so;
-        is_so = bytes.len().checked_sub(*position) == Some(reader.at_hand()) && is_so;
+        is_so = answers(reader, alloc, *call, *position) && is_so;
+        is_so = len.checked_sub(*position) == Some(reader.at_hand()) && is_so;
     }
     is_so
+}
+
+/// The same of a new one.
+fn goes(alloc: Global, bytes: &[u8], calls: &[(Call, usize)]) -> bool {
+    let mut reader = SliceReader::new(bytes);
+    let is_first = reader.bytes_consumed() == 0;
+    goes_on(&mut reader, alloc, bytes.len(), calls) && is_first
 }
 
 const BYTES: &[u8] = b"\xde\xad\xbe";
@@ -118,6 +139,9 @@ fn a_call_takes_all_that_it_asks_for_or_nothing(rt: HostRuntime) {
     assert!(rt; goes(alloc, b"", NONE_TO_COME));
 }
 
+/// No byte is lent.
+const NONE_LENT: &[(Call, usize)] = &[(GetByteSlice(0, Some(b"")), 0)];
+
 /// Behind two bytes that were lent.
 const LENT: &[(Call, usize)] = &[
     (Peek(Some(0xbe)), 2),
@@ -130,41 +154,77 @@ const LENT: &[(Call, usize)] = &[
     (GetByteSlice(1, None), 3),
 ];
 
+/// The first two of three bytes are lent, and still there when the reader has gone on.
+fn lends_two(alloc: Global, bytes: &[u8], two: &[u8]) -> bool {
+    let mut reader = SliceReader::new(bytes);
+    let is_first = goes_on(&mut reader, alloc, 3, NONE_LENT);
+    let front = reader.get_byte_slice(2).ok();
+    let is_so = goes_on(&mut reader, alloc, 3, LENT);
+    is_first && is_so && front == Some(two)
+}
+
 #[test]
 fn a_lent_slice_lives_as_long_as_the_bytes(rt: HostRuntime) {
-    let alloc = rt.alloc();
-    let mut reader = SliceReader::new(BYTES);
-    assert!(rt; answers(&mut reader, alloc, GetByteSlice(0, Some(b"")), 0));
-    let front = reader.get_byte_slice(2).ok();
-    for (call, position) in LENT {
-        assert!(rt; answers(&mut reader, alloc, *call, *position));
-    }
-    assert!(rt; front == Some(b"\xde\xad".as_slice()));
+    assert!(rt; lends_two(rt.alloc(), BYTES, b"\xde\xad"));
 }
 
 const TWENTY_ONE: &[u8] =
     b"\x00\x01\x02\x03\x04\x05\x06\x07\x08\x09\x0a\x0b\x0c\x0d\x0e\x0f\x10\x11\x12\x13\x14";
 
-/// The array is filled so, or refused.
-fn is_array<const N: usize>(reader: &mut SliceReader<'_>, want: Result<[u8; N], Answer>) -> bool {
-    is(read_const_bytes::<_, N>(reader), want)
+/// An array is filled so, or refused, and so many bytes are consumed.
+fn fills<R: Read, const N: usize>(
+    reader: &mut R,
+    want: Result<[u8; N], Answer>,
+    position: usize,
+) -> bool {
+    is(read_const_bytes::<R, N>(reader), want) && reader.bytes_consumed() == position
+}
+
+/// Two arrays of ten bytes are filled, and one of none.
+fn fills_arrays<R: Read>(reader: &mut R) -> bool {
+    let first = fills(reader, Ok([0, 1, 2, 3, 4, 5, 6, 7, 8, 9]), 10);
+    let second = fills(reader, Ok([10, 11, 12, 13, 14, 15, 16, 17, 18, 19]), 20);
+    let nothing = fills::<R, 0>(reader, Ok([]), 20);
+    first && second && nothing
+}
+
+/// An array of ten is refused where one byte is to come.
+fn refuses_ten<R: Read>(reader: &mut R) -> bool {
+    fills::<R, 10>(reader, Err(UNEXPECTED_EOF), 20)
+}
+
+/// An array of one is refused where none is.
+fn refuses_one<R: Read>(reader: &mut R) -> bool {
+    fills::<R, 1>(reader, Err(UNEXPECTED_EOF), 0)
+}
+
+/// Twice two of the bytes are shown.
+const SHOWN: &[(Call, usize)] = &[
+    (PeekBytes(2, Some(b"\x00\x01")), 0),
+    (PeekBytes(2, Some(b"\x00\x01")), 0),
+];
+
+/// The last byte is to come.
+const LAST: &[(Call, usize)] = &[(Peek(Some(0x14)), 20)];
+
+/// Arrays are filled from twenty-one bytes, of which one is left.
+fn reads_arrays(alloc: Global, bytes: &[u8]) -> bool {
+    let mut reader = SliceReader::new(bytes);
+    let is_shown = goes_on(&mut reader, alloc, 21, SHOWN);
+    let are_filled = fills_arrays(&mut reader);
+    let is_refused = refuses_ten(&mut reader);
+    let is_left = goes_on(&mut reader, alloc, 21, LAST);
+    is_shown && are_filled && is_refused && is_left
+}
+
+/// No array is filled where no byte is to come.
+fn reads_no_array() -> bool {
+    let mut reader = SliceReader::new(&[]);
+    refuses_one(&mut reader)
 }
 
 #[test]
 fn an_array_is_filled_whole_or_refused(rt: HostRuntime) {
-    let alloc = rt.alloc();
-    let mut reader = SliceReader::new(TWENTY_ONE);
-    assert!(rt; answers(&mut reader, alloc, PeekBytes(2, Some(b"\x00\x01")), 0));
-    assert!(rt; answers(&mut reader, alloc, PeekBytes(2, Some(b"\x00\x01")), 0));
-    assert!(rt; is_array(&mut reader, Ok([0, 1, 2, 3, 4, 5, 6, 7, 8, 9])));
-    assert!(rt; reader.bytes_consumed() == 10);
-    assert!(rt; is_array(&mut reader, Ok([10, 11, 12, 13, 14, 15, 16, 17, 18, 19])));
-    assert!(rt; is_array::<0>(&mut reader, Ok([])));
-    assert!(rt; reader.bytes_consumed() == 20);
-    assert!(rt; is_array::<10>(&mut reader, Err(UNEXPECTED_EOF)));
-    assert!(rt; answers(&mut reader, alloc, Peek(Some(0x14)), 20));
-    // no byte at all is to come
-    let mut reader = SliceReader::new(&[]);
-    assert!(rt; is_array::<1>(&mut reader, Err(UNEXPECTED_EOF)));
-    assert!(rt; reader.bytes_consumed() == 0);
+    assert!(rt; reads_arrays(rt.alloc(), TWENTY_ONE));
+    assert!(rt; reads_no_array());
 }

@@ -1,9 +1,11 @@
 //! Structs and tuple structs by hand, opened by their form and written field by field.
 
 use super::answer::{Answer, UNEXPECTED_EOF, is, name_of, told};
+use super::asked::{Asked, taken};
+use super::written::{By, Writes, writes_so, written};
 use amqp_base::{DESCRIBED_LIST, DESCRIBED_MAP, DESCRIPTOR, Error, Sink};
 use amqp_de::{Deserialize, Deserializer, StructAccess};
-use amqp_read::{Read, SliceReader};
+use amqp_read::Read;
 use amqp_ser::{Serialize, Serializer, StructSerializer, TupleStructSerializer};
 use std::alloc::Global;
 
@@ -88,51 +90,46 @@ fn ends<R: Read>(foo: StructAccess<'_, R>, alloc: Global, steps: &[Step], ended:
     is_so && end == ended
 }
 
-/// A struct of two fields is opened and answers the steps, and then the end or else the opening
-/// answers so.
-fn opens<R: Read>(
-    de: &mut Deserializer<R>,
-    alloc: Global,
+/// A struct of this name and two fields is opened and answers the steps, and then the end or else
+/// the opening answers so.
+#[derive(Drop)]
+struct Struct {
     name: &'static str,
-    steps: &[Step],
+    steps: &'static [Step],
     answer: Answer,
-) -> bool {
-    match de.deserialize_struct(alloc, name, 2) {
-        Ok(foo) => ends(foo, alloc, steps, answer),
-        Err(e) => steps.is_empty() && name_of(&e) == answer,
+}
+
+impl Asked for Struct {
+    fn is_answered<R: Read>(&self, alloc: Global, de: &mut Deserializer<R>) -> bool {
+        match de.deserialize_struct(alloc, self.name, 2) {
+            Ok(foo) => ends(foo, alloc, self.steps, self.answer),
+            Err(e) => self.steps.is_empty() && name_of(&e) == self.answer,
+        }
     }
 }
 
-/// The same at the front of the bytes.
-fn goes(alloc: Global, name: &'static str, bytes: &[u8], steps: &[Step], answer: Answer) -> bool {
-    let mut de = Deserializer::new(SliceReader::new(bytes));
-    opens(&mut de, alloc, name, steps, answer)
-}
-
-/// The number is the first of two fields of a tuple struct, whose end answers so.
-fn ends_row<R: Read>(de: &mut Deserializer<R>, alloc: Global, first: u32, end: Answer) -> bool {
+/// 13 is the first of two fields of a tuple struct, whose end answers so.
+fn ends_row<R: Read>(de: &mut Deserializer<R>, alloc: Global, end: Answer) -> bool {
     match de.deserialize_tuple_struct(alloc, "Foo", 2) {
-        Ok(foo) => ends(foo, alloc, &[Number(Ok(Some(first)))], end),
+        Ok(foo) => ends(foo, alloc, &[Number(Ok(Some(13)))], end),
         Err(_) => false,
     }
 }
 
-/// What the next boolean answers.
-fn next_bool<R: Read>(de: &mut Deserializer<R>) -> Answer {
-    told(de.deserialize_bool())
-}
-
 /// A tuple struct with a field left unread is refused at its end, and so is what follows it.
-fn row_ends_behind_its_fields(alloc: Global) -> bool {
-    let mut de = Deserializer::new(SliceReader::new(ROW));
-    let is_ended = ends_row(&mut de, alloc, 13, Answer::SequenceLengthMismatch);
-    next_bool(&mut de) == Answer::InvalidValue && is_ended
+struct Row;
+
+impl Asked for Row {
+    fn is_answered<R: Read>(&self, alloc: Global, de: &mut Deserializer<R>) -> bool {
+        let is_ended = ends_row(de, alloc, Answer::SequenceLengthMismatch);
+        told(de.deserialize_bool()) == Answer::InvalidValue && is_ended
+    }
 }
 
 const REFUSED: Answer = Answer::InvalidValue;
 
 /// The name of a struct, its bytes, the steps, and the answer of the end or of the opening.
-const STRUCTS: &[(&str, &[u8], &[Step], Answer)] = &[
+const STRUCTS: &[(&'static str, &[u8], &'static [Step], Answer)] = &[
     // a list has the fields in order, and no names
     (
         "Foo",
@@ -164,13 +161,29 @@ const STRUCTS: &[(&str, &[u8], &[Step], Answer)] = &[
     ("Foo", b"\xc1\x01\x00", &[], Answer::Taken),
 ];
 
+/// A struct of this name at the front of the bytes does so.
+fn goes(
+    alloc: Global,
+    name: &'static str,
+    bytes: &[u8],
+    steps: &'static [Step],
+    answer: Answer,
+) -> bool {
+    let asked = Struct {
+        name,
+        steps,
+        answer,
+    };
+    taken(alloc, bytes, &asked).is_some()
+}
+
 #[test]
 fn a_struct_is_read_as_a_list_in_order_or_a_map_by_its_names(rt: HostRuntime) {
     let alloc = rt.alloc();
     for (name, bytes, steps, answer) in STRUCTS {
         assert!(rt; goes(alloc, name, bytes, steps, *answer), "{bytes:?}");
     }
-    assert!(rt; row_ends_behind_its_fields(alloc));
+    assert!(rt; taken(alloc, ROW, &Row).is_some());
 }
 
 /// What comes of the field.
@@ -192,17 +205,15 @@ fn puts_foo<W: Sink>(foo: StructSerializer<'_, W>, alloc: Global) -> bool {
 }
 
 /// The struct `{ bar: 13, is_fool: true }` is taken.
-fn puts_struct<W: Sink>(ser: &mut Serializer<W>, alloc: Global) -> bool {
-    match ser.serialize_struct(alloc, "Foo", 2) {
-        Ok(foo) => puts_foo(foo, alloc),
-        Err(_) => false,
-    }
-}
+struct Foo;
 
-/// What the serializer appends for that struct.
-fn struct_is(alloc: Global, ser: Serializer<Vec<u8>>, bytes: &[u8]) -> bool {
-    let mut ser = ser;
-    puts_struct(&mut ser, alloc) && ser.writer.as_slice() == bytes
+impl Writes for Foo {
+    fn is_answered<W: Sink>(&self, alloc: Global, ser: &mut Serializer<W>) -> bool {
+        match ser.serialize_struct(alloc, "Foo", 2) {
+            Ok(foo) => puts_foo(foo, alloc),
+            Err(_) => false,
+        }
+    }
 }
 
 /// What comes of the field of a tuple struct.
@@ -223,17 +234,15 @@ fn puts_pair<W: Sink>(pair: TupleStructSerializer<'_, W>, alloc: Global) -> bool
 }
 
 /// A tuple struct of 13 and true is taken.
-fn puts_tuple_struct<W: Sink>(ser: &mut Serializer<W>, alloc: Global) -> bool {
-    match ser.serialize_tuple_struct(alloc, "Pair", 0) {
-        Ok(pair) => puts_pair(pair, alloc),
-        Err(_) => false,
-    }
-}
+struct Pair;
 
-/// What the serializer appends for that tuple struct.
-fn tuple_struct_is(alloc: Global, ser: Serializer<Vec<u8>>, bytes: &[u8]) -> bool {
-    let mut ser = ser;
-    puts_tuple_struct(&mut ser, alloc) && ser.writer.as_slice() == bytes
+impl Writes for Pair {
+    fn is_answered<W: Sink>(&self, alloc: Global, ser: &mut Serializer<W>) -> bool {
+        match ser.serialize_tuple_struct(alloc, "Pair", 0) {
+            Ok(pair) => puts_pair(pair, alloc),
+            Err(_) => false,
+        }
+    }
 }
 
 /// What comes of writing a field of this name, and the end behind it.
@@ -247,35 +256,35 @@ fn put_one<W: Sink>(foo: StructSerializer<'_, W>, alloc: Global, key: &'static s
     }
 }
 
-/// What comes of writing a struct of this name with a field of this name.
-fn puts_named<W: Sink>(
-    ser: &mut Serializer<W>,
-    alloc: Global,
-    name: &'static str,
-    key: &'static str,
-) -> Answer {
-    match ser.serialize_struct(alloc, name, 1) {
-        Ok(foo) => put_one(foo, alloc, key),
-        Err(e) => name_of(&e),
+/// The name of a struct, that of its one field, and what comes of writing it.
+#[derive(Drop)]
+struct Named(&'static str, &'static str, Answer);
+
+impl Writes for Named {
+    fn is_answered<W: Sink>(&self, alloc: Global, ser: &mut Serializer<W>) -> bool {
+        match ser.serialize_struct(alloc, self.0, 1) {
+            Ok(foo) => put_one(foo, alloc, self.1) == self.2,
+            Err(e) => name_of(&e) == self.2,
+        }
     }
 }
 
-/// The same into a vector.
-fn named(alloc: Global, name: &'static str, key: &'static str) -> Answer {
-    let mut ser = Serializer::new(Vec::new(alloc));
-    puts_named(&mut ser, alloc, name, key)
-}
+/// The names of descriptors are reserved.
+const NAMES: &[Named] = &[
+    Named("Foo", "bar", Answer::Taken),
+    Named("Foo", DESCRIPTOR, Answer::InvalidValue),
+    Named(DESCRIBED_MAP, "bar", Answer::InvalidValue),
+];
 
 #[test]
 fn a_struct_is_written_as_a_list_or_under_the_described_map_setting_a_map(rt: HostRuntime) {
     let alloc = rt.alloc();
     let map = b"\xc1\x12\x04\xa1\x03bar\x52\x0d\xa1\x07is_fool\x41";
-    assert!(rt; struct_is(alloc, Serializer::new(Vec::new(alloc)), ROW));
-    assert!(rt; struct_is(alloc, Serializer::described_list(Vec::new(alloc)), ROW));
-    assert!(rt; struct_is(alloc, Serializer::described_map(Vec::new(alloc)), map));
-    assert!(rt; tuple_struct_is(alloc, Serializer::described_map(Vec::new(alloc)), ROW));
-    // the names of descriptors are reserved
-    assert!(rt; named(alloc, "Foo", "bar") == Answer::Taken);
-    assert!(rt; named(alloc, "Foo", DESCRIPTOR) == Answer::InvalidValue);
-    assert!(rt; named(alloc, DESCRIBED_MAP, "bar") == Answer::InvalidValue);
+    assert!(rt; writes_so(alloc, By::New, &Foo, ROW));
+    assert!(rt; writes_so(alloc, By::DescribedList, &Foo, ROW));
+    assert!(rt; writes_so(alloc, By::DescribedMap, &Foo, map));
+    assert!(rt; writes_so(alloc, By::DescribedMap, &Pair, ROW));
+    for named in NAMES {
+        assert!(rt; written(alloc, By::New, named).is_some());
+    }
 }

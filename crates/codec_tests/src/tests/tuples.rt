@@ -1,7 +1,7 @@
 //! Tuples, which stand as lists of as many elements as they have parts.
 
 use super::answer::Answer;
-use super::bytes::{are_texts, is_front, is_made_text, is_text, is_written_as};
+use super::bytes::{are_fronts, are_written, is_made_text, is_text, is_written_as};
 use super::calls::{Call, Part, goes};
 use super::made::string;
 use super::puts;
@@ -17,17 +17,25 @@ fn three_parts(text: Option<String>) -> Option<(bool, u64, String)> {
     }
 }
 
+/// Tuples of one, and how many bytes they take.
+const ONES: &[((u32,), &[u8], usize)] = &[
+    ((7,), b"\xc0\x03\x01\x52\x07", 5),
+    ((0,), b"\xc0\x02\x01\x43\x40", 4),
+];
+
+/// Pairs as they are written; the probe's run reads them.
+const PAIRS: &[((u32, bool), &[u8])] = &[
+    ((13, true), b"\xc0\x04\x02\x52\x0d\x41"),
+    ((1, true), b"\xc0\x04\x02\x52\x01\x41"),
+];
+
 #[test]
 fn a_tuple_is_a_list_of_its_parts(rt: HostRuntime) {
     let alloc = rt.alloc();
     assert!(rt; is_text(alloc, &(1i32,), b"\xc0\x03\x01\x54\x01"));
-    assert!(rt; is_text(alloc, &(7u32,), b"\xc0\x03\x01\x52\x07"));
-    assert!(rt; is_front(alloc, b"\xc0\x02\x01\x43\x40", &(0u32,), 4));
-    let pairs: &[((u32, bool), &[u8])] = &[
-        ((13, true), b"\xc0\x04\x02\x52\x0d\x41"),
-        ((1, true), b"\xc0\x04\x02\x52\x01\x41"),
-    ];
-    assert!(rt; are_texts(alloc, pairs));
+    assert!(rt; is_written_as(alloc, &(7u32,), b"\xc0\x03\x01\x52\x07"));
+    assert!(rt; are_fronts(alloc, ONES));
+    assert!(rt; are_written(alloc, PAIRS));
 }
 
 #[test]

@@ -4,6 +4,8 @@ use super::answer::{Answer, UNEXPECTED_EOF, told};
 use super::bytes::{is_made_as, is_written_as};
 use super::made::{list_of, string, strings};
 use super::puts::puts_value;
+use super::written::{By, Writes, writes_so};
+use amqp_base::Sink;
 use own_types::{
     Celsius, Colour, Delivery, Foo, Measurement, Note, Offer, Pair, Priority, Reply, Sensor,
     Station, Tags, kept,
@@ -125,11 +127,10 @@ fn is_foo(alloc: Global, bytes: &[u8]) -> bool {
     }
 }
 
-/// Under the setting of described maps the struct is written as the bytes.
-fn is_map(alloc: Global, value: &Foo, bytes: &[u8]) -> bool {
-    let mut ser = Serializer::described_map(Vec::new(alloc));
-    let answer = puts_value(&mut ser, alloc, value);
-    answer == Answer::Taken && ser.into_inner().as_slice() == bytes
+impl Writes for Foo {
+    fn is_answered<W: Sink>(&self, alloc: Global, ser: &mut Serializer<W>) -> bool {
+        puts_value(ser, alloc, self) == Answer::Taken
+    }
 }
 
 #[test]
@@ -140,7 +141,7 @@ fn a_struct_is_written_as_a_list_or_a_map(rt: HostRuntime) {
         is_fool: true,
     };
     assert!(rt; is_written_as(alloc, &foo, FOO_LIST));
-    assert!(rt; is_map(alloc, &foo, FOO_MAP));
+    assert!(rt; writes_so(alloc, By::DescribedMap, &foo, FOO_MAP));
     assert!(rt; is_written_as(alloc, &Colour(1, 2, 255), COLOUR));
     assert!(rt; is_written_as(alloc, &Celsius(-2), b"\x54\xfe"));
     assert!(rt; is_made_as(alloc, weight(alloc), WEIGHT));
