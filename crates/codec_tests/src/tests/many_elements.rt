@@ -178,6 +178,10 @@ fn a_refusal_among_many_is_the_first_that_is_called_for(rt: HostRuntime) {
     // two bytes of the seventy-first element
     assert!(rt; is_so(alloc, UINTS, 0, b"\0\0\0", Front(292, UNEXPECTED_EOF, 290)));
     assert!(rt; is_so(alloc, UINTS, 0, b"\0\0\0", AsInts(InvalidFormatCode, 10)));
+    // a list that ends behind its seventy-first number, and behind the code of the next
+    assert!(rt; is_so(alloc, LIST, 1, b"\x52", Front(144, UNEXPECTED_EOF, 144)));
+    assert!(rt; is_so(alloc, LIST, 1, b"\x52", Front(145, UNEXPECTED_EOF, 145)));
+    assert!(rt; is_so(alloc, LIST, 1, b"\x52", AsInts(InvalidFormatCode, 4)));
     // the sixty-seventh element goes past the end
     assert!(rt;
         is_so(
