@@ -63,10 +63,6 @@ free_goes u v b l f a p m set = record {
   setting = set;
 }
 
--- a serializer goes on without counting
-goes_free : (u v : State) (b : List ℕ) (l : List Size) → Free u → Goes u b l v → Free v
-goes_free u v b l f g = record { plan = g.plan ∙ (rw f.plan refl); measure = g.measure ∙ (rw f.measure refl) }
-
 pub text_free : (s : State) (i : Item) → Free s → text_for s i ≡ marked s.mark i
 unfolding text_for
 text_free s i f = go (marked s.mark i)
@@ -400,9 +396,6 @@ pub inner_answers : (k : Opened) (o : State) (b : Serializer (Vec ℕ Global)) �
 inner_answers Opened.Buffered o b = refl
 inner_answers (Opened.Measured at before) o b = refl
 inner_answers (Opened.Written size from) o b = refl
-
-pub unbroken : (k : Opened) (o : State) (b : Serializer (Vec ℕ Global)) → Lives k → b.place.ended ≡ false → (inner_of k o b).ended ≡ true → ⊥
-unbroken k o b live h i = true_false (sym i ∙ (ap (λ (x : State). x.ended) (inner_lives k o b live) ∙ h))
 
 pub broken_lives : (k : Opened) (o : State) (b : Serializer (Vec ℕ Global)) → Lives k → b.place.ended ≡ true → (inner_of k o b).ended ≡ true
 broken_lives k o b live h = ap (λ (x : State). x.ended) (inner_lives k o b live) ∙ h

@@ -36,16 +36,6 @@ in_no_pass : (p : Bool) (c : Option (List ℕ)) (xs : List ℕ) → Appends (Som
 in_no_pass false c xs h = refl
 in_no_pass true c xs h = absurd h
 
-pub to_writer_ok : (s : State) (f : Setting → Item) (t : State) (ys : List ℕ) (p : Bool) (c : Option (List ℕ)) → s.setting ≡ Plain → s.mark ≡ unmarked → s.ended ≡ false → s.contents ≡ Some [] → t.contents ≡ contents_in p c → c ≡ Some ys → Wrote s (f s.setting) t → canon (f Plain) ≡ Some ys
-to_writer_ok s f t ys p c plain mark answers start contents bytes w =
-    let took = w.took answers in
-    let more : Appends (Some []) (contents_in p c) took.bytes = subst (λ o. Appends (Some []) o took.bytes) contents (subst (λ o. Appends o t.contents took.bytes) start took.goes.appended) in
-    to_vec_ok s f t ys plain mark answers start (contents ∙ (in_no_pass p c took.bytes more ∙ bytes)) w
-
-pub to_vec_err : (s : State) (f : Setting → Item) (e : Error) (t : State) → s.setting ≡ Plain → s.mark ≡ unmarked → Free s → s.ended ≡ false → t.faults ≡ s.faults → Refused s (f s.setting) e t → (e ≡ OutOfMemory) ⊎ HasNoText (f Plain) e
-to_vec_err s f e t plain mark free answers faults r =
-    elim (r.cause answers) [ inl m ↦ inl m | inr d ↦ elim d [ inl io ↦ absurd (omega (arith, faults, io.1)) | inr w ↦ inr (subst (λ setting. HasNoText (f setting) e) plain (record { none = sym (marked_canon (f s.setting)) ∙ subst (λ m. marked m (f s.setting) ≡ None) mark (sym (text_free s (f s.setting) free) ∙ w.none); named = w.named free.plan })) ] ]
-
 begins_self : (l : List Size) → begins l l ≡ true
 begins_self [] = refl
 begins_self (x ∷ l) = rw (eq-eqb x.length x.length refl, eq-eqb x.count x.count refl, begins_self l) refl

@@ -126,17 +126,6 @@ holds_written s a t o shape q b p size left from why answers none measure plan n
     found_at : (m n : _) (c : Option Constructor) (f g : Option Constructor) → m ≡ n → f ≡ g → found_after m c f ≡ found_after n c g
     found_at m n c f g h k = rw (h, k) refl
 
-pub holds_buffered : (s : State) (shape : Shape) (q : Open) → s.ended ≡ false → s.plan ≡ None → s.measure ≡ None → q.pairs ≡ is_map shape → q.shape ≡ shape → q.count ≡ 0 → q.opened ≡ Opened.Buffered → Empty q.inner → Run shape q.inner [] q.inner → q.outer ≡ record s { ended = true } → Holds s shape [] q
-holds_buffered s shape q answers plan measure pairs same count opened empty run outer = record {
-  pairs = pairs;
-  shape_is = same;
-  start = q.inner;
-  begun = subst (λ k. Begun shape s k q.outer q.inner) (sym opened) (record { empty = empty; outer = outer; plan = plan; measure = measure });
-  run = run;
-  count = count;
-  answered = answers;
-}
-
 pub plan_none : (d : Bool) (p : Option Planned) → p ≡ None → plan_in d p ≡ None
 plan_none true p h = h
 plan_none false p h = refl
@@ -147,25 +136,3 @@ measure_none false p h = refl
 
 pub told_none : (d : Bool) (c : Option (List ℕ)) → d ≡ true → contents_in d c ≡ None
 told_none d c h = rw h refl
-
--- the size at its place, as the state has it
-pub set_of : (d : Bool) (p n : Option Measured) (m : Measured) (at len k : ℕ) → measure_in d p ≡ Some m → SetsSize p at len k n → measure_in d n ≡ Some (record { length = m.length; sizes = set m.sizes at (record { length = len; count = k }) })
-set_of false p n m at len k e h = cc
-set_of true None n m at len k e h = cc
-set_of true (Some p) n m at len k e h =
-    let same : record { length = min p.length 18446744073709551615; sizes = p.sizes } ≡ m = some_same _ _ e in
-    rw h (ap (λ (x : Measured). Some (record { length = x.length; sizes = set x.sizes at (record { length = len; count = k }) })) same)
-
--- states by their parts
-pub states_same : (x y : State) → x.contents ≡ y.contents → x.faults ≡ y.faults → x.last_fault ≡ y.last_fault → x.grows ≡ y.grows → x.plan ≡ y.plan → x.measure ≡ y.measure → x.setting ≡ y.setting → x.mark ≡ y.mark → x.found ≡ y.found → x.ended ≡ y.ended → x ≡ y
-states_same x y contents faults last grows plan measure setting mark found ended =
-    ap (λ z. record x { contents = z }) contents
-    ∙ (ap (λ z. record x { contents = y.contents; faults = z }) faults
-    ∙ (ap (λ z. record x { contents = y.contents; faults = y.faults; last_fault = z }) last
-    ∙ (ap (λ z. record x { contents = y.contents; faults = y.faults; last_fault = y.last_fault; grows = z }) grows
-    ∙ (ap (λ z. record x { contents = y.contents; faults = y.faults; last_fault = y.last_fault; grows = y.grows; plan = z }) plan
-    ∙ (ap (λ z. record x { contents = y.contents; faults = y.faults; last_fault = y.last_fault; grows = y.grows; plan = y.plan; measure = z }) measure
-    ∙ (ap (λ z. record x { contents = y.contents; faults = y.faults; last_fault = y.last_fault; grows = y.grows; plan = y.plan; measure = y.measure; setting = z }) setting
-    ∙ (ap (λ z. record x { contents = y.contents; faults = y.faults; last_fault = y.last_fault; grows = y.grows; plan = y.plan; measure = y.measure; setting = y.setting; mark = z }) mark
-    ∙ (ap (λ z. record x { contents = y.contents; faults = y.faults; last_fault = y.last_fault; grows = y.grows; plan = y.plan; measure = y.measure; setting = y.setting; mark = y.mark; found = z }) found
-    ∙ ap (λ z. record x { contents = y.contents; faults = y.faults; last_fault = y.last_fault; grows = y.grows; plan = y.plan; measure = y.measure; setting = y.setting; mark = y.mark; found = y.found; ended = z }) ended))))))))

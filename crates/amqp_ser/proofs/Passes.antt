@@ -121,12 +121,6 @@ measured_none shape s xs b n complete text len none = whole_of_some shape s.mark
   | inr long ↦ whole_none shape s.mark (length xs) b long
 ]
 
-measured_short : (shape : Shape) (s : State) (xs : List Item) (b h : List ℕ) (n : ℕ) → n ≡ min (length b) 18446744073709551615 → head_text shape s.mark (record { length = n; count = length xs }) ≡ Some h → n ≡ length b
-measured_short shape s xs b h n len is = elim (total n 4294967291) [
-  | inl short ↦ omega (arith, len, short)
-  | inr long ↦ absurd (none_some h (sym is ∙ head_none shape s.mark (record { length = n; count = length xs }) long))
-]
-
 measured_some : (shape : Shape) (s : State) (xs : List Item) (b h : List ℕ) (n : ℕ) → Complete (is_map shape) xs → parts_text shape (items_of xs) ≡ Some b → n ≡ length b → head_text shape s.mark (record { length = n; count = length xs }) ≡ Some h → marked s.mark (whole shape xs) ≡ Some (h ++ b)
 measured_some shape s xs b h n complete text same is =
     whole_of_some shape s.mark xs b complete text ∙ (whole_head shape s.mark (length xs) b (parts_fit shape xs b text) ∙ ap (λ o. o >>= λ x. Some (x ++ b)) (subst (λ k. head_text shape s.mark (record { length = k; count = length xs }) ≡ Some h) same is))

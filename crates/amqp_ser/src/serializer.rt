@@ -1,4 +1,4 @@
-//! The serializer: its state, and the bytes that it appends.
+//! The serializer: a writer, and where its next item stands.
 
 ghost use Rattle.std.specs.Prelude.{◌≡◌, false};
 ghost use Rattle.amqp_ser.specs.State.{Fresh, state};

@@ -66,7 +66,3 @@ next_refused (Some p) l m r a h = begins_more p.sizes l (m ++ r) ∙ (ap (λ b. 
     and_false : (b : Bool) → (b && false) ≡ false
     and_false true = refl
     and_false false = refl
-
--- sizes that aren't next after a front are next in no whole that begins so
-pub plan_refused : (s t : State) (a : List ℕ) (l m r : List Size) (k : ℕ) → Goes s a l t → is_next t.plan m ≡ false → fits s (l ++ (m ++ r)) k ≡ false
-plan_refused s t a l m r k g h = next_false s (l ++ (m ++ r)) k (next_refused s.plan l m r a (subst (λ x. is_next x m ≡ false) g.plan h))

@@ -62,9 +62,6 @@ placed_more (other d) c h b = go (is_under d (Some c))
     go true = refl
     go false = refl
 
-size_of_body : ℕ → List ℕ → Size
-size_of_body k b = record { length = length b; count = k }
-
 nil_of : (b : List ℕ) → length b ≡ 0 → b ≡ []
 nil_of [] h = refl
 nil_of (x ∷ b) h = absurd (omega (arith, h))

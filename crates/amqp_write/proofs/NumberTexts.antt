@@ -145,10 +145,6 @@ texts_next m f vs k v a b h e front text =
     let next : take (k + 1) vs ≡ take k vs ++ v ∷ [] = take_more vs k v h ∙ ap (λ x. take k vs ++ x ∷ []) (sym e) in
     subst (λ is. AreTexts m is (a ++ b)) (sym (ap (map f) next ∙ map-append f (take k vs) (v ∷ []))) (texts_two m (map f (take k vs)) (f v ∷ []) a b front (text_one m (f v) b text))
 
--- of all values
-pub texts_all : {X : Type 0} (m : Mark) (f : X → Item) (vs : List X) (k : ℕ) (a : List ℕ) → length vs ≤ k → AreTexts m (map f (take k vs)) a → AreTexts m (map f vs) a
-texts_all m f vs k a h front = subst (λ ys. AreTexts m (map f ys) a) (take_all k vs h) front
-
 -- of a front, and of the values behind it
 pub texts_behind : {X : Type 0} (m : Mark) (f : X → Item) (front now : List X) (a b : List ℕ) → AreTexts m (map f front) a → AreTexts m (map f now) b → AreTexts m (map f (front ++ now)) (a ++ b)
 texts_behind m f front now a b h k = subst (λ is. AreTexts m is (a ++ b)) (sym (map-append f front now)) (texts_two m (map f front) (map f now) a b h k)

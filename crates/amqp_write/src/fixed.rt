@@ -56,7 +56,7 @@ impl Place {
 
     /// One byte of data.
     #[inline(always)]
-    pub fn one_byte<W: Sink>(
+    pub(crate) fn one_byte<W: Sink>(
         &mut self,
         writer: &mut W,
         code: EncodingCodes,
@@ -72,7 +72,7 @@ impl Place {
 
     /// Two bytes of data.
     #[inline(always)]
-    pub fn two_bytes<W: Sink>(
+    pub(crate) fn two_bytes<W: Sink>(
         &mut self,
         writer: &mut W,
         code: EncodingCodes,
@@ -89,7 +89,7 @@ impl Place {
 
     /// Four bytes of data.
     #[inline(always)]
-    pub fn four_bytes<W: Sink>(
+    pub(crate) fn four_bytes<W: Sink>(
         &mut self,
         writer: &mut W,
         code: EncodingCodes,
@@ -107,7 +107,7 @@ impl Place {
 
     /// Four bytes of data outside arrays.
     #[inline(always)]
-    pub fn plain_four_bytes<W: Sink>(
+    pub(crate) fn plain_four_bytes<W: Sink>(
         &mut self,
         writer: &mut W,
         code: EncodingCodes,
@@ -126,7 +126,7 @@ impl Place {
 
     /// Eight bytes of data.
     #[inline(always)]
-    pub fn eight_bytes<W: Sink>(
+    pub(crate) fn eight_bytes<W: Sink>(
         &mut self,
         writer: &mut W,
         code: EncodingCodes,
@@ -154,7 +154,7 @@ impl Place {
 
     /// Sixteen bytes of data.
     #[inline(always)]
-    pub fn sixteen_bytes<W: Sink>(
+    pub(crate) fn sixteen_bytes<W: Sink>(
         &mut self,
         writer: &mut W,
         code: EncodingCodes,

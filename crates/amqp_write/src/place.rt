@@ -12,11 +12,11 @@ use crate::refusal::Refusal;
 use amqp_base::{EncodingCodes, Error, Setting, Shape, Sink};
 
 /// The most bytes of a payload or of a compound's body: a size of four bytes counts four more.
-pub const LONGEST: usize = 4_294_967_291;
+pub(crate) const LONGEST: usize = 4_294_967_291;
 
 /// The most bytes of a payload or of a compound's body behind a size of one byte. No text has a
 /// payload of 255 bytes behind one byte, though it would fit.
-pub const NARROW: usize = 254;
+pub(crate) const NARROW: usize = 254;
 
 /// Where the next item stands: outside arrays, or in one.
 #[derive(Clone, Copy)]
@@ -69,7 +69,7 @@ impl Place {
 
     /// Appends all of `bytes`, or ends.
     #[inline(always)]
-    pub fn append<W: Sink>(&mut self, writer: &mut W, bytes: &[u8]) -> Result<(), Refusal>
+    pub(crate) fn append<W: Sink>(&mut self, writer: &mut W, bytes: &[u8]) -> Result<(), Refusal>
         ensures { Appended (stand W.Write W.FaultCount writer.old self.old) bytes.now
             (as_error result) (stand W.Write W.FaultCount writer.new self.new) }
     {
@@ -88,7 +88,7 @@ impl Place {
 
     /// Appends both, one after the other.
     #[inline(always)]
-    pub fn append_two<W: Sink>(
+    pub(crate) fn append_two<W: Sink>(
         &mut self,
         writer: &mut W,
         head: &[u8],
@@ -106,7 +106,7 @@ impl Place {
     /// Appends an element's data, behind its constructor where it is the first. An element of
     /// another constructor than the first one's is `InvalidValue`.
     #[inline(always)]
-    pub fn element<W: Sink>(
+    pub(crate) fn element<W: Sink>(
         &mut self,
         writer: &mut W,
         code: EncodingCodes,

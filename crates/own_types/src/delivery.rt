@@ -44,15 +44,18 @@ impl Typed for Delivery {
         at (codes "delivery_number") ⟦<u32 as Typed>⟧.meaning (λ v. v.delivery_number) ∷
         at (codes "delivery_tag") ⟦<Binary as Typed>⟧.meaning (λ v. v.delivery_tag) ∷
         at (codes "message_format") ⟦<u32 as Typed>⟧.meaning (λ v. v.message_format) ∷
-        at (codes "message_number") ⟦<Option<u64> as Typed>⟧.meaning (λ v. v.message_number) ∷
+        at (codes "message_number") ⟦<Option<u64> as Typed>⟧.meaning
+        (λ v. v.message_number) ∷
         at (codes "is_settled") ⟦<bool as Typed>⟧.meaning (λ v. v.is_settled) ∷
         at (codes "more_follows") ⟦<bool as Typed>⟧.meaning (λ v. v.more_follows) ∷
         at (codes "creation_time") ⟦<Timestamp as Typed>⟧.meaning (λ v. v.creation_time) ∷
-        at (codes "expiry_time") ⟦<Option<Timestamp> as Typed>⟧.meaning (λ v. v.expiry_time) ∷
+        at (codes "expiry_time") ⟦<Option<Timestamp> as Typed>⟧.meaning
+        (λ v. v.expiry_time) ∷
         at (codes "user_name") ⟦<String as Typed>⟧.meaning (λ v. v.user_name) ∷
         at (codes "content_type") ⟦<Symbol as Typed>⟧.meaning (λ v. v.content_type) ∷
         at (codes "correlation") ⟦<Option<Uuid> as Typed>⟧.meaning (λ v. v.correlation) ∷
-        at (codes "traced_nodes") ⟦<Vec<String> as Typed>⟧.meaning (λ v. v.traced_nodes) ∷ [])) };
+        at (codes "traced_nodes") ⟦<Vec<String> as Typed>⟧.meaning
+        (λ v. v.traced_nodes) ∷ [])) };
 }
 
 impl RoundTrip for Delivery {
