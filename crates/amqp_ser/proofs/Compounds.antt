@@ -1,7 +1,6 @@
 -- The steps of a compound.
 use Rattle.std.proofs.Common.{◌≡◌, get_or, map, take, drop, suc, add-one, drop-cons, ℕ, ◌+◌, ◌<◌, ◌≤◌, List, [], ◌∷◌, ◌++◌, length, refl, sym, ◌∙◌, ap, arith, Option, Some, None, true, false, Bool, if◌then◌else◌, Result, Ok, Err, OnOk, IfErr, inl, inr, subst, length-append, append_assoc, ◌==◌, ◌%◌, ◌&&◌, ◌⊎◌}
 use Rattle.std.proofs.lemmas.List.{take-append-drop, take_all, map-append, append-nil}
-use Rattle.std.proofs.lemmas.Bool.{eq-eqb, eqb-true}
 use Rattle.std.specs.Io.KnownBytes.{Appends}
 use Rattle.amqp_base.specs.Item.{Item, items_of, count}
 use Rattle.amqp_base.specs.Wire.{Constructor, under}
@@ -33,6 +32,9 @@ use Rattle.amqp_write.proofs.TextOf.{pays_text}
 use Rattle.amqp_write.proofs.PartTexts.{parts_more, parts_none, bind_some, pairs_text, pairs_count, odd_count, true_false}
 use Rattle.amqp_write.proofs.WhyTexts.{part_why, body_why}
 use Rattle.amqp_write.proofs.Lengths.{parts_fit}
+
+pub kept_itself : (s : State) → Kept s s
+kept_itself s = record { bytes = extends_same s.contents; faults = omega arith; grows = refl }
 
 kept_ended : (s : State) → Kept s (record s { ended = true })
 kept_ended s = record { bytes = extends_same s.contents; faults = omega arith; grows = refl }
@@ -551,14 +553,6 @@ holds_all f s shape xs k q h held = subst (λ ys. Holds s shape ys q) (ap (map f
 -- what holds of one value holds of its equal
 pub moved : {X : Type 0} (P : X → Type 0) (x y : X) → y ≡ x → P x → P y
 moved P x y e p = subst P (sym e) p
-
--- another number of parts than announced
-pub full_not : (s : State) (n : ℕ) (xs : List Item) (q : Open) (full : Bool) → Holds s (Shape.Tuple n) xs q → ((k : ℕ) → q.shape ≡ Shape.Tuple k → full ≡ (q.count == k)) → full ≡ false → length xs ≡ n → ⊥
-full_not s n xs q full h test f len = let both : true ≡ false = sym (test n h.shape_is ∙ eq-eqb q.count n (h.count ∙ len)) ∙ f in cc
-
--- as many parts as announced
-pub full_all : (s : State) (n : ℕ) (xs : List Item) (q : Open) (full : Bool) → Holds s (Shape.Tuple n) xs q → ((k : ℕ) → q.shape ≡ Shape.Tuple k → full ≡ (q.count == k)) → full ≡ true → length xs ≡ n
-full_all s n xs q full h test f = sym h.count ∙ eqb-true q.count n (sym (test n h.shape_is) ∙ f)
 
 -- what a compound of keys and values awaits, by their number
 pub turn_is : (s : State) (xs : List Item) (q : Open) (turn : Bool) → Holds s Shape.Map xs q → turn ≡ (q.count % 2 == 1) → turn ≡ awaits_value xs

@@ -1,5 +1,5 @@
 -- The fields of a struct, as parts of its compound.
-use Rattle.std.proofs.Common.{◌≡◌, ℕ, List, [], ◌∷◌, ◌++◌, refl, sym, ◌∙◌, ap, subst, append_assoc, false, Bool, Result, Ok, Err, OnOk, IfErr}
+use Rattle.std.proofs.Common.{◌≡◌, ℕ, List, [], ◌∷◌, ◌++◌, refl, sym, ◌∙◌, ap, subst, append_assoc, false, Bool, Result, Ok, Err, OnOk, IfErr, None}
 use Rattle.std.proofs.lemmas.Result.{IfErr-weaker}
 use Rattle.amqp_base.specs.Item.{Item}
 use Rattle.amqp_base.specs.Shapes.{whole}
@@ -10,7 +10,7 @@ use Rattle.amqp_base.specs.declared.shape.Setting.{Setting}
 use Rattle.amqp_base.specs.declared.shape.Setting.TheVariants.{Plain, Symbol, DescribedList, DescribedMap, DescribedBasic}
 use Rattle.amqp_ser.specs.State.{State}
 use Rattle.amqp_ser.specs.Law.{Wrote, Refused}
-use Rattle.amqp_ser.specs.Compound.{Open, Holds, HoldsFields, RefusesNamed, Complete, BeginsWith, is_map}
+use Rattle.amqp_ser.specs.Compound.{Open, Holds, HoldsFields, RefusesNamed, Complete, BeginsWith, EndsWhole, EndsStruct, lacking, is_map}
 use Rattle.amqp_ser.proofs.Compounds.{begins_rest, begins_front}
 
 -- no name is without its value
@@ -105,15 +105,24 @@ list_of s fs q h other = list_else s.setting (λ e. other (h.shape_is ∙ e))
 pub pair_more : (s : State) (shape : Shape) (xs : List Item) (k v : Item) (q : Open) → Holds s shape ((xs ++ k ∷ []) ++ v ∷ []) q → Holds s shape (xs ++ k ∷ v ∷ []) q
 pair_more s shape xs k v q h = subst (λ ys. Holds s shape ys q) (append_assoc xs (k ∷ []) (v ∷ [])) h
 
--- the end, by what is known of it where the parts are keys and values, and where they aren't
-pub end_wrote : {A : Type 0} (r : Result A Error) (q : Open) (t : State) → ((pairs : Bool) → OnOk r ((s : State) (shape : Shape) (xs : List Item) → Holds s shape xs (record q { pairs = pairs }) → Complete pairs xs → Wrote s (whole shape xs) t))
-    → OnOk r ((s : State) (fs : List FieldItem) → HoldsFields s fs q → Wrote s (struct_item s.setting fs) t)
-unfolding struct_item HoldsFields
-end_wrote (Ok x) q t k = λ s fs h. k (is_map (struct_shape s.setting)) s (struct_shape s.setting) _ h (fields_complete (struct_shape s.setting) fs)
-end_wrote (Err e) q t k = tt
+-- nothing is lacking where there are fields
+fields_lack : (setting : Setting) (fs : List FieldItem) → lacking (struct_shape setting) (fields_parts (struct_shape setting) fs) ≡ None
+fields_lack Plain fs = refl
+fields_lack Symbol fs = refl
+fields_lack DescribedList fs = refl
+fields_lack DescribedMap fs = rw (fields_complete Shape.Fields fs) refl
+fields_lack DescribedBasic fs = refl
 
-pub end_refused : {A : Type 0} (r : Result A Error) (q : Open) (t : State) → ((pairs : Bool) → IfErr r (λ e. (s : State) (shape : Shape) (xs : List Item) → Holds s shape xs (record q { pairs = pairs }) → Complete pairs xs → Refused s (whole shape xs) e t))
-    → IfErr r (λ e. (s : State) (fs : List FieldItem) → HoldsFields s fs q → Refused s (struct_item s.setting fs) e t)
+-- the end of a struct, by what is known of it where the parts are keys and values, and where they aren't
+end_wrote : {A : Type 0} (r : Result A Error) (q : Open) (o t : State) → ((pairs : Bool) → EndsWhole (record q { pairs = pairs }) o r t) → OnOk r ((s : State) (fs : List FieldItem) → HoldsFields s fs q → Wrote s (struct_item s.setting fs) t)
 unfolding struct_item HoldsFields
-end_refused (Ok x) q t k = tt
-end_refused (Err e) q t k = λ s fs h. k (is_map (struct_shape s.setting)) s (struct_shape s.setting) _ h (fields_complete (struct_shape s.setting) fs)
+end_wrote (Ok x) q o t law = λ s fs h. (law (is_map (struct_shape s.setting))).ok s (struct_shape s.setting) _ h
+end_wrote (Err e) q o t law = tt
+
+end_refused : {A : Type 0} (r : Result A Error) (q : Open) (o t : State) → ((pairs : Bool) → EndsWhole (record q { pairs = pairs }) o r t) → IfErr r (λ e. (s : State) (fs : List FieldItem) → HoldsFields s fs q → Refused s (struct_item s.setting fs) e t)
+unfolding struct_item HoldsFields
+end_refused (Ok x) q o t law = tt
+end_refused (Err e) q o t law = λ s fs h. (law (is_map (struct_shape s.setting))).err s (struct_shape s.setting) _ h (fields_lack s.setting fs)
+
+pub ends_struct : {A : Type 0} (r : Result A Error) (q : Open) (o t : State) → ((pairs : Bool) → EndsWhole (record q { pairs = pairs }) o r t) → EndsStruct q r t
+ends_struct r q o t law = record { ok = end_wrote r q o t law; err = end_refused r q o t law }

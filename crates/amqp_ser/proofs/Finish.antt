@@ -14,8 +14,6 @@ use Rattle.amqp_ser.specs.Passes.{IsSize}
 use Rattle.amqp_ser.specs.State.{State, Planned, Measured, unmarked, contents_in, plan_in, measure_in}
 use Rattle.amqp_ser.specs.Texts.{HasNoText, why_unwritten}
 use Rattle.amqp_ser.specs.Law.{Wrote, Refused, marked, begins, is_next, fits, text_for, plan_after, measure_after}
-use Rattle.amqp_write.proofs.Steps.{Free}
-use Rattle.amqp_ser.proofs.Compounds.{text_free}
 
 from_none : (a b : Option (List ℕ)) (more ys : List ℕ) → a ≡ Some [] → b ≡ Some ys → Appends a b more → ys ≡ more
 from_none a b more ys h k l = rw (h, k) at l

@@ -1,10 +1,10 @@
 -- A compound that is opened.
-use Rattle.std.proofs.Common.{◌≡◌, ◌<◌, ◌^◌, ℕ, List, [], ◌∷◌, ◌++◌, length, min, set, refl, sym, ◌∙◌, ap, subst, arith, Option, Some, None, true, false, Bool, Ok}
+use Rattle.std.proofs.Common.{◌≡◌, ◌<◌, ◌^◌, ℕ, List, [], ◌∷◌, ◌++◌, length, min, refl, sym, ◌∙◌, ap, subst, arith, Option, Some, None, true, false, Bool, Ok}
 use Rattle.std.proofs.lemmas.List.{append-nil}
 use Rattle.amqp_base.specs.Wire.{Constructor, under}
 use Rattle.amqp_base.specs.Shapes.{setting_inside}
 use Rattle.amqp_base.specs.Sizes.{Size}
-use Rattle.amqp_base.specs.Passes.{MakesRoom, SetsSize, IsCounted, TakesNext, IsWritten}
+use Rattle.amqp_base.specs.Passes.{MakesRoom, IsCounted, TakesNext, IsWritten}
 use Rattle.amqp_base.specs.declared.error.Error.{Error}
 use Rattle.amqp_base.specs.declared.shape.Shape.{Shape}
 use Rattle.amqp_base.specs.declared.fault.Size.{Size as CodeSize}
@@ -12,7 +12,7 @@ use Rattle.amqp_ser.specs.State.{State, Planned, Measured, size_in, contents_in,
 use Rattle.amqp_ser.specs.Law.{found_after, plan_after, measure_after, Goes}
 use Rattle.amqp_write.specs.Appending.{Pays}
 use Rattle.amqp_write.specs.declared.pass.Opened.{Opened}
-use Rattle.amqp_ser.specs.Compound.{Open, Back, back, Empty, Run, Holds, Begun, Lent, is_map, next_mark, shape_code, head_text}
+use Rattle.amqp_ser.specs.Compound.{Open, Back, back, Run, Holds, Begun, Lent, is_map, next_mark, shape_code, head_text}
 use Rattle.amqp_write.proofs.Steps.{fits_nil}
 use Rattle.amqp_write.proofs.Bytes.{appends_none}
 use Rattle.amqp_ser.proofs.Compounds.{run_none}

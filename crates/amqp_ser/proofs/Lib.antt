@@ -1,4 +1,5 @@
 pub mod Compounds
+pub mod Ends
 pub mod FieldParts
 pub mod Finish
 pub mod MapPairs

@@ -20,7 +20,7 @@ use Rattle.amqp_write.proofs.Steps.{fits_nil, wrote_pays, refused_pays, kept_two
 use Rattle.amqp_write.proofs.WhyTexts.{body_why}
 use Rattle.amqp_write.proofs.Lengths.{parts_fit}
 use Rattle.amqp_write.proofs.TextOf.{whole_none}
-use Rattle.amqp_write.proofs.Heads.{whole_head, head_none, total, bool_cases}
+use Rattle.amqp_write.proofs.Heads.{whole_head, total, bool_cases}
 use Rattle.amqp_ser.proofs.Compounds.{kept_begun, full_refuses, whole_of_some, whole_of_none, whole_sizes, whole_code, none_text}
 
 measures : (s : State) (shape : Shape) (k : Opened) (at before : ℕ) (o start : State) → k ≡ Opened.Measured at before → Begun shape s k o start → Measures s at before o start

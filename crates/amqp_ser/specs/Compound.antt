@@ -1,15 +1,15 @@
 -- What contracts see of an open compound.
-use Rattle.std.specs.Prelude.{◌≡◌, ◌⊎◌, ◌-◌, ◌<◌, Ok, ℕ, ◌≤◌, ◌+◌, ◌++◌, set, Bool, true, false, List, [], ◌∷◌, length, Option, Some, None, Result, Err, IfErr, OnErr, OnOk}
+use Rattle.std.specs.Prelude.{◌≡◌, ◌⊎◌, ◌-◌, ◌<◌, Ok, ℕ, ◌≤◌, ◌+◌, ◌++◌, set, Bool, true, false, List, [], ◌∷◌, ◌==◌, ◌%◌, if◌then◌else◌, length, Option, Some, None, Result, Err, IfErr, OnErr, OnOk}
 use Rattle.std.specs.declared.io.Write as Write
 use Rattle.std.specs.declared.vec.Vec.{Vec}
 use Rattle.std.specs.Global.{Global}
 use Rattle.amqp_base.specs.declared.fault.FaultCount as FaultCount
 use Rattle.amqp_base.specs.declared.error.Error.{Error}
-use Rattle.amqp_base.specs.declared.error.Error.TheVariants.{InvalidValue}
+use Rattle.amqp_base.specs.declared.error.Error.TheVariants.{InvalidValue, InvalidLength, SequenceLengthMismatch}
 use Rattle.amqp_base.specs.Item.{Item, items_of}
 use Rattle.amqp_base.specs.Wire.{Constructor, under}
 use Rattle.amqp_base.specs.Shapes.{whole, setting_inside}
-use Rattle.amqp_base.specs.Structs.{FieldItem, struct_shape, fields_parts, is_described_name}
+use Rattle.amqp_base.specs.Structs.{FieldItem, struct_item, struct_shape, fields_parts, is_described_name}
 use Rattle.amqp_base.specs.Sizes.{Size, sizes_in}
 use Rattle.amqp_ser.specs.State.{State, answering, Planned, Measured, size_in, Mark, unmarked, state, mark_of, found_of, contents_in, plan_in, measure_in}
 use Rattle.amqp_write.specs.declared.pass.Opened.{Opened}
@@ -22,11 +22,8 @@ use Rattle.amqp_base.specs.declared.fault.Size.{Size as CodeSize}
 use Rattle.amqp_base.specs.declared.shape.Setting.{Setting}
 use Rattle.amqp_base.specs.declared.error.Error.TheVariants.{OutOfMemory}
 use Rattle.amqp_write.specs.Appending.{Pays}
-use Rattle.amqp_ser.specs.declared.seq.SeqSerializer.{SeqSerializer}
-use Rattle.amqp_ser.specs.declared.tuples.TupleSerializer.{TupleSerializer}
-use Rattle.amqp_ser.specs.declared.map.MapSerializer.{MapSerializer}
-use Rattle.amqp_ser.specs.declared.tuple_structs.TupleStructSerializer.{TupleStructSerializer}
-use Rattle.amqp_ser.specs.declared.structs.StructSerializer.{StructSerializer}
+use Rattle.amqp_ser.specs.declared.compound.Compound.{Compound}
+use Rattle.amqp_ser.specs.declared.compound.Entries.{Entries}
 use Rattle.amqp_ser.specs.declared.serializer.Serializer.{Serializer}
 use Rattle.amqp_base.specs.declared.shape.Shape.{Shape}
 
@@ -81,21 +78,15 @@ outer_of (Opened.Written size from) o b = back b o
 abbrev pub open_parts : Bool → State → Parts → Open
 open_parts pairs o p = record { pairs = pairs; shape = p.shape; outer = outer_of p.opened o (outer_in p.outer); inner = inner_of p.opened o p.buffer; count = p.count; opened = p.opened }
 
-unfoldable pub open_state : {W : Type 0} → Write.Ghosts W → FaultCount.Ghosts W → SeqSerializer W Parts → Open
-open_state w f q = open_parts false (state w f q.ser.now) q.parts
+-- a compound, whose parts are keys and values in turn or not: of a struct's only its serializer's setting says it
+unfoldable pub open_as : {W F : Type 0} → Bool → Write.Ghosts W → FaultCount.Ghosts W → Compound W F Parts → Open
+open_as pairs w f q = open_parts pairs (state w f q.ser.now) q.parts
 
-unfoldable pub tuple_state : {W : Type 0} → Write.Ghosts W → FaultCount.Ghosts W → TupleSerializer W Parts → Open
-tuple_state w f q = open_parts false (state w f q.ser.now) q.parts
+abbrev pub open_state : {W F : Type 0} → Write.Ghosts W → FaultCount.Ghosts W → Compound W F Parts → Open
+open_state w f q = open_as false w f q
 
-unfoldable pub map_state : {W : Type 0} → Write.Ghosts W → FaultCount.Ghosts W → MapSerializer W Parts → Open
-map_state w f q = open_parts true (state w f q.ser.now) q.parts
-
-unfoldable pub tuple_struct_state : {W : Type 0} → Write.Ghosts W → FaultCount.Ghosts W → TupleStructSerializer W Parts → Open
-tuple_struct_state w f q = open_parts false (state w f q.ser.now) q.parts
-
--- whether the parts of a struct are keys and values only its serializer's setting says
-unfoldable pub struct_state : {W : Type 0} → Write.Ghosts W → FaultCount.Ghosts W → StructSerializer W Parts → Open
-struct_state w f q = open_parts false (state w f q.ser.now) q.parts
+abbrev pub map_state : {W : Type 0} → Write.Ghosts W → FaultCount.Ghosts W → Compound W Entries Parts → Open
+map_state w f q = open_as true w f q
 
 -- what a buffer is at first
 pub record Empty (u : State) : Type 0 where
@@ -183,6 +174,11 @@ pub record Holds (s : State) (shape : Shape) (xs : List Item) (q : Open) : Type 
 unfoldable pub HoldsFields : State → List FieldItem → Open → Type 0
 HoldsFields s fs q = Holds s (struct_shape s.setting) (fields_parts (struct_shape s.setting) fs) (record q { pairs = is_map (struct_shape s.setting) })
 
+-- the struct of a compound q was written, or refused; then its serializer is in the state t
+pub record EndsStruct {A : Type 0} (q : Open) (r : Result A Error) (t : State) : Type 0 where
+  pub ok : OnOk r ((s : State) (fs : List FieldItem) → HoldsFields s fs q → Wrote s (struct_item s.setting fs) t)
+  pub err : IfErr r (λ e. (s : State) (fs : List FieldItem) → HoldsFields s fs q → Refused s (struct_item s.setting fs) e t)
+
 -- no compound was opened: so any whole is refused
 pub record RefusesOpen {A : Type 0} (shape : Shape) (s : State) (r : Result A Error) (t : State) : Type 0 where
   pub law : IfErr r (λ e. (xs : List Item) → Refused s (whole shape xs) e t)
@@ -212,6 +208,33 @@ IsEnded q = q.inner.ended ≡ true
 pub record EndsCompound {A : Type 0} (q : Open) (r : Result A Error) (p : Open) : Type 0 where
   pub err : OnErr r (IsEnded p)
   pub ended : IsEnded q → (r ≡ Err InvalidValue) × (p ≡ q)
+
+-- what a whole of these parts lacks, which is refused before anything of it is written
+abbrev pub lacking : Shape → List Item → Option Error
+lacking Shape.List xs = None
+lacking Shape.Array xs = None
+lacking (Shape.Tuple n) xs = if length xs == n then None else Some SequenceLengthMismatch
+lacking Shape.Map xs = if awaits_value xs then Some InvalidLength else None
+lacking Shape.Fields xs = if awaits_value xs then Some InvalidLength else None
+
+-- the same by the number of the parts
+abbrev pub lacks_value : ℕ → Option Error
+lacks_value k = if k % 2 == 1 then Some InvalidLength else None
+
+abbrev pub lacks : Shape → ℕ → Option Error
+lacks Shape.List k = None
+lacks Shape.Array k = None
+lacks (Shape.Tuple n) k = if k == n then None else Some SequenceLengthMismatch
+lacks Shape.Map k = lacks_value k
+lacks Shape.Fields k = lacks_value k
+
+-- the whole of a compound q, whose serializer is in the state o, was written, or refused; then its serializer is in the state t
+pub record EndsWhole {A : Type 0} (q : Open) (o : State) (r : Result A Error) (t : State) : Type 0 where
+  pub ok : OnOk r ((s : State) (shape : Shape) (xs : List Item) → Holds s shape xs q → Wrote s (whole shape xs) t)
+  pub err : IfErr r (λ e. (s : State) (shape : Shape) (xs : List Item) → Holds s shape xs q → lacking shape xs ≡ None → Refused s (whole shape xs) e t)
+  pub kept : Kept o t
+  pub stays_ended : OnErr r (o.ended ≡ true → t.ended ≡ true)
+  pub ended : IsEnded q → r ≡ Err InvalidValue
 
 -- where a part outside arrays is written on the serializer that its compound holds
 abbrev pub outside_in : Shape → State → State

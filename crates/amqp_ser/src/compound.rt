@@ -1,7 +1,7 @@
 //! What is common to all compounds: their parts so far.
 
 ghost use Rattle.std.specs.Prelude.{◌≡◌, ◌≢◌, ◌+◌, ◌==◌, ◌%◌, ◌++◌};
-ghost use Rattle.std.specs.Prelude.{◌∷◌, ℕ, Bool, List, [], true, false, IfOk, IfErr, OnOk};
+ghost use Rattle.std.specs.Prelude.{Some, None, ◌∷◌, ℕ, Bool, List, [], true, false, IfOk, IfErr, OnOk};
 ghost use Rattle.std.specs.Prelude.{OnErr, Err};
 ghost use Rattle.amqp_base.specs.Item.{Item};
 ghost use Rattle.amqp_base.specs.Shapes.{whole, setting_inside};
@@ -10,7 +10,8 @@ ghost use Rattle.amqp_write.specs.declared.pass.Opened.TheVariants.{Buffered as 
 ghost use Rattle.amqp_ser.specs.Law.{Refused};
 ghost use Rattle.amqp_ser.specs.Compound.{the_buffer, open_parts, awaits_value, Empty, Run, Holds};
 ghost use Rattle.amqp_ser.specs.Compound.{Complete, BeginsWith, EndsCompound, Keeps};
-ghost use Rattle.amqp_ser.specs.Compound.{WritesPart, part_in, outside_in};
+ghost use Rattle.amqp_ser.specs.Compound.{WritesPart, WritesEach, EndsWhole, EndsStruct, part_in, outside_in};
+ghost use Rattle.amqp_ser.specs.Compound.{open_state, open_as, lacking, lacks, lacks_value};
 
 use crate::{Serialize, Serializer};
 use amqp_base::{EncodingCodes, Error, Pass, Setting, Shape, Sink};
@@ -34,6 +35,48 @@ pub struct Parts {
     pub(crate) outer: Outer,
 }
 
+/// A compound that is being written, part by part. Until its `end` succeeded its serializer answers
+/// nothing but `InvalidValue`, also where it is dropped; over a caller's writer nothing of it
+/// reaches the writer before.
+pub struct Compound<'a, W, F, B = Parts> {
+    pub(crate) ser: &'a mut Serializer<W>,
+    pub(crate) parts: B,
+    pub(crate) form: F,
+}
+
+impl<W, F: Drop, B: Drop> Drop for Compound<'_, W, F, B> {
+    fn drop(self)
+        ensures { self.exit.0.now ≡ self.entry.ser.now }
+    {
+        let Compound {
+            ser,
+            parts: _,
+            form: _,
+        } = self;
+        let _ = ser; // which answers nothing still
+    }
+}
+
+/// The parts of a compound are the elements of a list or an array.
+#[derive(Clone, Copy)]
+pub struct Elements;
+
+/// The parts of a compound are those of a tuple, just so many as were announced.
+#[derive(Clone, Copy)]
+pub struct Announced;
+
+/// The parts of a compound are keys and values in turn.
+#[derive(Clone, Copy)]
+pub struct Entries;
+
+/// The parts of a compound are the fields of a tuple struct.
+#[derive(Clone, Copy)]
+pub struct Unnamed;
+
+/// The parts of a compound are the fields of a struct, each under its name.
+#[derive(Clone, Copy)]
+pub struct Named;
+
 /// What a serializer is to have again when its compound has ended. An enum: what a proof of a
 /// caller looks into by itself are structs, and it stops at so many.
 #[derive(Clone, Copy)]
@@ -44,6 +87,58 @@ pub(crate) enum Outer {
         mark: Mark,
         found: Option<EncodingCodes>,
     },
+}
+
+impl<'a, W: Sink, F: Drop> Compound<'a, W, F> {
+    /// Writes one more part, which isn't under the name of a field. It is refused as the part's own
+    /// `serialize`; then the compound answers `InvalidValue` to all that follows, `end` too.
+    #[inline(always)]
+    pub(crate) fn write_next<T: Serialize>(&mut self, alloc: Global, value: &T) -> Result<(), Error>
+        ensures same_reference { self.new.ser.ghost_name ≡ self.old.ser.ghost_name }
+        ensures law { WritesEach (T.meaning.item value.now Setting.Plain ∷ [])
+            (open_state W.Write W.FaultCount self.old) result
+            (state W.Write W.FaultCount self.new.ser.now)
+            (open_state W.Write W.FaultCount self.new) }
+    {
+        match write_part(&mut *self.ser, &mut self.parts, alloc, value) {
+            Ok(()) => Ok(()),
+            Err(e) => Err(e),
+        }
+    }
+
+    /// Writes the whole: its code, its size, the number of its parts, and them (a list without
+    /// parts is the byte 45). Only then does its serializer answer again.
+    ///
+    /// `SequenceLengthMismatch`: a tuple has another number of parts than was announced;
+    /// `InvalidLength`: the last key of a map has no value. Then nothing is written. `Io(Other)`:
+    /// the parts have more than 4,294,967,291 bytes. `InvalidValue`: a part was refused, or the
+    /// array that the whole is to stand in has elements under another constructor.
+    #[inline(always)]
+    pub fn end(self) -> Result<(), Error>
+        ensures law { (pairs : Bool) → EndsWhole (open_as pairs W.Write W.FaultCount self.entry)
+            (state W.Write W.FaultCount self.entry.ser.now) result
+            (state W.Write W.FaultCount self.exit.0.now) }
+        ensures lacking { (pairs : Bool) (s : State) (shape : Shape) (xs : List Item) (e : Error) →
+            Holds s shape xs (open_as pairs W.Write W.FaultCount self.entry) →
+            lacking shape xs ≡ Some e →
+            (result ≡ Err e) × (self.exit.0.now ≡ self.entry.ser.now) }
+        ensures fields { EndsStruct (open_state W.Write W.FaultCount self.entry) result
+            (state W.Write W.FaultCount self.exit.0.now) }
+    {
+        let Compound {
+            ser,
+            parts,
+            form: _,
+        } = self;
+        if parts.buffer.place.ended {
+            return Err(refused(Refusal::InvalidValue));
+        }
+        match parts.lacks() {
+            Some(e) => return Err(e),
+            None => {}
+        }
+        ser.close(parts)
+    }
 }
 
 /// Writes one more part: to its buffer, or as it comes. It is refused as the part's own
@@ -247,15 +342,35 @@ impl Parts {
         })
     }
 
-    /// Whether there are as many parts as were announced.
+    /// What is missing: parts of a tuple, or the value of a key.
     #[inline(always)]
-    pub(crate) fn is_full(&self) -> bool
-        ensures { (n : ℕ) → self.now.shape ≡ Shape.Tuple n →
-            result ≡ (self.now.count == n) }
+    pub(crate) fn lacks(&self) -> Option<Error>
+        ensures { result ≡ lacks self.now.shape self.now.count }
     {
         match self.shape {
-            Shape::Tuple(len) => self.count == len,
-            _ => true,
+            Shape::List => None,
+            Shape::Array => None,
+            Shape::Tuple(len) => {
+                if self.count == len {
+                    None
+                } else {
+                    Some(Error::SequenceLengthMismatch)
+                }
+            }
+            Shape::Map => self.lacks_value(),
+            Shape::Fields => self.lacks_value(),
+        }
+    }
+
+    /// What is missing where the parts are keys and values in turn.
+    #[inline(always)]
+    fn lacks_value(&self) -> Option<Error>
+        ensures { result ≡ lacks_value self.now.count }
+    {
+        if self.awaits_value() {
+            Some(Error::InvalidLength)
+        } else {
+            None
         }
     }
 

@@ -6,7 +6,7 @@ ghost use Rattle.amqp_base.specs.Structs.{FieldItem, named, struct_item, is_desc
 ghost use Rattle.amqp_base.specs.Structs.{is_descriptor_name, struct_shape};
 ghost use Rattle.amqp_ser.specs.State.{State, state};
 ghost use Rattle.amqp_ser.specs.Law.{Wrote, Refused};
-ghost use Rattle.amqp_ser.specs.Compound.{struct_state, HoldsFields, BeginsWith};
+ghost use Rattle.amqp_ser.specs.Compound.{open_state, HoldsFields, BeginsWith};
 
 use crate::compound::write_part;
 use crate::structs::is_name;
@@ -40,11 +40,11 @@ pub trait StructFields: Drop {
         ensures same_reference { out.new.ser.ghost_name ≡ out.old.ser.ghost_name }
         ensures ok { OnOk result ((s : State) (fs : List FieldItem) →
             struct_shape s.setting ≡ Shape.List →
-            HoldsFields s fs (struct_state W.Write W.FaultCount out.old) →
-            HoldsFields s (fs ++ Self.items self.now) (struct_state W.Write W.FaultCount out.new)) }
+            HoldsFields s fs (open_state W.Write W.FaultCount out.old) →
+            HoldsFields s (fs ++ Self.items self.now) (open_state W.Write W.FaultCount out.new)) }
         ensures err { IfErr result (λ e. (s : State) (fs all : List FieldItem) →
             struct_shape s.setting ≡ Shape.List →
-            HoldsFields s fs (struct_state W.Write W.FaultCount out.old) →
+            HoldsFields s fs (open_state W.Write W.FaultCount out.old) →
             BeginsWith all (fs ++ Self.items self.now) → Refused s (struct_item s.setting all) e
             (state W.Write W.FaultCount out.new.ser.now)) };
 
@@ -52,11 +52,11 @@ pub trait StructFields: Drop {
     fn write<W: Sink>(&self, alloc: Global, out: &mut StructSerializer<'_, W>) -> Result<(), Error>
         ensures same_reference { out.new.ser.ghost_name ≡ out.old.ser.ghost_name }
         ensures ok { OnOk result ((s : State) (fs : List FieldItem) →
-            HoldsFields s fs (struct_state W.Write W.FaultCount out.old) →
-            HoldsFields s (fs ++ Self.items self.now) (struct_state W.Write W.FaultCount out.new)) }
+            HoldsFields s fs (open_state W.Write W.FaultCount out.old) →
+            HoldsFields s (fs ++ Self.items self.now) (open_state W.Write W.FaultCount out.new)) }
         ensures err { IfErr result (λ e. IsTrue (Self.usual self.now) →
             (s : State) (fs all : List FieldItem) →
-            HoldsFields s fs (struct_state W.Write W.FaultCount out.old) →
+            HoldsFields s fs (open_state W.Write W.FaultCount out.old) →
             BeginsWith all (fs ++ Self.items self.now) → Refused s (struct_item s.setting all) e
             (state W.Write W.FaultCount out.new.ser.now)) };
 }

@@ -1,5 +1,5 @@
 //! Writing values in the AMQP 1.0 encoding (OASIS AMQP 1.0 part 1, sections 1.2 to 1.6).
-#![tactic(auto, unfolding(crate::specs::State::state, amqp_write::specs::State::stand, crate::specs::Compound::open_state, crate::specs::Compound::tuple_state, crate::specs::Compound::map_state, crate::specs::Compound::tuple_struct_state, crate::specs::Compound::struct_state))]
+#![tactic(auto, unfolding(crate::specs::State::state, amqp_write::specs::State::stand, crate::specs::Compound::open_as))]
 
 mod blocks;
 mod compound;
@@ -26,7 +26,7 @@ mod tuples;
 mod unsigned;
 
 pub use amqp_write::Measure;
-pub use compound::Parts;
+pub use compound::{Announced, Compound, Elements, Entries, Named, Parts, Unnamed};
 pub use fields::{Struct, StructFields, Written};
 pub use map::MapSerializer;
 pub use measured::{measure, measured_size, measured_vec, write_measured};

@@ -7,12 +7,12 @@ ghost use Rattle.amqp_base.specs.Item.{Item, items_of};
 ghost use Rattle.amqp_base.specs.Shapes.{whole};
 ghost use Rattle.amqp_ser.specs.State.{State, state};
 ghost use Rattle.amqp_ser.specs.Law.{Wrote, Refused, Kept};
-ghost use Rattle.amqp_ser.specs.Compound.{tuple_state, parts_text, RefusesOpen, Holds, Keeps};
-ghost use Rattle.amqp_ser.specs.Compound.{BeginsWith, EndsCompound, IsEnded};
+ghost use Rattle.amqp_ser.specs.Compound.{open_state, parts_text, RefusesOpen, Holds, Keeps};
+ghost use Rattle.amqp_ser.specs.Compound.{BeginsWith, WritesEach};
 ghost use Rattle.amqp_ser.specs.contracts.serializer.Serializer.{the_row};
 
-use crate::compound::write_part;
-use crate::{Parts, Serialize, Serializer};
+use crate::compound::{Announced, Compound, write_part};
+use crate::{Serialize, Serializer};
 use amqp_base::{Error, Setting, Shape, Sink};
 use amqp_write::{Refusal, refused};
 use std::alloc::Global;
@@ -20,18 +20,7 @@ use std::alloc::Global;
 /// A tuple that is being written, part by part: a list of just so many elements as were announced.
 /// Nothing of it reaches the writer before `end`. Until `end` succeeded its serializer answers
 /// nothing but `InvalidValue`, also where it is dropped.
-pub struct TupleSerializer<'a, W, B = Parts> {
-    ser: &'a mut Serializer<W>,
-    parts: B,
-}
-
-impl<W, B: Drop> Drop for TupleSerializer<'_, W, B> {
-    fn drop(self)
-        ensures { self.exit.0.now ≡ self.entry.ser.now }
-    {
-        let TupleSerializer { ser: _, parts: _ } = self;
-    }
-}
+pub type TupleSerializer<'a, W> = Compound<'a, W, Announced>;
 
 impl<W: Sink> Serializer<W> {
     /// Opens a tuple of `len` parts, which is written as a list (section 1.6.22).
@@ -50,10 +39,14 @@ impl<W: Sink> Serializer<W> {
         ensures same_reference { IfOk result (λ q. q.ser.ghost_name ≡ self.entry.ghost_name) }
         ensures held { IfOk result (λ q. (state W.Write W.FaultCount q.ser.now).ended ≡ true) }
         ensures opened { IfOk result (λ q. Holds (state W.Write W.FaultCount self.old)
-            (Shape.Tuple len) [] (tuple_state W.Write W.FaultCount q)) }
+            (Shape.Tuple len) [] (open_state W.Write W.FaultCount q)) }
     {
         match self.begin(alloc, Shape::Tuple(len)) {
-            Ok(parts) => Ok(TupleSerializer { ser: self, parts }),
+            Ok(parts) => Ok(Compound {
+                ser: self,
+                parts,
+                form: Announced,
+            }),
             Err(e) => Err(e),
         }
     }
@@ -66,61 +59,12 @@ impl<'a, W: Sink> TupleSerializer<'a, W> {
     #[inline(always)]
     pub fn serialize_element<T: Serialize>(&mut self, alloc: Global, value: &T) -> Result<(), Error>
         ensures same_reference { self.new.ser.ghost_name ≡ self.old.ser.ghost_name }
-        ensures ok { OnOk result ((s : State) (shape : Shape) (xs : List Item) →
-            Holds s shape xs (tuple_state W.Write W.FaultCount self.old) →
-            Holds s shape (xs ++ T.meaning.item value.now Setting.Plain ∷ [])
-            (tuple_state W.Write W.FaultCount self.new)) }
-        ensures err { IfErr result (λ e. (s : State) (shape : Shape) (xs all : List Item) →
-            Holds s shape xs (tuple_state W.Write W.FaultCount self.old) →
-            BeginsWith all (xs ++ T.meaning.item value.now Setting.Plain ∷ []) →
-            Refused s (whole shape all) e (state W.Write W.FaultCount self.new.ser.now)) }
-        ensures kept { Keeps (tuple_state W.Write W.FaultCount self.old)
-            (tuple_state W.Write W.FaultCount self.new) }
-        ensures stops { EndsCompound (tuple_state W.Write W.FaultCount self.old) result
-            (tuple_state W.Write W.FaultCount self.new) }
+        ensures law { WritesEach (T.meaning.item value.now Setting.Plain ∷ [])
+            (open_state W.Write W.FaultCount self.old) result
+            (state W.Write W.FaultCount self.new.ser.now)
+            (open_state W.Write W.FaultCount self.new) }
     {
-        match write_part(&mut *self.ser, &mut self.parts, alloc, value) {
-            Ok(()) => Ok(()),
-            Err(e) => Err(e),
-        }
-    }
-
-    /// Writes the whole: its code, size and count, and the parts (where there are none, the byte
-    /// 45). Only then does its serializer answer again.
-    ///
-    /// `SequenceLengthMismatch`: another number of parts was written than announced; then nothing
-    /// is written. `Io(Other)`: the parts have more than 4,294,967,291 bytes. `InvalidValue`: a
-    /// part was refused, or the array that the whole is to stand in has elements under another
-    /// constructor.
-    #[inline(always)]
-    pub fn end(self) -> Result<(), Error>
-        ensures ok { OnOk result ((s : State) (n : ℕ) (xs : List Item) →
-            Holds s (Shape.Tuple n) xs (tuple_state W.Write W.FaultCount self.entry) →
-            Wrote s (whole (Shape.Tuple n) xs) (state W.Write W.FaultCount self.exit.0.now)) }
-        ensures err { IfErr result (λ e. (s : State) (n : ℕ) (xs : List Item) →
-            Holds s (Shape.Tuple n) xs (tuple_state W.Write W.FaultCount self.entry) →
-            length xs ≡ n → Refused s (whole (Shape.Tuple n) xs) e
-            (state W.Write W.FaultCount self.exit.0.now)) }
-        ensures mismatch { (s : State) (n : ℕ) (xs : List Item) →
-            Holds s (Shape.Tuple n) xs (tuple_state W.Write W.FaultCount self.entry) →
-            (length xs ≡ n → ⊥) → (result ≡ Err Error.SequenceLengthMismatch) ×
-            (self.exit.0.now ≡ self.entry.ser.now) }
-        ensures kept { Kept (state W.Write W.FaultCount self.entry.ser.now)
-            (state W.Write W.FaultCount self.exit.0.now) }
-        ensures stays_ended { OnErr result (
-            (state W.Write W.FaultCount self.entry.ser.now).ended ≡ true →
-            (state W.Write W.FaultCount self.exit.0.now).ended ≡ true) }
-        ensures ended { IsEnded (tuple_state W.Write W.FaultCount self.entry) →
-            result ≡ Err Error.InvalidValue }
-    {
-        let TupleSerializer { ser, parts } = self;
-        if parts.buffer.place.ended {
-            return Err(refused(Refusal::InvalidValue));
-        }
-        if !parts.is_full() {
-            return Err(Error::SequenceLengthMismatch);
-        }
-        ser.close(parts)
+        self.write_next(alloc, value)
     }
 }
 
@@ -136,10 +80,10 @@ pub trait TupleParts: Drop {
     fn write<W: Sink>(&self, alloc: Global, out: &mut TupleSerializer<'_, W>) -> Result<(), Error>
         ensures same_reference { out.new.ser.ghost_name ≡ out.old.ser.ghost_name }
         ensures ok { OnOk result ((s : State) (shape : Shape) (xs : List Item) →
-            Holds s shape xs (tuple_state W.Write W.FaultCount out.old) →
-            Holds s shape (xs ++ items self.now) (tuple_state W.Write W.FaultCount out.new)) }
+            Holds s shape xs (open_state W.Write W.FaultCount out.old) →
+            Holds s shape (xs ++ items self.now) (open_state W.Write W.FaultCount out.new)) }
         ensures err { IfErr result (λ e. (s : State) (shape : Shape) (xs all : List Item) →
-            Holds s shape xs (tuple_state W.Write W.FaultCount out.old) →
+            Holds s shape xs (open_state W.Write W.FaultCount out.old) →
             BeginsWith all (xs ++ items self.now) →
             Refused s (whole shape all) e (state W.Write W.FaultCount out.new.ser.now)) };
 }

@@ -5,14 +5,14 @@ use Rattle.amqp_base.specs.declared.shape.Setting.TheVariants.{Plain}
 use Rattle.amqp_ser.specs.State.{state}
 use Rattle.amqp_write.specs.State.{stand}
 use Rattle.amqp_ser.specs.Law.{Wrote, Refused}
-use Rattle.amqp_ser.specs.Compound.{open_state, outer_in, outside_in}
+use Rattle.amqp_ser.specs.Compound.{open_as, open_state, outer_in, outside_in}
 use Rattle.amqp_write.proofs.PartTexts.{true_false}
 use Rattle.amqp_ser.proofs.Compounds.{Lives, plain_more, plain_begins, keeps_two, keeps_lives, inner_lives, inner_answers, broken_lives, direct_more, direct_refused, part_outside}
 use Rattle.amqp_ser.proofs.ManyParts.{each_next, each_begins, counted}
 use Rattle.amqp_ser.proofs.each.each_outside.Goals as goal
 
 pub loop-value-preserved : goal.loop-value-preserved
-unfolding state stand open_state
+unfolding state stand open_as
 loop-value-preserved g c =
     let f = λ (x : g.row.T.Denot). g.T.Typed.meaning.item x in
     let vs = c.args.values.now in
@@ -38,7 +38,7 @@ loop-value-preserved g c =
     }
 
 pub returns-in-Err-clause-law : goal.returns-in-Err-clause-law
-unfolding state stand open_state
+unfolding state stand open_as
 returns-in-Err-clause-law g c =
     let f = λ (x : g.row.T.Denot). g.T.Typed.meaning.item x in
     let vs = c.args.values.now in

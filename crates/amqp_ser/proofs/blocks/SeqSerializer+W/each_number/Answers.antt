@@ -6,7 +6,7 @@ use Rattle.amqp_base.specs.Shapes.{whole}
 use Rattle.amqp_ser.specs.State.{State, state}
 use Rattle.amqp_write.specs.State.{stand}
 use Rattle.amqp_ser.specs.Law.{Refused}
-use Rattle.amqp_ser.specs.Compound.{open_state, outer_in}
+use Rattle.amqp_ser.specs.Compound.{open_as, open_state, outer_in}
 use Rattle.amqp_write.proofs.PartTexts.{true_false}
 use Rattle.amqp_write.proofs.Steps.{kept_two}
 use Rattle.amqp_ser.proofs.Compounds.{keeps_lives, kept_open, full_refuses, inner_lives, inner_answers, broken_lives}
@@ -14,7 +14,7 @@ use Rattle.amqp_ser.proofs.NumberParts.{kept_numbers, kept_refused, numbers_more
 use Rattle.amqp_ser.proofs.blocks.SeqSerializer+W.each_number.Goals as goal
 
 pub returns-in-Err-clause-law : goal.returns-in-Err-clause-law
-unfolding state stand open_state
+unfolding state stand open_as
 returns-in-Err-clause-law g c =
     let item = λ (x : g.row.T.Denot). g.T.Typed.meaning.item x Plain in
     let is = map item c.args.values.now in
@@ -34,7 +34,7 @@ returns-in-Err-clause-law g c =
     }
 
 pub returns-in-Some-clause-law : goal.returns-in-Some-clause-law
-unfolding state stand open_state
+unfolding state stand open_as
 returns-in-Some-clause-law g c =
     let item = λ (x : g.row.T.Denot). g.T.Typed.meaning.item x Plain in
     let vs = c.args.values.now in
@@ -56,7 +56,7 @@ returns-in-Some-clause-law g c =
     }
 
 pub returns-in-None-clause-law : goal.returns-in-None-clause-law
-unfolding state stand open_state
+unfolding state stand open_as
 returns-in-None-clause-law g c =
     let item = λ (x : g.row.T.Denot). g.T.Typed.meaning.item x Plain in
     let is = map item c.args.values.now in

@@ -1,5 +1,5 @@
 -- A refused pair refuses the whole.
-use Rattle.std.proofs.Common.{rules, map, ◌∙◌, OnOk, IfErr}
+use Rattle.std.proofs.Common.{rules, true, refl, map, ◌∙◌, OnOk, IfErr}
 use Rattle.std.proofs.lemmas.Result.{on_ok_weaker, IfErr-weaker}
 use Rattle.std.specs.Map.Iter.{deref_pair}
 use Rattle.amqp_base.specs.Maps.{pair_items}
@@ -41,7 +41,7 @@ returns-clause-ok g c =
     let start = c.into_iter-key-iterator.ensures.into_iter_gives ∙ c.iter-key-items.ensures.rest in
     let held = holds_pairs key value _ all c.loop-key.yielded _ _ _ _ _ start c.loop-key.yielded_by c.in-None.is c.next.ensures.steps c.loop-key.invariant.holds in
     moved (λ n. OnOk c.end.result (Wrote (state g.W.Write g.W.FaultCount c.args.ser.now) (whole Shape.Map (pair_items key value all)) (state g.W.Write g.W.FaultCount n))) c.end.new.self.0 _ (search rules)
-    (on_ok_weaker c.end.result (λ wrote. wrote _ (pair_items key value all) held) c.end.ensures.ok)
+    (on_ok_weaker c.end.result (λ wrote. wrote _ Shape.Map (pair_items key value all) held) (c.end.ensures.law true).ok)
 
 pub returns-clause-err : goal.returns-clause-err
 returns-clause-err g c =
@@ -51,4 +51,4 @@ returns-clause-err g c =
     let start = c.into_iter-key-iterator.ensures.into_iter_gives ∙ c.iter-key-items.ensures.rest in
     let held = holds_pairs key value _ all c.loop-key.yielded _ _ _ _ _ start c.loop-key.yielded_by c.in-None.is c.next.ensures.steps c.loop-key.invariant.holds in
     moved (λ n. IfErr c.end.result (λ e. Refused (state g.W.Write g.W.FaultCount c.args.ser.now) (whole Shape.Map (pair_items key value all)) e (state g.W.Write g.W.FaultCount n))) c.end.new.self.0 _ (search rules)
-    (IfErr-weaker c.end.result _ _ (λ e refused. refused _ (pair_items key value all) held (pairs_complete key value all)) c.end.ensures.err)
+    (IfErr-weaker c.end.result _ _ (λ e refused. refused _ Shape.Map (pair_items key value all) held (rw (pairs_complete key value all) refl)) (c.end.ensures.law true).err)

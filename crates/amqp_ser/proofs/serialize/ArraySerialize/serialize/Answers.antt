@@ -1,5 +1,5 @@
 -- A refused element refuses the whole.
-use Rattle.std.proofs.Common.{rules, map, [], IfErr, OnOk}
+use Rattle.std.proofs.Common.{rules, map, [], refl, false, IfErr, OnOk}
 use Rattle.std.proofs.lemmas.Result.{IfErr-weaker, on_ok_weaker}
 use Rattle.amqp_base.specs.declared.shape.Setting.TheVariants.{Plain}
 use Rattle.amqp_base.specs.declared.shape.Shape.{Shape}
@@ -14,7 +14,7 @@ pub returns-in-Err-serialize_each-clause-err : goal.returns-in-Err-serialize_eac
 returns-in-Err-serialize_each-clause-err g c =
     let item = λ (x : g.row.T.Denot). g.T.Typed.meaning.item x Plain in
     let xs = c.args.self.now.0.items in
-    let refused = c.in-Err-serialize_each.ensures.err _ Shape.Array [] (map item xs) c.in-Ok.ensures.opened (rw c.as_slice.ensures.value (begins_itself (map item xs))) in
+    let refused = c.in-Err-serialize_each.ensures.law.err _ Shape.Array [] (map item xs) c.in-Ok.ensures.opened (rw c.as_slice.ensures.value (begins_itself (map item xs))) in
     moved (λ n. Refused (state g.W.Write g.W.FaultCount c.args.ser.now) (whole Shape.Array (map item xs)) c.in-Err-serialize_each.e (state g.W.Write g.W.FaultCount n)) c.serialize_each.new.self.ser.now _ (search rules) refused
 
 -- where the end succeeds, the whole is written
@@ -22,15 +22,15 @@ pub returns-in-Ok-serialize_each-clause-ok : goal.returns-in-Ok-serialize_each-c
 returns-in-Ok-serialize_each-clause-ok g c =
     let item = λ (x : g.row.T.Denot). g.T.Typed.meaning.item x Plain in
     let xs = c.args.self.now.0.items in
-    let held = rw c.as_slice.ensures.value at c.in-Ok-serialize_each.ensures.ok _ Shape.Array [] c.in-Ok.ensures.opened in
+    let held = rw c.as_slice.ensures.value at c.in-Ok-serialize_each.ensures.law.ok _ Shape.Array [] c.in-Ok.ensures.opened in
     moved (λ n. OnOk c.end.result (Wrote (state g.W.Write g.W.FaultCount c.args.ser.now) (whole Shape.Array (map item xs)) (state g.W.Write g.W.FaultCount n))) c.end.new.self.0 _ (search rules)
-    (on_ok_weaker c.end.result (λ wrote. wrote _ Shape.Array (map item xs) held) c.end.ensures.ok)
+    (on_ok_weaker c.end.result (λ wrote. wrote _ Shape.Array (map item xs) held) (c.end.ensures.law false).ok)
 
 -- and so does a refused end
 pub returns-in-Ok-serialize_each-clause-err : goal.returns-in-Ok-serialize_each-clause-err
 returns-in-Ok-serialize_each-clause-err g c =
     let item = λ (x : g.row.T.Denot). g.T.Typed.meaning.item x Plain in
     let xs = c.args.self.now.0.items in
-    let held = rw c.as_slice.ensures.value at c.in-Ok-serialize_each.ensures.ok _ Shape.Array [] c.in-Ok.ensures.opened in
+    let held = rw c.as_slice.ensures.value at c.in-Ok-serialize_each.ensures.law.ok _ Shape.Array [] c.in-Ok.ensures.opened in
     moved (λ n. IfErr c.end.result (λ e. Refused (state g.W.Write g.W.FaultCount c.args.ser.now) (whole Shape.Array (map item xs)) e (state g.W.Write g.W.FaultCount n))) c.end.new.self.0 _ (search rules)
-    (IfErr-weaker c.end.result _ _ (λ e refused. refused _ Shape.Array (map item xs) held) c.end.ensures.err)
+    (IfErr-weaker c.end.result _ _ (λ e refused. refused _ Shape.Array (map item xs) held refl) (c.end.ensures.law false).err)

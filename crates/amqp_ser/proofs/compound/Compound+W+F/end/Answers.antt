@@ -1,0 +1,46 @@
+use Rattle.std.proofs.Common.{refl, sym, ◌∙◌, ap, subst, Err}
+use Rattle.amqp_ser.specs.State.{state}
+use Rattle.amqp_ser.specs.Compound.{open_as, open_parts, EndsWhole}
+use Rattle.amqp_write.proofs.PartTexts.{true_false}
+use Rattle.amqp_ser.proofs.Compounds.{inner_answers, kept_itself}
+use Rattle.amqp_ser.proofs.FieldParts.{ends_struct}
+use Rattle.amqp_ser.proofs.Ends.{ends_whole, ends_lacking, ends_ended, nothing_lacking, is_lacking}
+use Rattle.amqp_ser.proofs.compound.Compound+W+F.end.Goals as goal
+
+pub returns-then-parts-clause-law : goal.returns-then-parts-clause-law
+unfolding open_as
+returns-then-parts-clause-law g c = λ pairs.
+    let o = state g.W.Write g.W.FaultCount c.args.self.ser.now in
+    subst (λ e. EndsWhole (open_parts pairs o c.args.self.parts) o (Err e) o) (sym c.refused.ensures) (ends_ended _ o (inner_answers _ _ _ ∙ c.if-parts.true) (kept_itself o))
+
+pub returns-then-parts-clause-lacking : goal.returns-then-parts-clause-lacking
+unfolding open_as
+returns-then-parts-clause-lacking g c = λ pairs s shape xs e h lack. absurd (true_false (sym (inner_answers _ _ _ ∙ c.if-parts.true) ∙ h.run.answers))
+
+pub returns-in-Some-clause-law : goal.returns-in-Some-clause-law
+unfolding open_as
+returns-in-Some-clause-law g c = λ pairs. ends_lacking _ _ c.in-Some.e (sym c.lacks.ensures ∙ c.in-Some.is) (inner_answers _ _ _ ∙ c.if-parts.false) (kept_itself _)
+
+pub returns-in-Some-clause-lacking : goal.returns-in-Some-clause-lacking
+unfolding open_as
+returns-in-Some-clause-lacking g c = λ pairs s shape xs e h lack. (ap (λ d. Err d) (is_lacking s shape xs _ c.in-Some.e e h (sym c.lacks.ensures ∙ c.in-Some.is) lack), refl)
+
+pub returns-clause-law : goal.returns-clause-law
+unfolding open_as
+returns-clause-law g c = λ pairs. ends_whole _ _ c.close.result _ (sym c.lacks.ensures ∙ c.in-None.is) (inner_answers _ _ _ ∙ c.if-parts.false) (c.close.ensures.ok pairs) (c.close.ensures.err pairs) c.close.ensures.kept c.close.ensures.stays_ended
+
+pub returns-clause-lacking : goal.returns-clause-lacking
+unfolding open_as
+returns-clause-lacking g c = λ pairs s shape xs e h lack. nothing_lacking s shape xs _ e h (sym c.lacks.ensures ∙ c.in-None.is) lack
+
+pub returns-then-parts-clause-fields : goal.returns-then-parts-clause-fields
+unfolding open_as
+returns-then-parts-clause-fields g c = ends_struct _ _ _ _ (returns-then-parts-clause-law g c)
+
+pub returns-in-Some-clause-fields : goal.returns-in-Some-clause-fields
+unfolding open_as
+returns-in-Some-clause-fields g c = ends_struct _ _ _ _ (returns-in-Some-clause-law g c)
+
+pub returns-clause-fields : goal.returns-clause-fields
+unfolding open_as
+returns-clause-fields g c = ends_struct _ _ _ _ (returns-clause-law g c)
