@@ -2,3 +2,4 @@ pub mod Rows
 pub mod Arrays
 pub mod Texts
 pub mod OrderedMaps
+pub mod Descriptors
