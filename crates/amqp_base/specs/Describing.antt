@@ -1,18 +1,22 @@
 -- Described values: a descriptor, and the value behind it (1.1.2, 1.2).
-use Rattle.std.specs.Prelude.{◌≡◌, ℕ, zero, suc, ◌⊎◌, Bool, true, false, ◌&&◌, IsTrue, List, [], ◌∷◌, bytes_eq, Ok, Err}
+use Rattle.std.specs.Prelude.{if◌then◌else◌, ◌≡◌, ℕ, zero, suc, ◌⊎◌, Bool, true, false, ◌&&◌, IsTrue, List, [], ◌∷◌, bytes_eq, Ok, Err}
 use Rattle.std.proofs.Common.{refl, sym, subst, ◌∙◌}
 use Rattle.std.proofs.lemmas.Bool.{eq-eqb}
 use Rattle.amqp_base.specs.declared.error.Error.{Error}
 use Rattle.amqp_base.specs.declared.error.Error.TheVariants.{InvalidFormatCode}
+use Rattle.amqp_base.specs.declared.format_code.EncodingCodes.{EncodingCodes}
 use Rattle.amqp_base.specs.Canon.{same_descriptor}
+use Rattle.amqp_base.specs.Codes.{Kind, row}
+use Rattle.amqp_base.specs.SameKind.{same_kind}
 use Rattle.amqp_base.specs.Item.{Descriptor, name, code, Item, scalar, list, map, array, described}
-use Rattle.amqp_base.specs.Meaning.{Meaning}
-use Rattle.amqp_base.specs.Parse.{Parsed, ◌>>=◌, byte_at, descriptor_at}
-use Rattle.amqp_base.specs.Refusals.{StandsFor}
-use Rattle.amqp_base.specs.Refusing.{Refusing}
+use Rattle.amqp_base.specs.Meaning.{Meaning, Row, tuple_struct_of}
+use Rattle.amqp_base.specs.Parse.{Parsed, ◌>>=◌, byte_at, descriptor_at, item_at, tuple_data}
+use Rattle.amqp_base.specs.ReadBack.{both}
+use Rattle.amqp_base.specs.Refusals.{IsMessage, StandsFor}
+use Rattle.amqp_base.specs.Refusing.{Refusing, PartsRefusing, one_or_other, all_awaited, awaited_count, row_part_refusal}
 use Rattle.amqp_base.specs.Typing.{OneValue}
 use Rattle.amqp_base.specs.Wire.{Constructor, bare, under, under_pair}
-use Rattle.amqp_base.specs.declared.shape.Setting.TheVariants.{DescribedBasic}
+use Rattle.amqp_base.specs.declared.shape.Setting.TheVariants.{Plain, DescribedBasic}
 
 -- any described item
 abbrev pub is_described : Item → Bool
@@ -133,3 +137,58 @@ one_behind means same one (scalar x) v w p q = absurd p
 one_behind means same one (list is) v w p q = absurd p
 one_behind means same one (map ps) v w p q = absurd p
 one_behind means same one (array is) v w p q = absurd p
+
+-- another descriptor is a message; behind this one the value is refused so
+unfoldable pub behind_refusal : Descriptor → Refusing → Refusing
+behind_refusal d behind c s e =
+    ((custom : Error) → StandsFor custom e → describing_at custom c s ≡ Err e)
+    ⊎ DescribedThen (λ f rest. one_or_other (same_descriptor d f.descriptor) (behind f.stands rest e) (IsMessage e)) c s
+
+-- the same values, each written behind this descriptor and read behind it; what stands there is refused so
+abbrev pub under_descriptor : {V : Type 0} → Descriptor → Refusing → Meaning V → Meaning V
+under_descriptor d behind m = record {
+  item = λ v _. described d (m.item v Plain);
+  takes = is_behind d m.takes;
+  means = λ i v. means_behind (λ j. m.means j v) i;
+  same = m.same;
+  refuses = behind_refusal d behind;
+  grows = true;
+  in_described_list = λ _. refl;
+  in_described_basic = λ _. refl;
+  one_value = λ i v w. one_behind m.means m.same m.one_value i v w;
+  sound = m.sound;
+  always_sound = m.always_sound;
+  is_sound = m.is_sound;
+  reads_back = m.reads_back;
+  taken_back = λ r v s. both (same_descriptor d d) (m.takes (m.item v Plain)) (same_as_itself d) (m.taken_back r v s);
+  read_back = λ r v s. m.read_back r v s;
+  never_null = true;
+  not_null = λ _ _. refl;
+}
+
+-- ---- a struct under a descriptor: a list of its fields in order
+
+-- an item of this kind; a code of another kind is a message
+unfoldable pub kind_data : Kind → (EncodingCodes → List ℕ → Parsed ℕ) → Error → EncodingCodes → List ℕ → Parsed ℕ
+kind_data k parse custom e s = if same_kind (row e).kind k then parse e s else Err custom
+
+-- a header stands there, and what follows it is so
+pub record HeaderBehind (parse : Error → EncodingCodes → List ℕ → Parsed ℕ) (later : ℕ → List ℕ → Type 0) (c : Constructor) (s : List ℕ) : Type 0 where
+  pub count : ℕ
+  pub rest : List ℕ
+  pub header : (custom : Error) → item_at (parse custom) c s ≡ Ok (count, rest)
+  pub behind : later count rest
+
+-- by the header, or by what stands behind it
+unfoldable pub header_refusal : (Error → EncodingCodes → List ℕ → Parsed ℕ) → PartsRefusing → Refusing
+header_refusal parse later c s e =
+    ((custom : Error) → StandsFor custom e → item_at (parse custom) c s ≡ Err e)
+    ⊎ HeaderBehind parse (λ n rest. later n rest e) c s
+
+-- behind a descriptor: a list of just as many fields as are awaited
+abbrev pub described_row_refusal : List Bool → List (Item → Bool) → List {1} Refusing → Refusing
+described_row_refusal awaited takes refuses = header_refusal (kind_data Kind.list (tuple_data (awaited_count awaited))) (λ n. row_part_refusal awaited takes refuses)
+
+-- a struct of these fields under a descriptor, as a list
+abbrev pub described_list_of : {V : Type 0} → Descriptor → Row V → Meaning V
+described_list_of d row = under_descriptor d (described_row_refusal (all_awaited row.takes) row.takes row.refuses) (tuple_struct_of row)
