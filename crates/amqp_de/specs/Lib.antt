@@ -13,3 +13,5 @@ pub mod ReadFields
 pub mod Forms
 pub mod Decimals
 pub mod Openings
+pub mod Leading
+pub mod ReadLeading

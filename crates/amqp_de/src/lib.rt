@@ -10,6 +10,7 @@ mod deserialize;
 mod deserializer;
 mod fields;
 mod floats;
+mod leading;
 mod leaf;
 mod list;
 mod map;
