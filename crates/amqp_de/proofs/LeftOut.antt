@@ -20,7 +20,7 @@ use Rattle.amqp_data.proofs.Readings.{takes_then, behind, advances_then, excused
 use Rattle.amqp_de.specs.Access.{Listing, Opens, OpensNot, Part, NoPart, behind_end}
 use Rattle.amqp_de.specs.Decoding.{Decoding, stands_under, as_ended}
 use Rattle.amqp_de.specs.Law.{Front, Found, Missed, Spent, refused_free}
-use Rattle.amqp_de.specs.Leading.{padded, takes_leading, means_leading}
+use Rattle.amqp_base.specs.Leading.{padded, takes_leading, means_leading}
 use Rattle.amqp_de.specs.ReadFields.{Slots, no_slots, slot}
 use Rattle.amqp_de.specs.ReadLeading.{before_null, behind_null, ReadsNull, RefusesNull, LeadingProgress, LeadingRow}
 use Rattle.amqp_de.specs.ReadParts.{PartsRead, and_last, joined}

@@ -17,7 +17,7 @@ use Rattle.amqp_data.proofs.Readings.{behind, excused_before, excused_more}
 use Rattle.amqp_de.specs.Access.{Listing, Opens, OpensExactly, OpensNot, Part, PartNamed, Plain}
 use Rattle.amqp_de.specs.Decoding.{Decoding, stands_under}
 use Rattle.amqp_de.specs.Law.{Front, Named}
-use Rattle.amqp_de.specs.Leading.{of_at_most, leading_data, leading_part_refusal, leading_refusal}
+use Rattle.amqp_base.specs.Leading.{of_at_most, leading_data, leading_part_refusal, leading_refusal}
 use Rattle.amqp_de.specs.ReadLeading.{before_null, behind_null, ReadsNull, LeadingNamed}
 use Rattle.amqp_de.proofs.LeftOut.{is_null_there}
 use Rattle.amqp_de.proofs.NamedParts.{plain_on, part_told, reaches_start, refused_behind, stands_bare}

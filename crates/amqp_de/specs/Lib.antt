@@ -13,5 +13,4 @@ pub mod ReadFields
 pub mod Forms
 pub mod Decimals
 pub mod Openings
-pub mod Leading
 pub mod ReadLeading

@@ -12,7 +12,7 @@ use Rattle.amqp_data.specs.Parts.{HasParts}
 use Rattle.amqp_de.specs.Access.{Listing, Opens, Plain}
 use Rattle.amqp_de.specs.Decoding.{Decoding, as_ended}
 use Rattle.amqp_de.specs.Law.{Found, Missed, Named}
-use Rattle.amqp_de.specs.Leading.{padded, leading_part_refusal}
+use Rattle.amqp_base.specs.Leading.{padded, leading_part_refusal}
 use Rattle.amqp_de.specs.ReadFields.{Slots, all_read}
 use Rattle.amqp_de.specs.ReadParts.{PartsRead, joined}
 

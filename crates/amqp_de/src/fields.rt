@@ -10,7 +10,7 @@ ghost use Rattle.amqp_de.specs.ReadParts.{Progress, open_list};
 ghost use Rattle.amqp_de.specs.ReadFields.{Slots, no_slots, slot, awaits, all_read, HaveValues};
 ghost use Rattle.amqp_de.specs.ReadFields.{FieldRead, NoField, RowRead, ElementsNamed, FieldPicked};
 ghost use Rattle.amqp_de.specs.ReadFields.{FieldNamed};
-ghost use Rattle.amqp_de.specs.Leading.{takes_leading};
+ghost use Rattle.amqp_base.specs.Leading.{takes_leading};
 ghost use Rattle.amqp_de.specs.ReadLeading.{LeadingProgress, LeadingRow, LeadingNamed};
 
 use crate::{Deserialize, ListAccess, MapAccess};
