@@ -27,3 +27,5 @@ pub mod DecimalRead
 pub mod DecimalNames
 pub mod Nulls
 pub mod OneElement
+pub mod BehindDescriptor
+pub mod DescribedRead

@@ -13,3 +13,4 @@ pub mod ReadFields
 pub mod Forms
 pub mod Decimals
 pub mod Openings
+pub mod Describes

@@ -6,6 +6,7 @@ mod array;
 mod blocks;
 mod chosen;
 mod decimals;
+mod described;
 mod deserialize;
 mod deserializer;
 mod fields;
