@@ -29,3 +29,4 @@ pub mod Nulls
 pub mod OneElement
 pub mod BehindDescriptor
 pub mod DescribedRead
+pub mod FieldsBehind

@@ -14,3 +14,4 @@ pub mod Forms
 pub mod Decimals
 pub mod Openings
 pub mod Describes
+pub mod DescribedFields

@@ -7,6 +7,7 @@ mod blocks;
 mod chosen;
 mod decimals;
 mod described;
+mod described_fields;
 mod deserialize;
 mod deserializer;
 mod fields;
