@@ -1,19 +1,13 @@
 -- The constructors of the code, and where the code of the next item is.
-use Rattle.std.specs.Prelude.{ℕ, Option, Some, None, ◌+◌, string_bytes}
-use Rattle.amqp_base.specs.Item.{Descriptor, name, code}
+use Rattle.std.specs.Prelude.{ℕ, Option, Some, None, ◌+◌}
 use Rattle.amqp_base.specs.Codes.{row}
 use Rattle.amqp_base.specs.declared.format_code.Category.{Category}
 use Rattle.amqp_base.specs.declared.format_code.Category.TheVariants.{Fixed, Variable, Compound, Array}
 use Rattle.amqp_base.specs.Wire.{Constructor, bare, under, under_pair}
 use Rattle.amqp_data.specs.declared.constructor.Constructor.{Constructor as OwnConstructor}
 use Rattle.amqp_data.specs.declared.constructor.Constructor.TheVariants.{Bare, Under, UnderPair}
-use Rattle.amqp_data.specs.declared.constructor.Descriptor.{Descriptor as OwnDescriptor}
-use Rattle.amqp_data.specs.declared.constructor.Descriptor.TheVariants.{Name, Code}
 use Rattle.amqp_data.specs.declared.constructor.Limit.{Limit}
-
-abbrev pub descriptor_of : OwnDescriptor → Descriptor
-descriptor_of (Name s) = name (string_bytes s)
-descriptor_of (Code n) = code n
+use Rattle.amqp_types.specs.Descriptors.{descriptor_of}
 
 abbrev pub constructor_of : OwnConstructor → Constructor
 constructor_of Bare = bare

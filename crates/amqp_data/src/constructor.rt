@@ -5,14 +5,8 @@ ghost use Rattle.amqp_base.specs.Codes.{row};
 ghost use Rattle.amqp_data.specs.Places.{constructor_of, least_width, own_width};
 
 use amqp_base::{Category, EncodingCodes};
+use amqp_types::Descriptor;
 use std::convert::TryFrom;
-
-/// A symbol or an ulong.
-#[derive(Debug, Drop)]
-pub enum Descriptor {
-    Name(String),
-    Code(u64),
-}
 
 /// What an item stands under: a code of its own, the code of an array's elements, or their
 /// descriptor and code.

@@ -6,10 +6,11 @@ ghost use Rattle.amqp_base.specs.Parse.{descriptor_data, descriptor_at, primitiv
 ghost use Rattle.amqp_base.specs.Parse.{constructor_at, seq_data, behind_byte};
 ghost use Rattle.amqp_data.specs.Arrays.{TakesDescriptor, TakesConstructor, TakesPrimitive};
 ghost use Rattle.amqp_data.specs.Arrays.{PrimitiveOf, IsArray, Heads, RejectsFor};
-ghost use Rattle.amqp_data.specs.Places.{descriptor_of, constructor_of};
+ghost use Rattle.amqp_data.specs.Places.{constructor_of};
 ghost use Rattle.amqp_data.specs.Steps.{IsData, Rejects};
+ghost use Rattle.amqp_types.specs.Descriptors.{descriptor_of};
 
-use crate::constructor::{Constructor, Descriptor, Limit};
+use crate::constructor::{Constructor, Limit};
 use crate::header::{header, list_count};
 use crate::leaf::Leaf;
 use crate::numbers::byte;
@@ -17,6 +18,7 @@ use crate::payloads::AsSymbol;
 use crate::unsigned::AsUlong;
 use amqp_base::{EncodingCodes, Error};
 use amqp_read::Read;
+use amqp_types::{Descriptor, Symbol};
 use std::alloc::Global;
 use std::convert::TryFrom;
 
@@ -40,7 +42,7 @@ fn symbol_descriptor<R: Read>(alloc: Global, reader: &mut R, code: u8) -> Result
         (R.reading reader.old) (R.reading reader.new) e) }
 {
     match AsSymbol(alloc).read(reader, code) {
-        Ok(text) => Ok(Descriptor::Name(text)),
+        Ok(text) => Ok(Descriptor::Name(Symbol(text))),
         Err(e) => Err(e),
     }
 }
@@ -85,7 +87,7 @@ fn descriptor_behind<R: Read>(alloc: Global, reader: &mut R, code: u8) -> Result
 
 /// A descriptor: a symbol or an ulong with its own code.
 #[inline(never)]
-pub(crate) fn descriptor<R: Read>(alloc: Global, reader: &mut R) -> Result<Descriptor, Error>
+pub fn descriptor<R: Read>(alloc: Global, reader: &mut R) -> Result<Descriptor, Error>
     ensures ok { IfOk result (λ d.
         TakesDescriptor (descriptor_of d) (R.reading reader.old) (R.reading reader.new)) }
     ensures err { IfErr result (λ e. RejectsFor descriptor_at R.buffers (R.reading reader.old)

@@ -14,11 +14,11 @@ mod scalars;
 mod signed;
 mod unsigned;
 
-pub use constructor::{Constructor, Descriptor, Limit, least_width};
+pub use constructor::{Constructor, Limit, least_width};
 pub use decimals::decimal_data;
 pub use floats::{AsDouble, AsFloat};
 pub use header::{list_count, map_count};
-pub use heading::{Heading, seq_heading};
+pub use heading::{Heading, descriptor, seq_heading};
 pub use leaf::Leaf;
 pub use numbers::byte;
 pub use payloads::{AsBinary, AsString, AsSymbol};

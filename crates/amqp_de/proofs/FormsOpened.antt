@@ -56,6 +56,9 @@ byte_none : {A : Type 0} (F : EncodingCodes → List ℕ → Parsed A) (p : Pars
 byte_none F (Err y) x h = let a : y ≡ x = cc in rw a refl
 byte_none F (Ok y) x h = code_none F y.1 (any_code y.0) x h
 
+pub item_none : {A : Type 0} (F : EncodingCodes → List ℕ → Parsed A) (c : Constructor) (s : List ℕ) (x : Error) → code_at c s ≡ Err x → item_at F c s ≡ Err x
+item_none F c s x h = byte_none F (byte_under c s) x h
+
 pub struct_map_data : (len : ℕ) (e : EncodingCodes) (s : List ℕ) → (row e).kind ≡ Kind.map → struct_data len e s ≡ map_data e s
 unfolding struct_data
 struct_map_data len e s h = tell (map_codes e h)

@@ -17,7 +17,7 @@ use Rattle.amqp_read.specs.Reading.{Reading, Takes}
 use Rattle.amqp_data.specs.Excuses.{Excused, Advances}
 use Rattle.amqp_data.specs.Parts.{HasParts, Within, cost}
 use Rattle.amqp_data.proofs.Readings.{takes_then, behind, advances_then, excused_before}
-use Rattle.amqp_de.specs.Access.{Listing, Opens, OpensNot, Part, NoPart, behind_end}
+use Rattle.amqp_de.specs.Access.{Listing, Opens, OpensNot, Part, NoPart, AllRead, NoEnd, behind_end}
 use Rattle.amqp_de.specs.Decoding.{Decoding, stands_under, as_ended}
 use Rattle.amqp_de.specs.Law.{Front, Found, Missed, Spent, refused_free}
 use Rattle.amqp_base.specs.Leading.{padded, takes_leading, means_leading}
@@ -241,3 +241,18 @@ NoneLeft now next = (now.left ≡ 0) × (next ≡ now) × (now.state.ended ≡ f
 
 pub none_is : {old : Decoding} {all rest : List (Item → Bool)} {parts : Items} (now next : Listing) → NoneLeft now next → LeadingProgress old all rest parts now → (next.left ≡ 0) × (next.state.ended ≡ false) × LeadingProgress old all rest parts next
 none_is {old = old} {all = all} {rest = rest} {parts = parts} now next n p = (ap (λ (l : Listing). l.left) n.1 ∙ n.0, ap (λ (l : Listing). l.state.ended) n.1 ∙ n.2, subst (λ (l : Listing). LeadingProgress old all rest parts l) (sym n.1) p)
+
+-- ---- the whole list
+
+-- a list was opened
+pub leading_opened : (old : Decoding) (l : Listing) → Opens HasParts old l → (fields : List (Item → Bool)) → LeadingProgress old fields (fields ++ []) none l
+leading_opened old l o fields = rw append-nil (leading_start old l o fields)
+
+module _ {V : Type 0} {old : Decoding} {fields : List (Item → Bool)} {s t : Slots V} (before now : Listing) where
+  -- its end isn't refused, as nothing is left
+  pub no_leading_end : {last : Decoding} {e : Error} → LeadingRow old fields [] none s t before now → before.left ≤ length s.kinds → NoEnd now last e → ⊥
+  no_leading_end {last} {e} r few n = (read.end_refused old r.progress.from (joined none r.given) now r.progress.opened r.progress.reads last e n).0 (r.none_left few)
+
+  -- these are the values
+  pub leading_values : (ms : List {1} (Item → Type 0)) (last : Decoding) (r : LeadingRow old fields [] none s t before now) → all_meanings ms (padded (length fields) r.given) → before.left ≤ length s.kinds → AllRead now last → Found (takes_leading fields) (λ i. means_leading (length fields) ms i) old last
+  leading_values ms last r m few n = leading_found now ms last r.progress m n.left n.is

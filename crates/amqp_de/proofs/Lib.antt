@@ -29,3 +29,6 @@ pub mod Nulls
 pub mod OneElement
 pub mod LeftOut
 pub mod NamedLeftOut
+pub mod BehindDescriptor
+pub mod DescribedRead
+pub mod FieldsBehind

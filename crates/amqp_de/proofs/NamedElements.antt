@@ -26,14 +26,14 @@ use Rattle.amqp_data.proofs.Readings.{behind, excused_before, excused_more}
 
 -- ---- where a message is called for, the answer has its text; else the answer is the same for all
 
-data Uniform {A : Type 0} (f : Error → Parsed A) : Type 0 where
+pub data Uniform {A : Type 0} (f : Error → Parsed A) : Type 0 where
   for_each : (z : Parsed A) → ((custom : Error) → f custom ≡ z) → Uniform f
   message : ((custom : Error) → f custom ≡ Err custom) → Uniform f
 
-constant : {A : Type 0} (z : Parsed A) → Uniform (λ _. z)
+pub constant : {A : Type 0} (z : Parsed A) → Uniform (λ _. z)
 constant z = for_each z (λ _. refl)
 
-bind : {A B : Type 0} (f : Error → Parsed A) (g : Error → A × List ℕ → Parsed B) → Uniform f → ((x : A × List ℕ) → Uniform (λ custom. g custom x)) → Uniform (λ custom. f custom >>= g custom)
+pub bind : {A B : Type 0} (f : Error → Parsed A) (g : Error → A × List ℕ → Parsed B) → Uniform f → ((x : A × List ℕ) → Uniform (λ custom. g custom x)) → Uniform (λ custom. f custom >>= g custom)
 bind f g (for_each (Ok x) h) u = tell (u x)
   where
     tell : Uniform (λ custom. g custom x) → Uniform (λ custom. f custom >>= g custom)
@@ -46,7 +46,7 @@ or_descriptor : (o : Option Descriptor) (s : List ℕ) → Uniform (λ custom. d
 or_descriptor (Some d) s = for_each (Ok (d, s)) (λ _. refl)
 or_descriptor None s = message (λ _. refl)
 
-of_descriptor : (e : EncodingCodes) (s : List ℕ) → Uniform (λ custom. descriptor_data custom e s)
+pub of_descriptor : (e : EncodingCodes) (s : List ℕ) → Uniform (λ custom. descriptor_data custom e s)
 unfolding descriptor_data
 of_descriptor e s = tell (is_descriptor_kind (row e).kind)
   where
@@ -54,7 +54,7 @@ of_descriptor e s = tell (is_descriptor_kind (row e).kind)
     tell true = bind (λ _. by_category e (row e).category s) (λ custom v. descriptor_or custom (described_by v.0) v.1) (constant _) (λ v. or_descriptor (described_by v.0) v.1)
     tell false = message (λ _. refl)
 
-at_byte : {A : Type 0} (f : Error → EncodingCodes → List ℕ → Parsed A) → ((e : EncodingCodes) (s : List ℕ) → Uniform (λ custom. f custom e s)) → (p : Parsed ℕ) → Uniform (λ custom. p >>= λ b. behind_byte (f custom) b.0 b.1)
+pub at_byte : {A : Type 0} (f : Error → EncodingCodes → List ℕ → Parsed A) → ((e : EncodingCodes) (s : List ℕ) → Uniform (λ custom. f custom e s)) → (p : Parsed ℕ) → Uniform (λ custom. p >>= λ b. behind_byte (f custom) b.0 b.1)
 at_byte f u p = bind (λ _. p) (λ custom b. behind_byte (f custom) b.0 b.1) (constant p) (λ b. bind (λ _. with_rest b.1 (any_code b.0)) (λ custom e. f custom e.0 e.1) (constant _) (λ e. u e.0 e.1))
 
 of_constructor : (s : List ℕ) → Uniform (λ custom. constructor_at custom s)
@@ -80,7 +80,7 @@ of_seq Array32 s = of_array 4 s
 of_seq e s = constant (list_data e s >>= λ n. Ok (list_heading n.0, n.1))
 
 -- so what holds for each message holds for all
-for_all : {A : Type 0} (parse : Error → Parsed A) → Uniform parse → (e : Error) (P : Type 0) → ((custom : Error) → StandsFor custom e → (parse custom ≡ Err e) ⊎ P) → ((custom : Error) → StandsFor custom e → parse custom ≡ Err e) ⊎ P
+pub for_all : {A : Type 0} (parse : Error → Parsed A) → Uniform parse → (e : Error) (P : Type 0) → ((custom : Error) → StandsFor custom e → (parse custom ≡ Err e) ⊎ P) → ((custom : Error) → StandsFor custom e → parse custom ≡ Err e) ⊎ P
 for_all parse (for_each z h) e P n = tell (n e (λ _. refl))
   where
     tell : (parse e ≡ Err e) ⊎ P → ((custom : Error) → StandsFor custom e → parse custom ≡ Err e) ⊎ P

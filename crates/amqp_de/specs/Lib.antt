@@ -14,3 +14,5 @@ pub mod Forms
 pub mod Decimals
 pub mod Openings
 pub mod ReadLeading
+pub mod Describes
+pub mod DescribedFields

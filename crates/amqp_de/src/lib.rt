@@ -6,6 +6,8 @@ mod array;
 mod blocks;
 mod chosen;
 mod decimals;
+mod described;
+mod described_fields;
 mod deserialize;
 mod deserializer;
 mod fields;

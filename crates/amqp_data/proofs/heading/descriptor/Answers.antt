@@ -1,6 +1,6 @@
 use Rattle.amqp_base.specs.Parse.{descriptor_data}
 use Rattle.amqp_base.specs.Parse.{behind_byte}
-use Rattle.amqp_data.specs.Places.{descriptor_of}
+use Rattle.amqp_types.specs.Descriptors.{descriptor_of}
 use Rattle.amqp_data.proofs.Descriptors.{takes_descriptor, behind_first, byte_missing}
 use Rattle.amqp_data.proofs.heading.descriptor.Goals as goal
 

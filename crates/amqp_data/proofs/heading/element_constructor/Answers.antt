@@ -1,4 +1,4 @@
-use Rattle.amqp_data.specs.Places.{descriptor_of}
+use Rattle.amqp_types.specs.Descriptors.{descriptor_of}
 use Rattle.amqp_data.proofs.Descriptors.{under_code, under_descriptor, no_first, no_name, no_code_behind, no_constructor}
 use Rattle.amqp_data.proofs.heading.element_constructor.Goals as goal
 

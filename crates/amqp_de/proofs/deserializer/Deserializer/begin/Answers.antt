@@ -1,5 +1,5 @@
 use Rattle.std.proofs.Common.{refl}
-use Rattle.amqp_data.specs.Places.{descriptor_of}
+use Rattle.amqp_types.specs.Descriptors.{descriptor_of}
 use Rattle.amqp_de.proofs.Begun.{begins_under, begins_pair, front_ok}
 use Rattle.amqp_de.proofs.deserializer.Deserializer.begin.Goals as goal
 

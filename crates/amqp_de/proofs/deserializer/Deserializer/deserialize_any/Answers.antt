@@ -1,5 +1,5 @@
 use Rattle.std.proofs.Common.{refl, rules, ◌≡◌, false}
-use Rattle.amqp_data.specs.Places.{descriptor_of}
+use Rattle.amqp_types.specs.Descriptors.{descriptor_of}
 use Rattle.amqp_de.proofs.Looking.{looks_ahead, looks_under, looks_pair}
 use Rattle.amqp_de.proofs.deserializer.Deserializer.deserialize_any.Goals as goal
 

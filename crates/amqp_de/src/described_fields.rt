@@ -1,0 +1,114 @@
+//! Structs under a descriptor, read by their fields.
+
+ghost use Rattle.std.specs.Prelude.{◌≡◌, false, true, IsTrue, IfOk, IfErr, OnErr};
+ghost use Rattle.amqp_base.specs.Canon.{same_descriptor};
+ghost use Rattle.amqp_base.specs.Codes.{Kind, row};
+ghost use Rattle.amqp_de.specs.DescribedFields.{ListRead, ListMissed, ListBehindNamed};
+ghost use Rattle.amqp_de.specs.DescribedFields.{FieldsBehind, FieldsBehindRefused, FieldsBehindNamed};
+ghost use Rattle.amqp_de.specs.Steps.{Stops};
+ghost use Rattle.amqp_types.specs.Descriptors.{descriptor_of};
+
+use crate::{Deserializer, Fields};
+use amqp_base::{EncodingCodes, Error};
+use amqp_read::Read;
+use amqp_types::Descriptor;
+use std::alloc::Global;
+
+/// Whether a descriptor is the one that is wanted.
+#[inline(always)]
+fn is_wanted(wanted: &Descriptor, found: Descriptor) -> bool
+    ensures { result ≡ same_descriptor (descriptor_of wanted.now) (descriptor_of found) }
+{
+    match wanted {
+        Descriptor::Name(name) => match &found {
+            Descriptor::Name(other) => name.as_str() == other.as_str(),
+            Descriptor::Code(_) => false,
+        },
+        Descriptor::Code(code) => match &found {
+            Descriptor::Name(_) => false,
+            Descriptor::Code(other) => *code == *other,
+        },
+    }
+}
+
+/// Whether a code is a list's.
+#[inline(always)]
+pub(crate) fn is_list(code: EncodingCodes) -> bool
+    ensures yes { IsTrue result → (row code).kind ≡ Kind.list }
+    ensures no { result ≡ false → (row code).kind ≡ Kind.list → ⊥ }
+{
+    match code {
+        EncodingCodes::List0 => true,
+        EncodingCodes::List8 => true,
+        EncodingCodes::List32 => true,
+        _ => false,
+    }
+}
+
+impl<R: Read> Deserializer<R> {
+    /// The fields behind a descriptor.
+    fn read_list_behind<S: Fields<R>>(
+        &mut self,
+        alloc: Global,
+        fields: S,
+    ) -> Result<S::Values, Error>
+        ensures ok { IfOk result (λ vs. ListRead (S.slots fields) vs self.old self.new) }
+        ensures err { IfErr result (λ e. ListMissed (S.slots fields) R.buffers self.old self.new e) }
+        ensures named { IfErr result (λ e. ListBehindNamed (S.slots fields) S.takes S.refuses
+            R.buffers self.old self.new e) }
+        ensures ended { OnErr result (IsTrue self.new.ended) }
+    {
+        match self.deserialize_any() {
+            Ok(code) => {
+                if !is_list(code) {
+                    self.stop();
+                    return Err(Error::custom(alloc, "expected a list behind the descriptor"));
+                }
+                match self.deserialize_leading(alloc, fields) {
+                    Ok(values) => Ok(values),
+                    Err(e) => Err(e),
+                }
+            }
+            Err(e) => Err(e),
+        }
+    }
+
+    /// Reads the fields of a struct under a descriptor (part 1, section 1.2): out of a list behind
+    /// it (section 1.6.22), in order. Their names aren't looked at. Where the list has fewer
+    /// elements, each of the fields that are left is what its type reads from null (section 1.4).
+    ///
+    /// In this order: the refusals of `deserialize_descriptor`, `Message` where the descriptor is
+    /// another one, `Io(UnexpectedEof)` where there is no byte behind it, `InvalidFormatCode` where
+    /// it is no code, `Message` where it is no list's code, the refusals of a list's header,
+    /// `SequenceLengthMismatch` where it has more elements than there are fields, then the refusals
+    /// of the fields. A refusal ends the deserializer.
+    #[inline(always)]
+    pub fn deserialize_described_fields<S: Fields<R>>(
+        &mut self,
+        alloc: Global,
+        descriptor: &Descriptor,
+        fields: S,
+    ) -> Result<S::Values, Error>
+        ensures ok { IfOk result (λ vs. FieldsBehind (descriptor_of descriptor.now)
+            (S.slots fields) vs self.old self.new) }
+        ensures err { IfErr result (λ e. FieldsBehindRefused (descriptor_of descriptor.now)
+            (S.slots fields) R.buffers self.old self.new e) }
+        ensures named { IfErr result (λ e. FieldsBehindNamed (descriptor_of descriptor.now)
+            (S.slots fields) S.takes S.refuses R.buffers self.old self.new e) }
+        ensures stops { Stops self.old result self.new }
+    {
+        match self.deserialize_descriptor(alloc) {
+            Ok(found) => {
+                if !is_wanted(descriptor, found) {
+                    self.stop();
+                    return Err(Error::custom(alloc, "another descriptor"));
+                }
+                match self.read_list_behind(alloc, fields) {
+                    Ok(values) => Ok(values),
+                    Err(e) => Err(e),
+                }
+            }
+            Err(e) => Err(e),
+        }
+    }
+}
