@@ -1,5 +1,5 @@
 -- Fields behind a descriptor.
-use Rattle.std.proofs.Common.{◌≡◌, ℕ, ◌+◌, Bool, true, false, List, ◌++◌, Some, Ok, Err, refl, sym, ap, ◌∙◌, arith, inl, inr, ◌⊎◌, IsTrue}
+use Rattle.std.proofs.Common.{◌≡◌, ℕ, Bool, true, false, List, ◌++◌, Some, Ok, Err, refl, sym, ap, ◌∙◌, arith, inl, inr, ◌⊎◌, IsTrue}
 use Rattle.amqp_base.specs.declared.error.Error.{Error}
 use Rattle.amqp_base.specs.declared.error.Error.TheVariants.{Message, OutOfMemory}
 use Rattle.amqp_base.specs.declared.format_code.EncodingCodes.{EncodingCodes}
@@ -9,7 +9,7 @@ use Rattle.amqp_base.specs.Codes.{Kind, row}
 use Rattle.amqp_base.specs.Describing.{is_described_of, means_described, describing_at, is_behind, means_behind, behind_refusal, kind_data, header_refusal}
 use Rattle.amqp_base.specs.Fields.{takes_fields}
 use Rattle.amqp_base.specs.Item.{Item, scalar, list, map, array, described, Descriptor}
-use Rattle.amqp_base.specs.Parse.{item_at, code_at}
+use Rattle.amqp_base.specs.Parse.{Parsed, item_at, code_at}
 use Rattle.amqp_base.specs.Refusals.{IsCustom, IsMessage, StandsFor}
 use Rattle.amqp_base.specs.Refusing.{Refusing, PartsRefusing, one_or_other, opened_refusal}
 use Rattle.amqp_base.specs.SameKind.{same_kind}

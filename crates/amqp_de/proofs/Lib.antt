@@ -30,3 +30,7 @@ pub mod OneElement
 pub mod BehindDescriptor
 pub mod DescribedRead
 pub mod FieldsBehind
+pub mod StructsBehind
+pub mod NullApart
+pub mod DescribedAhead
+pub mod DescribedEntries
