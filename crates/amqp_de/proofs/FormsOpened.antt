@@ -95,7 +95,7 @@ module _ (old mid : Decoding) (x : EncodingCodes) (l : Looks old mid x) where
       let k = l.exact s at in
       item_data F (stands_under old) s x k.0 k.1 ∙ (same k.0 ∙ (sym (item_data G (stands_under old) s x k.0 k.1) ∙ ap (λ (c : Constructor). item_at G c s) (sym (same_place old mid x l))))
 
-  rejects_behind : {buffers : Bool} (F G : EncodingCodes → List ℕ → Parsed ℕ) → ((s : List ℕ) → F x s ≡ G x s) → (last : Reading) (e : Error) → Rejects buffers buffers (item_at G (stands_under mid)) mid.reading last e → Rejects buffers buffers (item_at F (stands_under old)) old.reading last e
+  pub rejects_behind : {buffers : Bool} (F G : EncodingCodes → List ℕ → Parsed ℕ) → ((s : List ℕ) → F x s ≡ G x s) → (last : Reading) (e : Error) → Rejects buffers buffers (item_at G (stands_under mid)) mid.reading last e → Rejects buffers buffers (item_at F (stands_under old)) old.reading last e
   rejects_behind {buffers} F G same last e n = record {
     why = λ s at h. tell s at (n.why s (known s at) (l.looked.stays.steady.honest ∙ h));
     steady = advances_then old.reading mid.reading last (stayed l.looked.stays) n.steady;
@@ -107,10 +107,10 @@ module _ (old mid : Decoding) (x : EncodingCodes) (l : Looks old mid x) where
       tell s at (inl p) = inl (parses_behind F G same s at ∙ p)
       tell s at (inr y) = inr (excused_kept old.reading mid.reading last e l.looked.stays y)
 
-  exactly_behind : (F G : EncodingCodes → List ℕ → Parsed ℕ) → ((s : List ℕ) → F x s ≡ G x s) → (a : Listing) → OpensExactly G mid a → OpensExactly F old a
+  pub exactly_behind : (F G : EncodingCodes → List ℕ → Parsed ℕ) → ((s : List ℕ) → F x s ≡ G x s) → (a : Listing) → OpensExactly G mid a → OpensExactly F old a
   exactly_behind F G same a o = record { exact = λ s at. let k = o.exact s (known s at) in (k.0, k.1, parses_behind F G same s at ∙ k.2) }
 
-  opens_behind : {Has : Item → Items → Type 0} (a : Listing) → old.ended ≡ false → Opens Has mid a → Opens Has old a
+  pub opens_behind : {Has : Item → Items → Type 0} (a : Listing) → old.ended ≡ false → Opens Has mid a → Opens Has old a
   opens_behind a answered o =
       let same = same_place old mid x l in
       record {

@@ -32,3 +32,7 @@ pub mod NamedLeftOut
 pub mod BehindDescriptor
 pub mod DescribedRead
 pub mod FieldsBehind
+pub mod StructsBehind
+pub mod NullApart
+pub mod DescribedAhead
+pub mod DescribedEntries

@@ -22,7 +22,7 @@ unfolding row
 null_code Null h = refl
 null_code _ h = absurd cc
 
-null_kind : (row Null).kind ≡ Kind.null
+pub null_kind : (row Null).kind ≡ Kind.null
 unfolding row
 null_kind = refl
 
@@ -39,7 +39,7 @@ unfolding same_kind place
 is_null_kind (scalar null) h = refl
 is_null_kind _ h = absurd cc
 
-other_kind : (x : EncodingCodes) (i : Item) → (x ≡ Null → ⊥) → (row x).kind ≡ item_kind i → is_null i ≡ false
+pub other_kind : (x : EncodingCodes) (i : Item) → (x ≡ Null → ⊥) → (row x).kind ≡ item_kind i → is_null i ≡ false
 other_kind x i n k = not_null i (λ h. n (null_code x (k ∙ h)))
 
 -- a value behind another code than null's isn't null

@@ -7,6 +7,7 @@ use Rattle.amqp_base.specs.Laws.{items_under}
 use Rattle.amqp_base.specs.Wire.{Wire, lenient, DescriptorText}
 use Rattle.amqp_read.specs.Reading.{Reading, Takes}
 use Rattle.amqp_data.specs.Arrays.{RejectsFor}
+use Rattle.amqp_data.specs.Parts.{shared_by}
 use Rattle.amqp_de.specs.Decoding.{Decoding, stands_under}
 use Rattle.amqp_de.specs.Law.{Missed, free, refused_free}
 use Rattle.amqp_de.specs.Look.{looked_at}
@@ -32,6 +33,8 @@ pub record Describes (d : Descriptor) (old new : Decoding) : Type 0 where
   pub before : old.ended ≡ false
   pub inherited : new.inherited ≡ old.inherited
   pub not_ended : new.ended ≡ false
+  -- its value has its own constructor, or an element's code
+  pub alone : shared_by (stands_under new) ≡ 0
   -- a byte that a look would show is the item's own
   pub own : looked_at (stands_under old) ≤ length text
   pub counts : (v : Item) → new.begun + items_under (stands_under new) v ≡ old.begun + items_under (stands_under old) (described d v)

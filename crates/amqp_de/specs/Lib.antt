@@ -10,9 +10,11 @@ pub mod ReadParts
 pub mod ReadPairs
 pub mod Calls
 pub mod ReadFields
-pub mod Forms
 pub mod Decimals
 pub mod Openings
 pub mod ReadLeading
 pub mod Describes
 pub mod DescribedFields
+pub mod NotNull
+pub mod DescribedStructs
+pub mod Forms

@@ -185,6 +185,7 @@ impl<'a, R: Read, F: Copy> Access<'a, R, F> {
     pub(crate) fn refuse(&mut self) -> Error
         ensures same_reference { self.new.de.ghost_name ≡ self.old.de.ghost_name }
         ensures error { result ≡ Error.InvalidValue }
+        ensures form { self.new.form ≡ self.old.form }
         ensures ended { listing self.new ≡ ended_access (listing self.old) }
     {
         self.de.stop();

@@ -1,19 +1,22 @@
-//! Structs by their form: a list of the fields, or a map from their names.
+//! Structs by their form: a list of the fields, a map from their names, or one of them under a
+//! descriptor.
 
 ghost use Rattle.std.specs.Prelude.{◌≡◌, true, false, ◌||◌, Ok, Err, IfOk, IfErr, IsTrue};
 ghost use Rattle.std.specs.Borrow.{sem, RestsIfErr};
 ghost use Rattle.amqp_base.specs.Codes.{Kind, row};
-ghost use Rattle.amqp_base.specs.Structs.{is_described_name};
 ghost use Rattle.amqp_de.specs.Access.{Ends};
 ghost use Rattle.amqp_de.specs.Decoding.{as_ended};
 ghost use Rattle.amqp_de.specs.Forms.{struct_listing, struct_lender, FormOpened, StructOpened};
 ghost use Rattle.amqp_de.specs.Forms.{NoStruct, RefusesStruct, FormElement, FormKey, FormValue};
-ghost use Rattle.amqp_de.specs.Forms.{FormEntry};
+ghost use Rattle.amqp_de.specs.Forms.{FormEntry, NamedForm, NoneDescribed, encoding_named};
+ghost use Rattle.amqp_de.specs.Look.{Looks};
 ghost use Rattle.amqp_de.specs.contracts.deserializer.Deserializer.{the_row};
 
+use crate::described_structs::{Encoding, Stage};
 use crate::list::{Access, Elements, Ended, Entries, Open};
-use crate::{Deserialize, Deserializer, ListAccess, MapAccess};
+use crate::{DescribedAccess, Deserialize, Deserializer, ListAccess, MapAccess};
 use amqp_base::{DESCRIBED_BASIC, DESCRIBED_LIST, DESCRIBED_MAP, EncodingCodes, Error};
+use amqp_data::Constructor;
 use amqp_read::Read;
 use std::alloc::Global;
 
@@ -25,21 +28,46 @@ pub enum StructAccess<'a, R: Read> {
     List(ListAccess<'a, R>),
     /// The item is a map from names to fields.
     Map(MapAccess<'a, R>),
+    /// The item is described: its descriptor comes first.
+    Described(DescribedAccess<'a, R>),
 }
 
-/// What was opened: a list of the fields, or a map from their names.
+/// What was opened: a list of the fields, or a map from their names; or what stands behind a
+/// descriptor, which wasn't read yet.
 #[derive(Drop)]
 pub(crate) enum OpenedStruct {
     Row(Open),
     Pairs(Open),
+    Described(Encoding),
 }
 
-/// Whether a descriptor stands before the fields of a struct of this name.
+/// What stands behind the descriptor of a struct of this name, if one does.
 #[inline(always)]
-pub(crate) fn is_described(name: &'static str) -> bool
-    ensures { result ≡ is_described_name name.now }
+fn encoding_of(name: &'static str) -> Option<Encoding>
+    ensures { result ≡ encoding_named name.now }
 {
-    name == DESCRIBED_LIST || name == DESCRIBED_MAP || name == DESCRIBED_BASIC
+    if name == DESCRIBED_LIST {
+        return Some(Encoding::List);
+    }
+    if name == DESCRIBED_MAP {
+        return Some(Encoding::Map);
+    }
+    if name == DESCRIBED_BASIC {
+        return Some(Encoding::Basic);
+    }
+    None
+}
+
+/// Before its descriptor nothing is open; something is unread.
+#[inline(always)]
+pub(crate) fn unread() -> Open
+    ensures { result.left ≡ 1 }
+{
+    Open {
+        left: 1,
+        outer: Constructor::Bare,
+        limit: None,
+    }
 }
 
 /// Whether a code is a map's.
@@ -79,28 +107,54 @@ impl<R: Read> Deserializer<R> {
         }
     }
 
-    /// The same, under a plain name.
-    fn open_struct(&mut self, name: &'static str, len: usize) -> Result<OpenedStruct, Error>
-        ensures ok { IfOk result (λ o. FormOpened len self.old self.new o) }
-        ensures err { RefusesStruct name.now len R.buffers self.old result self.new }
-        ensures described { is_described_name name.now ≡ true →
-            result ≡ Err Error.InvalidValue }
+    /// Looks that a described item comes next: nothing is consumed.
+    #[inline(always)]
+    pub(crate) fn look_described(&mut self) -> Result<(), Error>
+        ensures ok { IfOk result (λ _. Looks self.old self.new EncodingCodes.DescribedType) }
+        ensures before { IfOk result (λ _. self.old.ended ≡ false) }
+        ensures err { IfErr result (λ e. NoneDescribed R.buffers self.old self.new e) }
     {
-        if is_described(name) {
-            self.ended = true;
-            return Err(Error::InvalidValue);
+        match self.deserialize_any() {
+            Ok(code) => match code {
+                EncodingCodes::DescribedType => Ok(()),
+                _ => {
+                    self.stop();
+                    Err(Error::InvalidFormatCode)
+                }
+            },
+            Err(e) => Err(e),
         }
-        self.open_form(len)
+    }
+
+    /// The form of a struct, by its name.
+    fn open_struct(&mut self, name: &'static str, len: usize) -> Result<OpenedStruct, Error>
+        ensures ok { IfOk result (λ o. NamedForm name.now len self.old self.new o) }
+        ensures err { RefusesStruct name.now len R.buffers self.old result self.new }
+    {
+        match encoding_of(name) {
+            Some(encoding) => match self.look_described() {
+                Ok(()) => Ok(OpenedStruct::Described(encoding)),
+                Err(e) => Err(e),
+            },
+            None => match self.open_form(len) {
+                Ok(OpenedStruct::Row(row)) => Ok(OpenedStruct::Row(row)),
+                Ok(OpenedStruct::Pairs(pairs)) => Ok(OpenedStruct::Pairs(pairs)),
+                // no form under a plain name
+                Ok(OpenedStruct::Described(_)) => Err(Error::InvalidValue),
+                Err(e) => Err(e),
+            },
+        }
     }
 
     /// Opens a struct: a list of `len` fields (part 1, section 1.6.22), or a map from names to
     /// fields (section 1.6.23), whose number of pairs isn't looked at. Its code, size and count are
-    /// consumed. The size is not compared with the bytes that are there.
+    /// consumed. The size is not compared with the bytes that are there. Under the names
+    /// `DESCRIBED_LIST`, `DESCRIBED_MAP` and `DESCRIBED_BASIC` an item with a descriptor (section
+    /// 1.2): nothing is consumed, `len` isn't looked at, and the descriptor comes first.
     ///
-    /// In this order: `InvalidValue` where `name` is one of those of described structs,
-    /// `Io(UnexpectedEof)` where there is no byte, `InvalidFormatCode` where it is no list's or
-    /// map's code, and then the refusals of `deserialize_tuple` and `deserialize_map`. A refusal
-    /// ends the deserializer.
+    /// In this order: `Io(UnexpectedEof)` where there is no byte, `InvalidFormatCode` where it is
+    /// no list's or map's code, under those names no described item's; and then the refusals of
+    /// `deserialize_tuple` and `deserialize_map`. A refusal ends the deserializer.
     pub fn deserialize_struct(
         &mut self,
         alloc: Global,
@@ -112,9 +166,7 @@ impl<R: Read> Deserializer<R> {
             RefusesStruct name.now len R.buffers self.old result last)) }
         ensures same_reference { IfOk result (λ a.
             (struct_lender a).ghost_name ≡ self.entry.ghost_name) }
-        ensures opened { IfOk result (λ a. StructOpened len self.old a) }
-        ensures described { is_described_name name.now ≡ true →
-            result ≡ Err Error.InvalidValue }
+        ensures opened { IfOk result (λ a. StructOpened name.now len self.old a) }
     {
         let _ = alloc;
         match self.open_struct(name, len) {
@@ -128,6 +180,11 @@ impl<R: Read> Deserializer<R> {
                 inner: pairs,
                 form: Entries,
             })),
+            Ok(OpenedStruct::Described(encoding)) => Ok(StructAccess::Described(Access {
+                de: self,
+                inner: unread(),
+                form: Stage::Before(encoding),
+            })),
             Err(e) => Err(e),
         }
     }
@@ -136,8 +193,8 @@ impl<R: Read> Deserializer<R> {
 impl<'a, R: Read> StructAccess<'a, R> {
     /// The next field of a list; `None` where all were read, and then nothing is consumed.
     ///
-    /// The refusals are those of `ListAccess::next_element`, and `InvalidValue` where the item is a
-    /// map. Each of them ends the access and its deserializer.
+    /// The refusals are those of `ListAccess::next_element` and `DescribedAccess::next_element`, and
+    /// `InvalidValue` where the item is a map. Each of them ends the access and its deserializer.
     pub fn next_element<T: Deserialize<R>>(&mut self, alloc: Global) -> Result<Option<T>, Error>
         ensures same_reference { (struct_lender self.new).ghost_name ≡ (struct_lender
             self.old).ghost_name }
@@ -146,6 +203,7 @@ impl<'a, R: Read> StructAccess<'a, R> {
         match self {
             StructAccess::List(list) => list.next_element(alloc),
             StructAccess::Map(map) => Err(map.refuse()),
+            StructAccess::Described(described) => described.next_element(alloc),
         }
     }
 
@@ -161,6 +219,7 @@ impl<'a, R: Read> StructAccess<'a, R> {
         match self {
             StructAccess::List(list) => Err(list.refuse()),
             StructAccess::Map(map) => map.next_key(alloc),
+            StructAccess::Described(described) => described.next_key(alloc),
         }
     }
 
@@ -176,6 +235,7 @@ impl<'a, R: Read> StructAccess<'a, R> {
         match self {
             StructAccess::List(list) => Err(list.refuse()),
             StructAccess::Map(map) => map.next_value(alloc),
+            StructAccess::Described(described) => described.next_value(alloc),
         }
     }
 
@@ -194,6 +254,7 @@ impl<'a, R: Read> StructAccess<'a, R> {
         match self {
             StructAccess::List(list) => Err(list.refuse()),
             StructAccess::Map(map) => map.next_entry(alloc),
+            StructAccess::Described(described) => described.next_entry(alloc),
         }
     }
 
@@ -215,6 +276,7 @@ impl<'a, R: Read> StructAccess<'a, R> {
         match self {
             StructAccess::List(list) => list.closed(),
             StructAccess::Map(map) => map.closed(),
+            StructAccess::Described(described) => described.closed(),
         }
     }
 }
