@@ -161,10 +161,12 @@ impl<W: Sink> Serializer<W> {
                 setting,
                 mark,
                 found,
+                descriptor,
             } => {
                 self.place.setting = setting;
                 self.place.mark = mark;
                 self.place.found = found;
+                self.place.descriptor = descriptor;
             }
         }
     }

@@ -11,6 +11,7 @@ use crate::compound::{Outer, Parts};
 use amqp_base::{Error, Pass, Setting, Shape, Sink};
 use amqp_write::{Opened, Place, Refusal, first_mark, no_memory, refused, setting_inside};
 use std::alloc::Global;
+use std::mem;
 
 impl<W: Sink> Serializer<W> {
     /// Opens a compound, that holds its serializer from then on.
@@ -130,8 +131,8 @@ impl<W: Sink> Serializer<W> {
         ensures opened { result.opened ≡ opened }
         ensures answers { result.buffer.place.ended ≡ false }
         ensures setting { (outer_in result.outer).setting ≡ self.old.place.setting }
-        ensures mark { (outer_in result.outer).mark ≡ mark_of self.old.place.mark }
-        ensures found { (outer_in result.outer).found ≡ found_of self.old.place.found }
+        ensures mark { (outer_in result.outer).mark ≡ mark_of self.old.place }
+        ensures found { (outer_in result.outer).found ≡ found_of self.old.place }
         ensures state { state W.Write W.FaultCount self.new ≡
             record (state W.Write W.FaultCount self.old) {
               setting = setting_inside shape;
@@ -144,6 +145,7 @@ impl<W: Sink> Serializer<W> {
             setting: self.place.setting,
             mark: self.place.mark,
             found: self.place.found,
+            descriptor: mem::replace(&mut self.place.descriptor, None),
         };
         self.place.setting = setting_inside(shape);
         self.place.mark = first_mark(shape);
