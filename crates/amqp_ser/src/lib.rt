@@ -4,6 +4,7 @@
 mod blocks;
 mod compound;
 mod decimals;
+mod described;
 mod each;
 mod ending;
 mod fields;

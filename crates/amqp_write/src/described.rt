@@ -1,8 +1,8 @@
 //! Descriptors where they stand.
 
-ghost use Rattle.std.specs.Prelude.{◌≡◌, false, [], length, nat_lt};
-ghost use Rattle.amqp_base.specs.Item.{descriptor_item};
-ghost use Rattle.amqp_base.specs.Canon.{same_descriptor, limit};
+ghost use Rattle.std.specs.Prelude.{◌≡◌, ◌≢◌, true, false, [], None, nat_lt};
+ghost use Rattle.amqp_base.specs.Item.{descriptor_item, code};
+ghost use Rattle.amqp_base.specs.Canon.{same_descriptor, descriptor_text, limit};
 ghost use Rattle.amqp_types.specs.Descriptors.{descriptor_of};
 ghost use Rattle.amqp_write.specs.State.{stand, mark_of, found_of, unmarked};
 ghost use Rattle.amqp_write.specs.Texts.{payload_length};
@@ -44,14 +44,25 @@ fn is_same(one: &Descriptor, other: &Descriptor) -> bool
     }
 }
 
+/// Whether a number is too great to be written, which none is.
+#[inline(always)]
+fn is_too_great(number: u64) -> bool
+    ensures value { result ≡ false }
+    ensures text { descriptor_text (code number) ≢ None }
+{
+    let _ = number;
+    false
+}
+
 /// Whether a descriptor is too long to be written.
 pub fn is_too_long(descriptor: &Descriptor) -> bool
-    ensures { result ≡
+    ensures value { result ≡
         nat_lt limit (payload_length (descriptor_item (descriptor_of descriptor.now))) }
+    ensures text { descriptor_text (descriptor_of descriptor.now) ≡ None → result ≡ true }
 {
     match descriptor {
         Descriptor::Name(name) => name.as_str().len() > LONGEST,
-        Descriptor::Code(_) => false,
+        Descriptor::Code(number) => is_too_great(*number),
     }
 }
 
