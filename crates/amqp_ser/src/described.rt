@@ -9,7 +9,7 @@ ghost use Rattle.amqp_ser.specs.State.{state, mark_in, first, mark_of};
 ghost use Rattle.amqp_ser.specs.Law.{Wrote, Refused, Stops};
 ghost use Rattle.amqp_ser.specs.Compound.{outer_in};
 ghost use Rattle.amqp_ser.specs.Describing.{IsOwn, StandsAs, WroteBehind, RefusesAbsent};
-ghost use Rattle.amqp_ser.specs.Describing.{by_descriptor, why_undescribed};
+ghost use Rattle.amqp_ser.specs.Describing.{by_descriptor, why_undescribed, WritesDescriptor};
 ghost use Rattle.amqp_base.specs.declared.error.Error.TheVariants.{Io, OutOfMemory};
 ghost use Rattle.std.specs.declared.io.ErrorKind.TheVariants.{Other};
 ghost use Rattle.amqp_write.specs.declared.described.Behind.TheVariants.{Another};
@@ -80,6 +80,35 @@ impl<W: Sink> Serializer<W> {
             Behind::First => self.described_first(alloc, descriptor, value),
             Behind::Another(code) => self.described_again(alloc, code, descriptor, value),
             Behind::Nowhere => Err(self.described_nowhere(alloc, descriptor, value)),
+        }
+    }
+
+    /// Writes 00 and a descriptor (section 1.2): no whole item, since the value that it describes is
+    /// to be written next, and nothing else. It takes no memory of its own.
+    ///
+    /// `Io(Other)`: the descriptor is longer than 4,294,967,291 bytes. `InvalidValue`: it is to
+    /// stand in an array, where a value is written with its descriptor by `Described`.
+    pub fn serialize_descriptor(
+        &mut self,
+        alloc: Global,
+        descriptor: &Descriptor,
+    ) -> Result<(), Error>
+        ensures { WritesDescriptor (state W.Write W.FaultCount self.old)
+            (descriptor_of descriptor.now) result (state W.Write W.FaultCount self.new) }
+    {
+        let _ = alloc;
+        if self.place.ended {
+            return Err(refused(Refusal::InvalidValue));
+        }
+        match self.place.mark {
+            Mark::Unmarked => match self.place.descriptor(&mut self.writer, descriptor) {
+                Ok(()) => Ok(()),
+                Err(e) => Err(refused(e)),
+            },
+            _ => {
+                self.place.ended = true;
+                Err(refused(Refusal::InvalidValue))
+            }
         }
     }
 
