@@ -4,6 +4,7 @@ use Rattle.std.specs.declared.io.ErrorKind.TheVariants.{Other as IoOther}
 use Rattle.amqp_base.specs.declared.error.Error.{Error}
 use Rattle.amqp_base.specs.declared.error.Error.TheVariants.{Message, Io, InvalidFormatCode, InvalidValue, InvalidUtf8Encoding, SequenceLengthMismatch, InvalidLength, OutOfMemory}
 use Rattle.amqp_base.specs.declared.format_code.EncodingCodes.{EncodingCodes}
+use Rattle.amqp_base.specs.declared.shape.Setting.{Setting}
 use Rattle.amqp_base.specs.declared.shape.Setting.TheVariants.{DescribedBasic}
 use Rattle.amqp_base.specs.Refusals.{IsDevice}
 use Rattle.amqp_base.specs.Faults.{IsFault}
@@ -45,6 +46,23 @@ plan_none p l b h = rw h refl
 next_same : (p : Option Planned) (l : List Size) (b : List ℕ) → is_next (plan_after p [] b) l ≡ is_next p l
 next_same None l b = refl
 next_same (Some p) l b = refl
+
+-- what stands under a setting of its own
+pub wrote_set : (s w : State) (k : Setting) (i : Item) → Wrote (record s { setting = k }) i w → Wrote s i (record w { setting = s.setting })
+unfolding fits
+wrote_set s w k i h = record {
+  kept = record { bytes = h.kept.bytes; faults = h.kept.faults; grows = h.kept.grows };
+  took = λ a. let q = h.took a in record { bytes = q.bytes; text = q.text; goes = record { fits = q.goes.fits; appended = q.goes.appended; plan = q.goes.plan; measure = q.goes.measure; setting = refl }; mark = q.mark; found = q.found };
+  answers = h.answers;
+}
+
+pub refused_set : (s w : State) (k : Setting) (i : Item) (e : Error) → Refused (record s { setting = k }) i e w → Refused s i e w
+unfolding text_for fits
+refused_set s w k i e h = record {
+  kept = record { bytes = h.kept.bytes; faults = h.kept.faults; grows = h.kept.grows };
+  device = h.device;
+  cause = λ a. elim (h.cause a) [ inl n ↦ inl n | inr q ↦ inr (elim q [ inl io ↦ inl io | inr x ↦ inr (record { none = x.none; named = x.named }) ]) ];
+}
 
 -- what is told of the sizes is told of the plan alone
 fits_plan : (s : State) (l : List Size) (n : ℕ) → fits s l n ≡ is_next s.plan l

@@ -5,6 +5,7 @@ mod blocks;
 mod compound;
 mod decimals;
 mod described;
+mod described_structs;
 mod each;
 mod ending;
 mod fields;
