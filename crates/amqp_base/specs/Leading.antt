@@ -1,20 +1,19 @@
 -- A list of fields, the last of which may be left out where they are null (1.4).
 use Rattle.std.specs.Prelude.{◌≡◌, ◌⊎◌, ℕ, zero, suc, Bool, true, false, ◌&&◌, nat_lt, if◌then◌else◌, IsTrue, List, [], ◌∷◌, length, Ok, Err}
 use Rattle.std.proofs.Common.{refl, ap}
-use Rattle.amqp_base.specs.declared.error.Error.{Error}
 use Rattle.amqp_base.specs.declared.error.Error.TheVariants.{SequenceLengthMismatch}
 use Rattle.amqp_base.specs.declared.format_code.EncodingCodes.{EncodingCodes}
 use Rattle.amqp_base.specs.declared.format_code.EncodingCodes.TheVariants.{Null}
-use Rattle.amqp_base.specs.Fields.{all_fields, all_meanings, one_fields, means_fields, TakenBack, ReadBack}
-use Rattle.amqp_base.specs.Item.{Item, scalar, null, list, map, array, described, Items, none, more, count, items_of}
-use Rattle.amqp_base.specs.Meaning.{Meaning, Row, one_parts}
+use Rattle.amqp_base.specs.Fields.{all_fields, all_meanings, TakenBack, ReadBack}
+use Rattle.amqp_base.specs.Item.{Item, scalar, null, list, map, array, described, Items, none, more, items_of}
+use Rattle.amqp_base.specs.Meaning.{Meaning, Row, struct_not_null}
 use Rattle.amqp_base.specs.NamedFields.{OneRow}
 use Rattle.amqp_base.specs.Parse.{Parsed, ◌>>=◌, list_data}
-use Rattle.amqp_base.specs.ReadBack.{list_not_null}
 use Rattle.amqp_base.specs.Refusing.{Refusing, PartsRefusing, FrontThen, opened_refusal, all_awaited, awaited_count}
 use Rattle.amqp_base.specs.Shapes.{whole}
-use Rattle.amqp_base.specs.Structs.{fields_parts}
-use Rattle.amqp_base.specs.Wire.{Constructor, bare, under}
+use Rattle.amqp_base.specs.Structs.{FieldItem, fields_parts, struct_item}
+use Rattle.amqp_base.specs.Wire.{bare, under}
+use Rattle.amqp_base.specs.declared.shape.Setting.TheVariants.{Plain}
 use Rattle.amqp_base.specs.declared.shape.Shape.{Shape}
 
 -- these items, and null behind them until there are so many
@@ -66,13 +65,13 @@ full_already (f ∷ fs) (more i is) t = ap (more i) (full_already fs is (second_
     second_true true b h = h
     second_true false b h = absurd cc
 
-pub leading_taken : {fields : List (Item → Bool)} {xs : List Item} → TakenBack fields xs → IsTrue (takes_leading fields (whole Shape.List xs))
-unfolding whole takes_leading
-leading_taken {fields} {xs} h = rw (full_already fields (items_of xs) h.all) h.all
+pub leading_taken : {fields : List (Item → Bool)} (fs : List FieldItem) → TakenBack fields (fields_parts Shape.List fs) → IsTrue (takes_leading fields (struct_item Plain fs))
+unfolding struct_item whole takes_leading
+leading_taken {fields} fs h = rw (full_already fields (items_of (fields_parts Shape.List fs)) h.all) h.all
 
-pub leading_read : {fields : List (Item → Bool)} {ms : List {1} (Item → Type 0)} {xs : List Item} → TakenBack fields xs → ReadBack ms xs → means_leading (length fields) ms (whole Shape.List xs)
-unfolding whole means_leading
-leading_read {fields} {ms} {xs} t h = rw (full_already fields (items_of xs) t.all) h.all
+pub leading_read : {fields : List (Item → Bool)} {ms : List {1} (Item → Type 0)} (fs : List FieldItem) → TakenBack fields (fields_parts Shape.List fs) → ReadBack ms (fields_parts Shape.List fs) → means_leading (length fields) ms (struct_item Plain fs)
+unfolding struct_item whole means_leading
+leading_read {fields} {ms} fs t h = rw (full_already fields (items_of (fields_parts Shape.List fs)) t.all) h.all
 
 pub one_leading : {names : List (List ℕ)} {P Q : List {1} (Item → Type 0)} {R : Type 0} (n : ℕ) → OneRow names P Q R → (i : Item) → means_leading n P i → means_leading n Q i → R
 unfolding means_leading
@@ -85,7 +84,7 @@ one_leading n rows (described d v) p q = absurd p
 -- a list of these fields, which is read where the last ones are left out, too
 abbrev pub leading_of : {V : Type 0} → Row V → Meaning V
 leading_of row = record {
-  item = λ v _. whole Shape.List (fields_parts Shape.List (row.items v));
+  item = λ v _. struct_item Plain (row.items v);
   takes = takes_leading row.takes;
   means = λ i v. means_leading (length row.takes) (row.means v) i;
   same = row.same;
@@ -98,8 +97,8 @@ leading_of row = record {
   always_sound = row.always_sound;
   is_sound = row.is_sound;
   reads_back = row.reads_back;
-  taken_back = λ r v s. leading_taken (row.taken_back r v s);
-  read_back = λ r v s. leading_read (row.taken_back r v s) (row.read_back r v s);
+  taken_back = λ r v s. leading_taken (row.items v) (row.taken_back r v s);
+  read_back = λ r v s. leading_read (row.items v) (row.taken_back r v s) (row.read_back r v s);
   never_null = true;
-  not_null = λ _ v. list_not_null (fields_parts Shape.List (row.items v));
+  not_null = λ _ v. struct_not_null (row.items v);
 }
