@@ -9,11 +9,12 @@ use Rattle.amqp_base.specs.Canon.{same_descriptor}
 use Rattle.amqp_base.specs.Codes.{Kind, row}
 use Rattle.amqp_base.specs.SameKind.{same_kind}
 use Rattle.amqp_base.specs.Item.{Descriptor, name, code, Item, scalar, list, map, array, described}
-use Rattle.amqp_base.specs.Meaning.{Meaning, Row, tuple_struct_of}
-use Rattle.amqp_base.specs.Parse.{Parsed, ◌>>=◌, byte_at, descriptor_at, item_at, tuple_data}
+use Rattle.amqp_base.specs.Leading.{leading_data, leading_part_refusal, leading_of}
+use Rattle.amqp_base.specs.Meaning.{Meaning, Row}
+use Rattle.amqp_base.specs.Parse.{Parsed, ◌>>=◌, byte_at, descriptor_at, item_at}
 use Rattle.amqp_base.specs.ReadBack.{both}
 use Rattle.amqp_base.specs.Refusals.{IsMessage, StandsFor}
-use Rattle.amqp_base.specs.Refusing.{Refusing, PartsRefusing, one_or_other, all_awaited, awaited_count, row_part_refusal}
+use Rattle.amqp_base.specs.Refusing.{Refusing, PartsRefusing, one_or_other, all_awaited, awaited_count}
 use Rattle.amqp_base.specs.Typing.{OneValue}
 use Rattle.amqp_base.specs.Wire.{Constructor, bare, under, under_pair}
 use Rattle.amqp_base.specs.declared.shape.Setting.TheVariants.{Plain, DescribedBasic}
@@ -185,10 +186,10 @@ header_refusal parse later c s e =
     ((custom : Error) → StandsFor custom e → item_at (parse custom) c s ≡ Err e)
     ⊎ HeaderBehind parse (λ n rest. later n rest e) c s
 
--- behind a descriptor: a list of just as many fields as are awaited
-abbrev pub described_row_refusal : List Bool → List (Item → Bool) → List {1} Refusing → Refusing
-described_row_refusal awaited takes refuses = header_refusal (kind_data Kind.list (tuple_data (awaited_count awaited))) (λ n. row_part_refusal awaited takes refuses)
+-- behind a descriptor: a list of as many fields at most as are awaited
+abbrev pub described_list_refusal : List Bool → List (Item → Bool) → List {1} Refusing → Refusing
+described_list_refusal awaited takes refuses = header_refusal (kind_data Kind.list (leading_data (awaited_count awaited))) (leading_part_refusal awaited takes refuses)
 
--- a struct of these fields under a descriptor, as a list
+-- a struct of these fields under a descriptor, as a list; it is read where its last fields are left out, too
 abbrev pub described_list_of : {V : Type 0} → Descriptor → Row V → Meaning V
-described_list_of d row = under_descriptor d (described_row_refusal (all_awaited row.takes) row.takes row.refuses) (tuple_struct_of row)
+described_list_of d row = under_descriptor d (described_list_refusal (all_awaited row.takes) row.takes row.refuses) (leading_of row)

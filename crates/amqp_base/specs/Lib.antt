@@ -25,6 +25,7 @@ pub mod MapsReadBack
 pub mod Parse
 pub mod Refusing
 pub mod Meaning
+pub mod Leading
 pub mod Describing
 pub mod Sorts
 pub mod Chosen

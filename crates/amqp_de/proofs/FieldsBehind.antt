@@ -7,7 +7,7 @@ use Rattle.amqp_base.specs.declared.format_code.EncodingCodes.TheVariants.{List0
 use Rattle.amqp_base.specs.Canon.{same_descriptor}
 use Rattle.amqp_base.specs.Codes.{Kind, row}
 use Rattle.amqp_base.specs.Describing.{is_described_of, means_described, describing_at, is_behind, means_behind, behind_refusal, kind_data, header_refusal}
-use Rattle.amqp_base.specs.Fields.{takes_fields}
+use Rattle.amqp_base.specs.Leading.{takes_leading}
 use Rattle.amqp_base.specs.NamedFields.{takes_map}
 use Rattle.amqp_base.specs.Item.{Item, scalar, list, map, array, described, Descriptor}
 use Rattle.amqp_base.specs.Parse.{Parsed, item_at, code_at}
@@ -41,8 +41,8 @@ no_list_code _ a b c h = absurd cc
 
 -- ---- an item of one kind
 
-pub list_kind : (fields : List (Item → Bool)) (i : Item) → IsTrue (takes_fields fields i) → item_kind i ≡ Kind.list
-unfolding takes_fields
+pub list_kind : (fields : List (Item → Bool)) (i : Item) → IsTrue (takes_leading fields i) → item_kind i ≡ Kind.list
+unfolding takes_leading
 list_kind fields (list is) t = refl
 list_kind fields (scalar v) t = absurd cc
 list_kind fields (map ps) t = absurd cc

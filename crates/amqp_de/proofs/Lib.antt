@@ -27,6 +27,8 @@ pub mod DecimalRead
 pub mod DecimalNames
 pub mod Nulls
 pub mod OneElement
+pub mod LeftOut
+pub mod NamedLeftOut
 pub mod BehindDescriptor
 pub mod DescribedRead
 pub mod FieldsBehind

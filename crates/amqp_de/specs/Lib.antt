@@ -12,6 +12,7 @@ pub mod Calls
 pub mod ReadFields
 pub mod Decimals
 pub mod Openings
+pub mod ReadLeading
 pub mod Describes
 pub mod DescribedFields
 pub mod NotNull

@@ -3,8 +3,9 @@
 ghost use Rattle.std.specs.Prelude.{◌≡◌, false, true, IsTrue, IfOk, IfErr, OnErr};
 ghost use Rattle.amqp_base.specs.Canon.{same_descriptor};
 ghost use Rattle.amqp_base.specs.Codes.{Kind, row};
-ghost use Rattle.amqp_de.specs.Calls.{RowRead, NamedRead, NamedRefused};
-ghost use Rattle.amqp_de.specs.DescribedFields.{RowMissed, RowBehindNamed, MapBehindNamed};
+ghost use Rattle.amqp_de.specs.Calls.{NamedRead, NamedRefused};
+ghost use Rattle.amqp_de.specs.DescribedFields.{ListRead, ListMissed, ListBehindNamed};
+ghost use Rattle.amqp_de.specs.DescribedFields.{MapBehindNamed};
 ghost use Rattle.amqp_de.specs.DescribedFields.{FieldsBehind, FieldsBehindRefused, FieldsBehindNamed};
 ghost use Rattle.amqp_de.specs.DescribedFields.{NamesBehind, NamesBehindRefused, NamesBehindNamed};
 ghost use Rattle.amqp_de.specs.Steps.{Stops};
@@ -50,14 +51,14 @@ pub(crate) fn is_list(code: EncodingCodes) -> bool
 
 impl<R: Read> Deserializer<R> {
     /// The fields behind a descriptor.
-    fn read_row_behind<S: Fields<R>>(
+    fn read_list_behind<S: Fields<R>>(
         &mut self,
         alloc: Global,
         fields: S,
     ) -> Result<S::Values, Error>
-        ensures ok { IfOk result (λ vs. RowRead (S.slots fields) vs self.old self.new) }
-        ensures err { IfErr result (λ e. RowMissed (S.slots fields) R.buffers self.old self.new e) }
-        ensures named { IfErr result (λ e. RowBehindNamed (S.slots fields) S.takes S.refuses
+        ensures ok { IfOk result (λ vs. ListRead (S.slots fields) vs self.old self.new) }
+        ensures err { IfErr result (λ e. ListMissed (S.slots fields) R.buffers self.old self.new e) }
+        ensures named { IfErr result (λ e. ListBehindNamed (S.slots fields) S.takes S.refuses
             R.buffers self.old self.new e) }
         ensures ended { OnErr result (IsTrue self.new.ended) }
     {
@@ -67,7 +68,7 @@ impl<R: Read> Deserializer<R> {
                     self.stop();
                     return Err(Error::custom(alloc, "expected a list behind the descriptor"));
                 }
-                match self.deserialize_row(alloc, fields) {
+                match self.deserialize_leading(alloc, fields) {
                     Ok(values) => Ok(values),
                     Err(e) => Err(e),
                 }
@@ -76,13 +77,15 @@ impl<R: Read> Deserializer<R> {
         }
     }
 
-    /// Reads the fields of a struct under a descriptor (part 1, section 1.2): out of a list of just
-    /// so many elements behind it (section 1.6.22), in order. Their names aren't looked at.
+    /// Reads the fields of a struct under a descriptor (part 1, section 1.2): out of a list behind
+    /// it (section 1.6.22), in order. Their names aren't looked at. Where the list has fewer
+    /// elements, each of the fields that are left is what its type reads from null (section 1.4).
     ///
     /// In this order: the refusals of `deserialize_descriptor`, `Message` where the descriptor is
     /// another one, `Io(UnexpectedEof)` where there is no byte behind it, `InvalidFormatCode` where
-    /// it is no code, `Message` where it is no list's code, the refusals of `deserialize_tuple`,
-    /// then those of the fields. A refusal ends the deserializer.
+    /// it is no code, `Message` where it is no list's code, the refusals of a list's header,
+    /// `SequenceLengthMismatch` where it has more elements than there are fields, then the refusals
+    /// of the fields. A refusal ends the deserializer.
     #[inline(always)]
     pub fn deserialize_described_fields<S: Fields<R>>(
         &mut self,
@@ -104,7 +107,7 @@ impl<R: Read> Deserializer<R> {
                     self.stop();
                     return Err(Error::custom(alloc, "another descriptor"));
                 }
-                match self.read_row_behind(alloc, fields) {
+                match self.read_list_behind(alloc, fields) {
                     Ok(values) => Ok(values),
                     Err(e) => Err(e),
                 }

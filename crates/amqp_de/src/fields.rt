@@ -1,6 +1,6 @@
 //! The fields of a struct, read by their names or in order.
 
-ghost use Rattle.std.specs.Prelude.{◌≡◌, ◌+◌, Bool, false, ◌||◌, IsTrue, Option};
+ghost use Rattle.std.specs.Prelude.{◌≡◌, ◌+◌, ◌≤◌, ◌<◌, Bool, false, ◌||◌, IsTrue, Option};
 ghost use Rattle.std.specs.Prelude.{Some, None, List, [], ◌∷◌, ◌++◌, length, IfErr, OnOk};
 ghost use Rattle.amqp_base.specs.Item.{Item, Items};
 ghost use Rattle.amqp_base.specs.Fields.{takes_fields};
@@ -10,6 +10,8 @@ ghost use Rattle.amqp_de.specs.ReadParts.{Progress, open_list};
 ghost use Rattle.amqp_de.specs.ReadFields.{Slots, no_slots, slot, awaits, all_read, HaveValues};
 ghost use Rattle.amqp_de.specs.ReadFields.{FieldRead, NoField, RowRead, ElementsNamed, FieldPicked};
 ghost use Rattle.amqp_de.specs.ReadFields.{FieldNamed};
+ghost use Rattle.amqp_base.specs.Leading.{takes_leading};
+ghost use Rattle.amqp_de.specs.ReadLeading.{LeadingProgress, LeadingRow, LeadingNamed};
 
 use crate::{Deserialize, ListAccess, MapAccess};
 use amqp_base::Error;
@@ -84,6 +86,29 @@ pub trait Fields<R: Read>: Drop {
         ensures counted { OnOk result ((open_list list.old).left ≡
             length (slots self.old).kinds + (open_list list.new).left) };
 
+    /// Whether at least so many fields have no value yet.
+    fn hold(&self, count: u32) -> bool
+        ensures yes { IsTrue result → count ≤ length (slots self.now).kinds }
+        ensures no { result ≡ false → length (slots self.now).kinds < count };
+
+    /// Reads the next elements of a list as the fields without a value, in order; where no element
+    /// is left, a field is what its type reads from null.
+    ///
+    /// The refusals are those of the fields' types. Drop the access behind a refusal: its
+    /// deserializer is ended then.
+    fn read_leading(&mut self, alloc: Global, list: &mut ListAccess<'_, R>) -> Result<(), Error>
+        ensures same_reference { list.new.de.ghost_name ≡ list.old.de.ghost_name }
+        ensures read { OnOk result ((old : Decoding) (all rest : List (Item → Bool))
+            (parts : Items) → LeadingProgress old all ((slots self.old).kinds ++ rest) parts
+            (open_list list.old) → LeadingRow old all rest parts (slots self.old)
+            (slots self.new) (open_list list.old) (open_list list.new)) }
+        ensures refused { IfErr result (λ e. (old : Decoding) (all rest : List (Item → Bool))
+            (parts : Items) → LeadingProgress old all ((slots self.old).kinds ++ rest) parts
+            (open_list list.old) →
+            Missed (takes_leading all) (grows || R.buffers) R.buffers old list.new.de.now e) }
+        ensures named { IfErr result (λ e. LeadingNamed (slots self.old).awaited takes refuses
+            (grows || R.buffers) R.buffers (open_list list.old) list.new.de.now e) };
+
     /// The values, where every field has one.
     fn into_values(self) -> Option<Self::Values>
         ensures some { (vs : Self.Values) → result ≡ Some vs → HaveValues (slots self) vs }
@@ -119,6 +144,18 @@ impl<R: Read> Fields<R> for () {
 
     #[inline(always)]
     fn read_elements(&mut self, alloc: Global, list: &mut ListAccess<'_, R>) -> Result<(), Error> {
+        let _ = alloc;
+        let _ = list;
+        Ok(())
+    }
+
+    #[inline(always)]
+    fn hold(&self, count: u32) -> bool {
+        count == 0
+    }
+
+    #[inline(always)]
+    fn read_leading(&mut self, alloc: Global, list: &mut ListAccess<'_, R>) -> Result<(), Error> {
         let _ = alloc;
         let _ = list;
         Ok(())
@@ -232,6 +269,34 @@ impl<'n, R: Read, T: Deserialize<R>, Rest: Fields<R>> Fields<R> for Field<'n, T,
             },
         }
         match self.rest.read_elements(alloc, list) {
+            Ok(()) => Ok(()),
+            Err(e) => Err(e),
+        }
+    }
+
+    #[inline(always)]
+    fn hold(&self, count: u32) -> bool {
+        let own = match &self.value {
+            Some(_) => 0,
+            None => 1,
+        };
+        self.rest.hold(count.saturating_sub(own))
+    }
+
+    #[inline(always)]
+    fn read_leading(&mut self, alloc: Global, list: &mut ListAccess<'_, R>) -> Result<(), Error> {
+        match &self.value {
+            Some(_) => {}
+            None => match list.next_element::<T>(alloc) {
+                Ok(Some(value)) => self.put(value),
+                Ok(None) => match list.de.read_null::<T>(alloc) {
+                    Ok(value) => self.put(value),
+                    Err(e) => return Err(e),
+                },
+                Err(e) => return Err(e),
+            },
+        }
+        match self.rest.read_leading(alloc, list) {
             Ok(()) => Ok(()),
             Err(e) => Err(e),
         }

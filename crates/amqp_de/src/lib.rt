@@ -14,6 +14,7 @@ mod deserialize;
 mod deserializer;
 mod fields;
 mod floats;
+mod leading;
 mod leaf;
 mod list;
 mod map;

@@ -8,3 +8,4 @@ pub mod NumberParts
 pub mod WholeFields
 pub mod Passes
 pub mod Lending
+pub mod Describing

@@ -11,7 +11,7 @@ use Rattle.amqp_base.specs.Wire.{Constructor, under}
 use Rattle.amqp_base.specs.Shapes.{whole, setting_inside}
 use Rattle.amqp_base.specs.Structs.{FieldItem, struct_item, struct_shape, fields_parts, is_described_name}
 use Rattle.amqp_base.specs.Sizes.{Size, sizes_in}
-use Rattle.amqp_ser.specs.State.{State, answering, Planned, Measured, size_in, Mark, unmarked, state, mark_of, found_of, contents_in, plan_in, measure_in}
+use Rattle.amqp_ser.specs.State.{State, answering, Planned, Measured, size_in, Mark, unmarked, state, mark_in, found_in, mark_of, found_of, contents_in, plan_in, measure_in}
 use Rattle.amqp_write.specs.declared.pass.Opened.{Opened}
 pub use Rattle.amqp_write.specs.Wholes.{other_of, shape_code, narrow_of, empty_list, shape_text, turned, is_map, awaits_value, Complete}
 unfoldable pub use Rattle.amqp_write.specs.Wholes.{head_text, whole_text, parts_text, next_mark}
@@ -53,11 +53,11 @@ pub record Run (shape : Shape) (u : State) (xs : List Item) (v : State) : Type 0
   pub answers : v.ended ≡ false
 
 abbrev pub the_buffer : Serializer (Vec ℕ Global) → State
-the_buffer b = record { contents = contents_in b.place.direct (Some b.writer.items); faults = 0; last_fault = None; grows = true; setting = b.place.setting; mark = mark_of b.place.mark; found = found_of b.place.found; plan = plan_in b.place.direct None; measure = measure_in b.place.direct None; ended = b.place.ended }
+the_buffer b = record { contents = contents_in b.place.direct (Some b.writer.items); faults = 0; last_fault = None; grows = true; setting = b.place.setting; mark = mark_of b.place; found = found_of b.place; plan = plan_in b.place.direct None; measure = measure_in b.place.direct None; ended = b.place.ended }
 
 -- parts on a serializer
 abbrev pub outer_in : CodeOuter → Back
-outer_in (CodeOuter.Had setting mark found) = record { setting = setting; mark = mark_of mark; found = found_of found }
+outer_in (CodeOuter.Had setting mark found descriptor) = record { setting = setting; mark = mark_in descriptor mark; found = found_in descriptor found }
 
 -- the state with that again
 abbrev pub back : Back → State → State

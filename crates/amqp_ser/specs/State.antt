@@ -5,7 +5,7 @@ use Rattle.amqp_base.specs.declared.fault.FaultCount as FaultCount
 use Rattle.amqp_base.specs.declared.shape.Setting.{Setting}
 use Rattle.amqp_write.specs.State.{stand}
 use Rattle.amqp_ser.specs.declared.serializer.Serializer.{Serializer}
-pub use Rattle.amqp_write.specs.State.{Planned, Measured, Mark, unmarked, first, other, State, mark_of, found_of, size_in, contents_in, plan_in, measure_in, answering}
+pub use Rattle.amqp_write.specs.State.{Planned, Measured, Mark, unmarked, first, other, State, mark_in, found_in, mark_of, found_of, size_in, contents_in, plan_in, measure_in, answering}
 
 unfoldable pub state : {W : Type 0} → Write.Ghosts W → FaultCount.Ghosts W → Serializer W → State
 state w f s = stand w f s.writer s.place

@@ -14,9 +14,11 @@ ghost use Rattle.amqp_ser.specs.Compound.{WritesPart, WritesEach, EndsWhole, End
 ghost use Rattle.amqp_ser.specs.Compound.{open_state, open_as, lacking, lacks, lacks_value};
 
 use crate::{Serialize, Serializer};
-use amqp_base::{EncodingCodes, Error, Pass, Setting, Shape, Sink};
+use amqp_base::{Error, Pass, Setting, Shape, Sink};
+use amqp_types::Descriptor;
 use amqp_write::{
-    Mark, Opened, Place, Refusal, first_mark, handed_on, no_memory, refused, setting_inside,
+    Constructor, Mark, Opened, Place, Refusal, first_mark, handed_on, no_memory, refused,
+    setting_inside,
 };
 use std::alloc::{AllocError, Global};
 
@@ -79,13 +81,14 @@ pub struct Named;
 
 /// What a serializer is to have again when its compound has ended. An enum: what a proof of a
 /// caller looks into by itself are structs, and it stops at so many.
-#[derive(Clone, Copy)]
+#[derive(Drop)]
 pub(crate) enum Outer {
-    /// Its setting, its mark, and the constructor of the last first element.
+    /// Its setting, its mark, the constructor of the last first element, and their descriptor.
     Had {
         setting: Setting,
         mark: Mark,
-        found: Option<EncodingCodes>,
+        found: Option<Constructor>,
+        descriptor: Option<Descriptor>,
     },
 }
 
@@ -325,6 +328,7 @@ impl Parts {
                 setting: setting_inside(shape),
                 mark: first_mark(shape),
                 found: None,
+                descriptor: None,
                 ended: false,
                 direct: false,
             },
@@ -338,6 +342,7 @@ impl Parts {
                 setting: Setting::Plain,
                 mark: Mark::Unmarked,
                 found: None,
+                descriptor: None,
             },
         })
     }

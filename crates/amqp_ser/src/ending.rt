@@ -152,7 +152,7 @@ impl<W: Sink> Serializer<W> {
 
     /// The serializer is as it was before the compound opened.
     #[inline(always)]
-    fn restore(&mut self, outer: Outer)
+    pub(crate) fn restore(&mut self, outer: Outer)
         ensures { state W.Write W.FaultCount self.new ≡
             back (outer_in outer) (state W.Write W.FaultCount self.old) }
     {
@@ -161,10 +161,12 @@ impl<W: Sink> Serializer<W> {
                 setting,
                 mark,
                 found,
+                descriptor,
             } => {
                 self.place.setting = setting;
                 self.place.mark = mark;
                 self.place.found = found;
+                self.place.descriptor = descriptor;
             }
         }
     }

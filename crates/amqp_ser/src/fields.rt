@@ -168,17 +168,39 @@ impl<W: Sink> Serializer<W> {
             (struct_item (state W.Write W.FaultCount self.old).setting
             (F.items whole.now.fields)) e (state W.Write W.FaultCount self.new)) }
     {
+        match self.write_struct(alloc, whole.name, &whole.fields) {
+            Ok(()) => Ok(()),
+            Err(e) => Err(e),
+        }
+    }
+
+    /// Writes a struct of this name and these fields.
+    #[inline(always)]
+    pub(crate) fn write_struct<F: StructFields>(
+        &mut self,
+        alloc: Global,
+        name: &str,
+        fields: &F,
+    ) -> Result<(), Error>
+        ensures ok { OnOk result (Wrote (state W.Write W.FaultCount self.old)
+            (struct_item (state W.Write W.FaultCount self.old).setting (F.items fields.now))
+            (state W.Write W.FaultCount self.new)) }
+        ensures err { is_described_name name.now ≡ false → IsTrue (F.usual fields.now) →
+            IfErr result (λ e. Refused (state W.Write W.FaultCount self.old)
+            (struct_item (state W.Write W.FaultCount self.old).setting (F.items fields.now)) e
+            (state W.Write W.FaultCount self.new)) }
+    {
         match self.place.setting {
-            Setting::DescribedMap => self.fields_one_by_one(alloc, whole),
+            Setting::DescribedMap => self.fields_one_by_one(alloc, name, fields),
             _ => {
-                if whole.fields.has_descriptor() {
-                    return self.fields_one_by_one(alloc, whole);
+                if fields.has_descriptor() {
+                    return self.fields_one_by_one(alloc, name, fields);
                 }
-                let mut out = match self.serialize_struct(alloc, whole.name, 0) {
+                let mut out = match self.serialize_struct(alloc, name, 0) {
                     Ok(out) => out,
                     Err(e) => return Err(e),
                 };
-                match whole.fields.write_values(alloc, &mut out) {
+                match fields.write_values(alloc, &mut out) {
                     Ok(()) => out.end(),
                     Err(e) => Err(e),
                 }
@@ -191,22 +213,22 @@ impl<W: Sink> Serializer<W> {
     fn fields_one_by_one<F: StructFields>(
         &mut self,
         alloc: Global,
-        whole: &Struct<'_, F>,
+        name: &str,
+        fields: &F,
     ) -> Result<(), Error>
         ensures ok { OnOk result (Wrote (state W.Write W.FaultCount self.old)
-            (struct_item (state W.Write W.FaultCount self.old).setting (F.items whole.now.fields))
+            (struct_item (state W.Write W.FaultCount self.old).setting (F.items fields.now))
             (state W.Write W.FaultCount self.new)) }
-        ensures err { is_described_name whole.now.name.now ≡ false →
-            IsTrue (F.usual whole.now.fields) →
+        ensures err { is_described_name name.now ≡ false → IsTrue (F.usual fields.now) →
             IfErr result (λ e. Refused (state W.Write W.FaultCount self.old)
-            (struct_item (state W.Write W.FaultCount self.old).setting
-            (F.items whole.now.fields)) e (state W.Write W.FaultCount self.new)) }
+            (struct_item (state W.Write W.FaultCount self.old).setting (F.items fields.now)) e
+            (state W.Write W.FaultCount self.new)) }
     {
-        let mut out = match self.serialize_struct(alloc, whole.name, 0) {
+        let mut out = match self.serialize_struct(alloc, name, 0) {
             Ok(out) => out,
             Err(e) => return Err(e),
         };
-        match whole.fields.write(alloc, &mut out) {
+        match fields.write(alloc, &mut out) {
             Ok(()) => out.end(),
             Err(e) => Err(e),
         }

@@ -4,6 +4,8 @@
 mod blocks;
 mod compound;
 mod decimals;
+mod described;
+mod described_structs;
 mod each;
 mod ending;
 mod fields;

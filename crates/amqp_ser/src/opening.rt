@@ -1,16 +1,17 @@
 //! Compounds are opened: buffered, measured, or written behind their header.
 
-ghost use Rattle.std.specs.Prelude.{◌≡◌, [], true, false, IfOk, OnOk};
+ghost use Rattle.std.specs.Prelude.{◌≡◌, [], None, true, false, IfOk, OnOk};
 ghost use Rattle.amqp_base.specs.Shapes.{setting_inside};
-ghost use Rattle.amqp_ser.specs.State.{state, mark_of, found_of};
+ghost use Rattle.amqp_ser.specs.State.{state, mark_in, mark_of, found_of};
 ghost use Rattle.amqp_ser.specs.Compound.{open_parts, is_map, Holds, RefusesOpen, next_mark};
 ghost use Rattle.amqp_ser.specs.Compound.{outer_in};
 
 use crate::Serializer;
 use crate::compound::{Outer, Parts};
 use amqp_base::{Error, Pass, Setting, Shape, Sink};
-use amqp_write::{Opened, Place, Refusal, first_mark, no_memory, refused, setting_inside};
+use amqp_write::{Mark, Opened, Place, Refusal, first_mark, no_memory, refused, setting_inside};
 use std::alloc::Global;
+use std::mem;
 
 impl<W: Sink> Serializer<W> {
     /// Opens a compound, that holds its serializer from then on.
@@ -122,6 +123,31 @@ impl<W: Sink> Serializer<W> {
         }
     }
 
+    /// What the serializer has is set aside, for a setting and a mark that the next values have.
+    #[inline(always)]
+    pub(crate) fn set_aside(&mut self, setting: Setting, mark: Mark) -> Outer
+        ensures setting { (outer_in result).setting ≡ self.old.place.setting }
+        ensures mark { (outer_in result).mark ≡ mark_of self.old.place }
+        ensures found { (outer_in result).found ≡ found_of self.old.place }
+        ensures state { state W.Write W.FaultCount self.new ≡
+            record (state W.Write W.FaultCount self.old) {
+              setting = setting;
+              mark = mark_in None mark;
+              found = None;
+            } }
+    {
+        let outer = Outer::Had {
+            setting: self.place.setting,
+            mark: self.place.mark,
+            found: self.place.found,
+            descriptor: mem::replace(&mut self.place.descriptor, None),
+        };
+        self.place.setting = setting;
+        self.place.mark = mark;
+        self.place.found = None;
+        outer
+    }
+
     /// The parts that come stand on the serializer itself, until their compound ends.
     #[inline(always)]
     fn lend(&mut self, alloc: Global, shape: Shape, opened: Opened) -> Parts
@@ -130,8 +156,8 @@ impl<W: Sink> Serializer<W> {
         ensures opened { result.opened ≡ opened }
         ensures answers { result.buffer.place.ended ≡ false }
         ensures setting { (outer_in result.outer).setting ≡ self.old.place.setting }
-        ensures mark { (outer_in result.outer).mark ≡ mark_of self.old.place.mark }
-        ensures found { (outer_in result.outer).found ≡ found_of self.old.place.found }
+        ensures mark { (outer_in result.outer).mark ≡ mark_of self.old.place }
+        ensures found { (outer_in result.outer).found ≡ found_of self.old.place }
         ensures state { state W.Write W.FaultCount self.new ≡
             record (state W.Write W.FaultCount self.old) {
               setting = setting_inside shape;
@@ -140,14 +166,7 @@ impl<W: Sink> Serializer<W> {
               ended = true;
             } }
     {
-        let outer = Outer::Had {
-            setting: self.place.setting,
-            mark: self.place.mark,
-            found: self.place.found,
-        };
-        self.place.setting = setting_inside(shape);
-        self.place.mark = first_mark(shape);
-        self.place.found = None;
+        let outer = self.set_aside(setting_inside(shape), first_mark(shape));
         self.place.ended = true;
         let buffer = Serializer {
             writer: Vec::new(alloc),

@@ -8,6 +8,9 @@ pub mod WideTexts
 pub mod PayloadTexts
 pub mod PartTexts
 pub mod WhyTexts
+pub mod DescribedTexts
+pub mod WhyElsewhere
+pub mod DescribedSteps
 pub mod Lengths
 pub mod Heads
 pub mod NumberTexts

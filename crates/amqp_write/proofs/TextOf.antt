@@ -19,16 +19,17 @@ use Rattle.amqp_base.specs.declared.shape.Shape.{Shape}
 use Rattle.amqp_write.specs.Wholes.{whole_text, shape_code, narrow_of, empty_list}
 use Rattle.amqp_write.proofs.Steps.{pays_appended, pays_none}
 use Rattle.amqp_base.specs.declared.error.Error.TheVariants.{InvalidValue, OutOfMemory, Io}
+use Rattle.amqp_types.specs.declared.described.Descriptor.{Descriptor}
 use Rattle.amqp_write.specs.declared.place.Mark.{Mark as CodeMark}
 use Rattle.amqp_write.specs.declared.place.Mark.TheVariants.{Unmarked, First, Other}
-use Rattle.amqp_write.specs.State.{State, Mark, unmarked, first, other, mark_of}
+use Rattle.amqp_write.specs.State.{State, Mark, unmarked, first, other, mark_in}
 use Rattle.amqp_write.specs.Law.{marked, placed, found_after, unwritten, why_unwritten}
 use Rattle.amqp_write.specs.Appending.{payload_at, Pays, Appended}
 
-pub not_unmarked : (m : CodeMark) → (m ≡ Unmarked → ⊥) → mark_of m ≡ unmarked → ⊥
-not_unmarked Unmarked h e = h refl
-not_unmarked First h e = cc
-not_unmarked (Other c) h e = cc
+pub not_unmarked : (d : Option Descriptor) (m : CodeMark) → (m ≡ Unmarked → ⊥) → mark_in d m ≡ unmarked → ⊥
+not_unmarked d Unmarked h e = h refl
+not_unmarked d First h e = cc
+not_unmarked d (Other c) h e = cc
 
 pub pays_text : {A : Type 0} (s : State) (text text' : Option (List ℕ)) (found found' : Option Constructor) (l : List Size) (why : Error) (r : Result A Error) (t : State) → text ≡ text' → found ≡ found' → Pays s text' found' l why r t → Pays s text found l why r t
 pays_text s text text' found found' l why r t e f p = subst (λ x. Pays s x found l why r t) (sym e) (subst (λ x. Pays s text' x l why r t) (sym f) p)

@@ -5,3 +5,4 @@ pub mod Appending
 pub mod Wholes
 pub mod Passes
 pub mod NumberTexts
+pub mod Describing

@@ -1,12 +1,16 @@
 -- What contracts see of a writer and of where its next item stands.
-use Rattle.std.specs.Prelude.{ℕ, Bool, true, false, List, min, Option, None, Some}
+use Rattle.std.specs.Prelude.{◌≡◌, ℕ, Bool, true, false, List, min, Option, None, Some}
 use Rattle.std.specs.declared.io.ErrorKind.{ErrorKind}
 use Rattle.std.specs.declared.io.Write as Write
 use Rattle.amqp_base.specs.declared.format_code.EncodingCodes.{EncodingCodes}
 use Rattle.amqp_base.specs.declared.fault.FaultCount as FaultCount
 use Rattle.amqp_base.specs.declared.shape.Setting.{Setting}
-use Rattle.amqp_base.specs.Wire.{Constructor, under}
+use Rattle.amqp_base.specs.Wire.{Constructor, bare, under, under_pair}
 use Rattle.amqp_base.specs.Sizes.{Size}
+use Rattle.amqp_types.specs.declared.described.Descriptor.{Descriptor}
+use Rattle.amqp_types.specs.Descriptors.{descriptor_of}
+use Rattle.amqp_write.specs.declared.place.Constructor.{Constructor as OwnConstructor}
+use Rattle.amqp_write.specs.declared.place.Constructor.TheVariants.{Under, UnderPair}
 use Rattle.amqp_write.specs.declared.place.Mark.{Mark as CodeMark}
 use Rattle.amqp_write.specs.declared.place.Mark.TheVariants.{Unmarked, First, Other}
 use Rattle.amqp_base.specs.declared.fault.Size.{Size as CodeSize}
@@ -36,14 +40,30 @@ pub record State : Type 0 where
   -- every call answers `InvalidValue`
   pub ended : Bool
 
-abbrev pub mark_of : CodeMark → Mark
-mark_of Unmarked = unmarked
-mark_of First = first
-mark_of (Other e) = other (under e)
+-- a constructor of the code, whose descriptor is kept beside it
+abbrev pub constructor_in : Option Descriptor → OwnConstructor → Constructor
+constructor_in d (Under e) = under e
+constructor_in (Some d) (UnderPair e) = under_pair (descriptor_of d) e
+constructor_in None (UnderPair e) = bare
 
-abbrev pub found_of : Option EncodingCodes → Option Constructor
-found_of None = None
-found_of (Some e) = Some (under e)
+abbrev pub mark_in : Option Descriptor → CodeMark → Mark
+mark_in d Unmarked = unmarked
+mark_in d First = first
+mark_in d (Other c) = other (constructor_in d c)
+
+-- a mark of the code is this one, whatever descriptor is kept beside it
+abbrev pub MarksAs : CodeMark → Mark → Type 0
+MarksAs m n = (d : Option Descriptor) → mark_in d m ≡ n
+
+abbrev pub found_in : Option Descriptor → Option OwnConstructor → Option Constructor
+found_in d None = None
+found_in d (Some c) = Some (constructor_in d c)
+
+abbrev pub mark_of : Place → Mark
+mark_of p = mark_in p.descriptor p.mark
+
+abbrev pub found_of : Place → Option Constructor
+found_of p = found_in p.descriptor p.found
 
 abbrev pub size_in : CodeSize → Size
 size_in z = record { length = z.length; count = z.count }
@@ -70,8 +90,8 @@ stand w f x p = record {
   last_fault = f.last_fault x;
   grows = f.grows x;
   setting = p.setting;
-  mark = mark_of p.mark;
-  found = found_of p.found;
+  mark = mark_of p;
+  found = found_of p;
   plan = plan_in p.direct (f.plan x);
   measure = measure_in p.direct (f.measure x);
   ended = p.ended;

@@ -23,7 +23,7 @@ impl Place {
         requires answers { self.old.ended ≡ false }
         requires whole { text.now ≡ (row code).byte ∷ bytes.now }
         ensures law { PaysUnder (stand W.Write W.FaultCount writer.old self.old) code
-            (fixed_at (mark_of self.old.mark) code bytes.now) Error.InvalidValue (as_error result)
+            (fixed_at (mark_of self.old) code bytes.now) Error.InvalidValue (as_error result)
             (stand W.Write W.FaultCount writer.new self.new) }
     {
         let mark = self.mark;
@@ -43,10 +43,10 @@ impl Place {
         text: &[u8],
     ) -> Result<(), Refusal>
         requires answers { self.old.ended ≡ false }
-        requires marked { mark_of self.old.mark ≡ unmarked }
+        requires marked { mark_of self.old ≡ unmarked }
         requires whole { text.now ≡ (row code).byte ∷ bytes.now }
         ensures law { PaysUnder (stand W.Write W.FaultCount writer.old self.old) code
-            (fixed_at (mark_of self.old.mark) code bytes.now) Error.InvalidValue (as_error result)
+            (fixed_at (mark_of self.old) code bytes.now) Error.InvalidValue (as_error result)
             (stand W.Write W.FaultCount writer.new self.new) }
     {
         let _ = code;
@@ -64,7 +64,7 @@ impl Place {
     ) -> Result<(), Refusal>
         requires { self.old.ended ≡ false }
         ensures law { PaysUnder (stand W.Write W.FaultCount writer.old self.old) code
-            (fixed_at (mark_of self.old.mark) code (bytes ∷ [])) Error.InvalidValue
+            (fixed_at (mark_of self.old) code (bytes ∷ [])) Error.InvalidValue
             (as_error result) (stand W.Write W.FaultCount writer.new self.new) }
     {
         self.fixed(writer, code, &[bytes], &[code.byte(), bytes])
@@ -80,7 +80,7 @@ impl Place {
     ) -> Result<(), Refusal>
         requires { self.old.ended ≡ false }
         ensures law { PaysUnder (stand W.Write W.FaultCount writer.old self.old) code
-            (fixed_at (mark_of self.old.mark) code bytes) Error.InvalidValue (as_error result)
+            (fixed_at (mark_of self.old) code bytes) Error.InvalidValue (as_error result)
             (stand W.Write W.FaultCount writer.new self.new) }
     {
         let text = [code.byte(), bytes[0], bytes[1]];
@@ -98,7 +98,7 @@ impl Place {
         requires { self.old.ended ≡ false }
         ensures width { length bytes ≡ 4 }
         ensures law { PaysUnder (stand W.Write W.FaultCount writer.old self.old) code
-            (fixed_at (mark_of self.old.mark) code bytes) Error.InvalidValue (as_error result)
+            (fixed_at (mark_of self.old) code bytes) Error.InvalidValue (as_error result)
             (stand W.Write W.FaultCount writer.new self.new) }
     {
         let text = [code.byte(), bytes[0], bytes[1], bytes[2], bytes[3]];
@@ -114,10 +114,10 @@ impl Place {
         bytes: [u8; 4],
     ) -> Result<(), Refusal>
         requires answers { self.old.ended ≡ false }
-        requires marked { mark_of self.old.mark ≡ unmarked }
+        requires marked { mark_of self.old ≡ unmarked }
         ensures width { length bytes ≡ 4 }
         ensures law { PaysUnder (stand W.Write W.FaultCount writer.old self.old) code
-            (fixed_at (mark_of self.old.mark) code bytes) Error.InvalidValue (as_error result)
+            (fixed_at (mark_of self.old) code bytes) Error.InvalidValue (as_error result)
             (stand W.Write W.FaultCount writer.new self.new) }
     {
         let text = [code.byte(), bytes[0], bytes[1], bytes[2], bytes[3]];
@@ -135,7 +135,7 @@ impl Place {
         requires { self.old.ended ≡ false }
         ensures width { length bytes ≡ 8 }
         ensures law { PaysUnder (stand W.Write W.FaultCount writer.old self.old) code
-            (fixed_at (mark_of self.old.mark) code bytes) Error.InvalidValue (as_error result)
+            (fixed_at (mark_of self.old) code bytes) Error.InvalidValue (as_error result)
             (stand W.Write W.FaultCount writer.new self.new) }
     {
         let text = [
@@ -163,7 +163,7 @@ impl Place {
         requires { self.old.ended ≡ false }
         ensures width { length bytes ≡ 16 }
         ensures law { PaysUnder (stand W.Write W.FaultCount writer.old self.old) code
-            (fixed_at (mark_of self.old.mark) code bytes) Error.InvalidValue (as_error result)
+            (fixed_at (mark_of self.old) code bytes) Error.InvalidValue (as_error result)
             (stand W.Write W.FaultCount writer.new self.new) }
     {
         let text = [

@@ -61,7 +61,7 @@ impl Place {
     pub fn head<W: Sink>(&mut self, writer: &mut W, shape: Shape, size: Size) -> Result<(), Refusal>
         requires answers { self.old.ended ≡ false }
         ensures law { PaysUnder (stand W.Write W.FaultCount writer.old self.old) (shape_code shape)
-            (head_text shape (mark_of self.old.mark) (size_in size)) (unwritten size.length)
+            (head_text shape (mark_of self.old) (size_in size)) (unwritten size.length)
             (as_error result) (stand W.Write W.FaultCount writer.new self.new) }
     {
         if size.length > LONGEST {
@@ -118,7 +118,7 @@ impl Place {
     ) -> Result<(), Refusal>
         ensures law { count ≤ length body.now → PaysUnder
             (answering (stand W.Write W.FaultCount writer.old self.old)) (shape_code shape)
-            (whole_text shape (mark_of self.old.mark) count body.now) (unwritten (length body.now))
+            (whole_text shape (mark_of self.old) count body.now) (unwritten (length body.now))
             (as_error result) (stand W.Write W.FaultCount writer.new self.new) }
         ensures kept { Kept (stand W.Write W.FaultCount writer.old self.old)
             (stand W.Write W.FaultCount writer.new self.new) }
@@ -157,11 +157,11 @@ impl Place {
         body: &[u8],
     ) -> Result<(), Refusal>
         requires answers { self.old.ended ≡ false }
-        requires marked { mark_of self.old.mark ≡ unmarked }
+        requires marked { mark_of self.old ≡ unmarked }
         requires short { length body.now ≤ 4294967291 }
         ensures law { count ≤ length body.now → PaysUnder
             (stand W.Write W.FaultCount writer.old self.old) (shape_code shape)
-            (whole_text shape (mark_of self.old.mark) count body.now) (unwritten (length body.now))
+            (whole_text shape (mark_of self.old) count body.now) (unwritten (length body.now))
             (as_error result) (stand W.Write W.FaultCount writer.new self.new) }
         ensures kept { Kept (stand W.Write W.FaultCount writer.old self.old)
             (stand W.Write W.FaultCount writer.new self.new) }

@@ -4,6 +4,7 @@
 
 mod blocks;
 mod decimals;
+mod described;
 mod fixed;
 mod floats;
 mod header;
@@ -18,9 +19,10 @@ mod signed;
 mod sizes;
 mod unsigned;
 
+pub use described::{Behind, is_too_long};
 pub use leaf::Leaf;
 pub use numbers::{Element, Outside, Texts};
 pub use pass::{Measure, Opened, Plan, Reserved};
-pub use place::{Mark, Place, first_mark, setting_inside};
+pub use place::{Constructor, Mark, Place, first_mark, setting_inside};
 pub use refusal::{Refusal, handed_on, no_memory, refused};
 pub use sizes::Sizes;

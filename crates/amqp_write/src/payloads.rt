@@ -25,7 +25,7 @@ impl Place {
     ) -> Result<(), Refusal>
         requires { self.old.ended ≡ false }
         ensures law { PaysUnder (stand W.Write W.FaultCount writer.old self.old) code
-            (payload_at (mark_of self.old.mark) narrow code bytes.now)
+            (payload_at (mark_of self.old) narrow code bytes.now)
             (unwritten (length bytes.now)) (as_error result)
             (stand W.Write W.FaultCount writer.new self.new) }
     {

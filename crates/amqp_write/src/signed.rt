@@ -53,7 +53,7 @@ impl Place {
     #[inline(always)]
     fn plain_int<W: Sink>(&mut self, writer: &mut W, v: i32) -> Result<(), Refusal>
         requires answers { self.old.ended ≡ false }
-        requires marked { mark_of self.old.mark ≡ unmarked }
+        requires marked { mark_of self.old ≡ unmarked }
         ensures law { PaysItem (stand W.Write W.FaultCount writer.old self.old) (scalar (int v))
             Error.InvalidValue (as_error result) (stand W.Write W.FaultCount writer.new self.new) }
     {

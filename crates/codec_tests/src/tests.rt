@@ -10,6 +10,7 @@ mod asked;
 mod bytes;
 mod calls;
 mod constants;
+mod described;
 mod deserializer;
 mod empty_arrays;
 mod error;

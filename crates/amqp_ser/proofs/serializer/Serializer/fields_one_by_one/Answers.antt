@@ -9,6 +9,6 @@ use Rattle.amqp_ser.proofs.serializer.Serializer.fields_one_by_one.Goals as goal
 pub returns-in-Err-write-clause-err : goal.returns-in-Err-write-clause-err
 returns-in-Err-write-clause-err g c = λ free usual.
     let s = state g.W.Write g.W.FaultCount c.args.self.now in
-    let fs = g.F.StructFields.items c.args.whole.now.fields in
+    let fs = g.F.StructFields.items c.args.fields.now in
     let refused = c.in-Err-write.ensures.err usual s [] fs c.in-Ok.ensures.opened (begins_self fs) in
     moved (λ n. Refused s (struct_item s.setting fs) c.in-Err-write.e (state g.W.Write g.W.FaultCount n)) c.write.new.out.ser.now _ (search rules) refused

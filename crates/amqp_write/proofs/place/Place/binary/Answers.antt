@@ -4,4 +4,4 @@ use Rattle.amqp_write.proofs.place.Place.binary.Goals as goal
 
 pub returns : goal.returns
 unfolding stand
-returns g c = record { law = pays_payload _ _ _ _ _ _ _ _ (carries_binary (mark_of c.args.self.now.mark) c.args.v.now) c.payload_text.ensures.law }
+returns g c = record { law = pays_payload _ _ _ _ _ _ _ _ (carries_binary (mark_of c.args.self.now) c.args.v.now) c.payload_text.ensures.law }

@@ -7,4 +7,4 @@ use Rattle.amqp_write.proofs.place.Place.byte.Goals as goal
 
 pub returns : goal.returns
 unfolding stand
-returns g c = let f : SFits w8 c.args.v = c.ranges.v in record { law = pays_wide _ _ _ _ _ _ (byte_wide (mark_of c.args.self.now.mark) c.args.v f) (rw (simp to_z-of_z at c.cast_unsigned.ensures) at c.one_byte.ensures.law) }
+returns g c = let f : SFits w8 c.args.v = c.ranges.v in record { law = pays_wide _ _ _ _ _ _ (byte_wide (mark_of c.args.self.now) c.args.v f) (rw (simp to_z-of_z at c.cast_unsigned.ensures) at c.one_byte.ensures.law) }

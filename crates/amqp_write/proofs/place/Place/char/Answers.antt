@@ -5,4 +5,4 @@ use Rattle.amqp_write.proofs.place.Place.char.Goals as goal
 
 pub returns : goal.returns
 unfolding stand
-returns g c = record { law = pays_wide _ _ _ _ _ _ (char_wide (mark_of c.args.self.now.mark) c.args.v (search rules)) (rw (c.to_be_bytes.ensures, c.from.ensures) at c.four_bytes.ensures.law) }
+returns g c = record { law = pays_wide _ _ _ _ _ _ (char_wide (mark_of c.args.self.now) c.args.v (search rules)) (rw (c.to_be_bytes.ensures, c.from.ensures) at c.four_bytes.ensures.law) }

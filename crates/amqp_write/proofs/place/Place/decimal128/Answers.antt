@@ -4,4 +4,4 @@ use Rattle.amqp_write.proofs.place.Place.decimal128.Goals as goal
 
 pub returns : goal.returns
 unfolding stand
-returns g c = record { law = pays_wide _ _ _ _ _ _ (decimal128_wide (mark_of c.args.self.now.mark) c.args.v.now (rw c.as_inner.ensures at c.sixteen_bytes.ensures.width)) (rw c.as_inner.ensures at c.sixteen_bytes.ensures.law) }
+returns g c = record { law = pays_wide _ _ _ _ _ _ (decimal128_wide (mark_of c.args.self.now) c.args.v.now (rw c.as_inner.ensures at c.sixteen_bytes.ensures.width)) (rw c.as_inner.ensures at c.sixteen_bytes.ensures.law) }

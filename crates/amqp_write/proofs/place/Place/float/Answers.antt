@@ -5,4 +5,4 @@ use Rattle.amqp_write.proofs.place.Place.float.Goals as goal
 
 pub returns : goal.returns
 unfolding stand
-returns g c = record { law = pays_wide _ _ _ _ _ _ (float_wide (mark_of c.args.self.now.mark) c.args.v (omega arith)) (rw (c.to_be_bytes.ensures, c.to_bits.ensures) at c.four_bytes.ensures.law) }
+returns g c = record { law = pays_wide _ _ _ _ _ _ (float_wide (mark_of c.args.self.now) c.args.v (omega arith)) (rw (c.to_be_bytes.ensures, c.to_bits.ensures) at c.four_bytes.ensures.law) }

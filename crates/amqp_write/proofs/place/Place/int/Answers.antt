@@ -14,5 +14,5 @@ pub returns-in_default : goal.returns-in_default
 unfolding stand
 returns-in_default g c =
     let f : SFits w32 c.args.v = c.ranges.v in
-    let wide = int_wide (mark_of c.args.self.now.mark) c.args.v (λ u. absurd (not_unmarked _ c.in_default.not-Unmarked u)) f in
+    let wide = int_wide (mark_of c.args.self.now) c.args.v (λ u. absurd (not_unmarked _ _ c.in_default.not-Unmarked u)) f in
     record { law = pays_wide _ _ _ _ _ _ wide (rw (simp to_z-of_z at c.to_be_bytes.ensures) at c.four_bytes.ensures.law) }

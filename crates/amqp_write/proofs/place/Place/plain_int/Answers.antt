@@ -22,5 +22,5 @@ unfolding stand
 returns-in-Err g c =
     let f : SFits w32 c.args.v = c.ranges.v in
     let h = simp to_z-of_z at c.in-Err.ensures in
-    let wide = int_wide (mark_of c.args.self.now.mark) c.args.v (λ _. h) f in
+    let wide = int_wide (mark_of c.args.self.now) c.args.v (λ _. h) f in
     record { law = pays_wide _ _ _ _ _ _ wide (rw (simp to_z-of_z at c.to_be_bytes.ensures) at c.plain_four_bytes.ensures.law) }

@@ -7,4 +7,4 @@ use Rattle.amqp_write.proofs.place.Place.short.Goals as goal
 
 pub returns : goal.returns
 unfolding stand
-returns g c = let f : SFits w16 c.args.v = c.ranges.v in record { law = pays_wide _ _ _ _ _ _ (short_wide (mark_of c.args.self.now.mark) c.args.v f) (rw (simp to_z-of_z at c.to_be_bytes.ensures) at c.two_bytes.ensures.law) }
+returns g c = let f : SFits w16 c.args.v = c.ranges.v in record { law = pays_wide _ _ _ _ _ _ (short_wide (mark_of c.args.self.now) c.args.v f) (rw (simp to_z-of_z at c.to_be_bytes.ensures) at c.two_bytes.ensures.law) }

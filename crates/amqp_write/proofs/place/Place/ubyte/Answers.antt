@@ -5,4 +5,4 @@ use Rattle.amqp_write.proofs.place.Place.ubyte.Goals as goal
 
 pub returns : goal.returns
 unfolding stand
-returns g c = record { law = pays_wide _ _ _ _ _ _ (ubyte_wide (mark_of c.args.self.now.mark) c.args.v (omega arith)) c.one_byte.ensures.law }
+returns g c = record { law = pays_wide _ _ _ _ _ _ (ubyte_wide (mark_of c.args.self.now) c.args.v (omega arith)) c.one_byte.ensures.law }
