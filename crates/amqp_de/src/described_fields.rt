@@ -6,7 +6,8 @@ ghost use Rattle.amqp_base.specs.Codes.{Kind, row};
 ghost use Rattle.amqp_de.specs.Calls.{NamedRead, NamedRefused};
 ghost use Rattle.amqp_de.specs.DescribedFields.{ListRead, ListMissed, ListBehindNamed};
 ghost use Rattle.amqp_de.specs.DescribedFields.{MapBehindNamed};
-ghost use Rattle.amqp_de.specs.DescribedFields.{FieldsBehind, FieldsBehindRefused, FieldsBehindNamed};
+ghost use Rattle.amqp_de.specs.DescribedFields.{FieldsBehind, FieldsBehindRefused};
+ghost use Rattle.amqp_de.specs.DescribedFields.{FieldsBehindNamed};
 ghost use Rattle.amqp_de.specs.DescribedFields.{NamesBehind, NamesBehindRefused, NamesBehindNamed};
 ghost use Rattle.amqp_de.specs.Steps.{Stops};
 ghost use Rattle.amqp_types.specs.Descriptors.{descriptor_of};
@@ -57,7 +58,8 @@ impl<R: Read> Deserializer<R> {
         fields: S,
     ) -> Result<S::Values, Error>
         ensures ok { IfOk result (λ vs. ListRead (S.slots fields) vs self.old self.new) }
-        ensures err { IfErr result (λ e. ListMissed (S.slots fields) R.buffers self.old self.new e) }
+        ensures err { IfErr result (λ e.
+            ListMissed (S.slots fields) R.buffers self.old self.new e) }
         ensures named { IfErr result (λ e. ListBehindNamed (S.slots fields) S.takes S.refuses
             R.buffers self.old self.new e) }
         ensures ended { OnErr result (IsTrue self.new.ended) }
@@ -144,8 +146,8 @@ impl<R: Read> Deserializer<R> {
         }
     }
 
-    /// Reads the fields of a struct under a descriptor (part 1, section 1.2): out of a map behind it
-    /// (section 1.6.23) of just their names as strings, each once, in any order.
+    /// Reads the fields of a struct under a descriptor (part 1, section 1.2): out of a map behind
+    /// it (section 1.6.23) of just their names as strings, each once, in any order.
     ///
     /// In this order: the refusals of `deserialize_descriptor`, `Message` where the descriptor is
     /// another one, `Io(UnexpectedEof)` where there is no byte behind it, `InvalidFormatCode` where

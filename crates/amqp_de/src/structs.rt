@@ -193,8 +193,9 @@ impl<R: Read> Deserializer<R> {
 impl<'a, R: Read> StructAccess<'a, R> {
     /// The next field of a list; `None` where all were read, and then nothing is consumed.
     ///
-    /// The refusals are those of `ListAccess::next_element` and `DescribedAccess::next_element`, and
-    /// `InvalidValue` where the item is a map. Each of them ends the access and its deserializer.
+    /// The refusals are those of `ListAccess::next_element` and `DescribedAccess::next_element`,
+    /// and `InvalidValue` where the item is a map. Each of them ends the access and its
+    /// deserializer.
     pub fn next_element<T: Deserialize<R>>(&mut self, alloc: Global) -> Result<Option<T>, Error>
         ensures same_reference { (struct_lender self.new).ghost_name ≡ (struct_lender
             self.old).ghost_name }
