@@ -8,13 +8,12 @@ use Rattle.amqp_base.specs.Canon.{same_descriptor}
 use Rattle.amqp_base.specs.Codes.{Kind, row}
 use Rattle.amqp_base.specs.Describing.{is_described_of, means_described, describing_at, is_behind, means_behind, behind_refusal, kind_data, header_refusal}
 use Rattle.amqp_base.specs.Leading.{takes_leading}
+use Rattle.amqp_base.specs.NamedFields.{takes_map}
 use Rattle.amqp_base.specs.Item.{Item, scalar, list, map, array, described, Descriptor}
 use Rattle.amqp_base.specs.Parse.{Parsed, item_at, code_at}
 use Rattle.amqp_base.specs.Refusals.{IsCustom, IsMessage, StandsFor}
 use Rattle.amqp_base.specs.Refusing.{Refusing, PartsRefusing, one_or_other, opened_refusal}
-use Rattle.amqp_base.specs.SameKind.{same_kind}
 use Rattle.amqp_base.specs.Wire.{Constructor, Wire, lenient}
-use Rattle.amqp_base.proofs.KindPlaces.{same_kind_is, kind_same}
 use Rattle.amqp_data.specs.Excuses.{Excused, no_memory}
 use Rattle.amqp_data.proofs.FixedWidth.{custom_device}
 use Rattle.amqp_data.proofs.Readings.{excused_before, excused_more, onward, stayed}
@@ -27,6 +26,7 @@ use Rattle.amqp_de.proofs.DescribedRead.{described_found, described_missed, unde
 use Rattle.amqp_de.proofs.FormsOpened.{item_none}
 use Rattle.amqp_de.proofs.Naming.{by_code, named_behind}
 use Rattle.amqp_de.proofs.PartsRead.{both, left_of, right_of}
+use Rattle.amqp_de.proofs.StructsBehind.{kind_is, kind_not}
 use Rattle.amqp_de.proofs.Weaker.{found_as}
 
 -- ---- codes of lists
@@ -39,9 +39,9 @@ no_list_code List8 a b c h = b refl
 no_list_code List32 a b c h = c refl
 no_list_code _ a b c h = absurd cc
 
--- ---- a list of the fields
+-- ---- an item of one kind
 
-list_kind : (fields : List (Item → Bool)) (i : Item) → IsTrue (takes_leading fields i) → item_kind i ≡ Kind.list
+pub list_kind : (fields : List (Item → Bool)) (i : Item) → IsTrue (takes_leading fields i) → item_kind i ≡ Kind.list
 unfolding takes_leading
 list_kind fields (list is) t = refl
 list_kind fields (scalar v) t = absurd cc
@@ -49,67 +49,62 @@ list_kind fields (map ps) t = absurd cc
 list_kind fields (array is) t = absurd cc
 list_kind fields (described d v) t = absurd cc
 
+pub map_kind : (names : List (List ℕ)) (fields : List (Item → Bool)) (i : Item) → IsTrue (takes_map names fields i) → item_kind i ≡ Kind.map
+unfolding takes_map
+map_kind names fields (map ps) t = refl
+map_kind names fields (list is) t = absurd cc
+map_kind names fields (scalar v) t = absurd cc
+map_kind names fields (array is) t = absurd cc
+map_kind names fields (described d v) t = absurd cc
+
 -- another code stands there
-pub other_missed : (fields : List (Item → Bool)) (buffers : Bool) (old mid : Decoding) (x : EncodingCodes) (text : List ℕ) (e : Error) → Looks old mid x → ((row x).kind ≡ Kind.list → ⊥) → IsCustom text e → Missed (takes_leading fields) true buffers old (as_ended mid) e
-other_missed fields buffers old mid x text e l n c = record {
-  why = λ a i t rest w q at h. absurd (n (l.kind i t w (may_known mid.reading t rest (keeps_known old.reading.to_come mid.reading.to_come (t ++ rest) l.looked.stays.to_come at)) ∙ list_kind fields i q));
+pub other_missed : (k : Kind) (takes : Item → Bool) → ((i : Item) → IsTrue (takes i) → item_kind i ≡ k) → (buffers : Bool) (old mid : Decoding) (x : EncodingCodes) (text : List ℕ) (e : Error) → Looks old mid x → ((row x).kind ≡ k → ⊥) → IsCustom text e → Missed takes true buffers old (as_ended mid) e
+other_missed k takes of_it buffers old mid x text e l n c = record {
+  why = λ a i t rest w q at h. absurd (n (l.kind i t w (may_known mid.reading t rest (keeps_known old.reading.to_come mid.reading.to_come (t ++ rest) l.looked.stays.to_come at)) ∙ of_it i q));
   spent = λ a. record { most = omega (arith, l.begun, l.looked.stays.taken) };
   steady = stayed l.looked.stays;
   device = λ d. absurd (custom_device text e c d);
   memory = λ _. refl;
 }
 
-custom_says : (text : List ℕ) (custom e : Error) → IsCustom text e → StandsFor custom e → (custom ≡ e) ⊎ (e ≡ OutOfMemory)
-custom_says text custom (Message s) c f = inl (f tt)
-custom_says text custom OutOfMemory c f = inr refl
-custom_says text custom _ c f = absurd c
+other_kind : (k : Kind) (parse : EncodingCodes → List ℕ → Parsed ℕ) (custom : Error) (c : Constructor) (s rest : List ℕ) (x : EncodingCodes) → code_at c s ≡ Ok (x, rest) → ((row x).kind ≡ k → ⊥) → item_at (kind_data k parse custom) c s ≡ Err custom
+other_kind k parse custom c s rest x h n = by_code (kind_data k parse custom) c s rest x h ∙ kind_not k parse custom x rest n
 
-other_kind : (parse : EncodingCodes → List ℕ → Parsed ℕ) (custom : Error) (c : Constructor) (s rest : List ℕ) (x : EncodingCodes) → code_at c s ≡ Ok (x, rest) → ((row x).kind ≡ Kind.list → ⊥) → item_at (kind_data Kind.list parse custom) c s ≡ Err custom
-unfolding kind_data
-other_kind parse custom c s rest x k n = by_code (kind_data Kind.list parse custom) c s rest x k ∙ tell (same_kind (row x).kind Kind.list) refl
-  where
-    tell : (b : Bool) → same_kind (row x).kind Kind.list ≡ b → kind_data Kind.list parse custom x rest ≡ Err custom
-    tell true q = absurd (n (same_kind_is (row x).kind Kind.list q))
-    tell false q = rw q refl
+of_kind : (k : Kind) (parse : EncodingCodes → List ℕ → Parsed ℕ) (custom : Error) (c : Constructor) (s rest : List ℕ) (x : EncodingCodes) → code_at c s ≡ Ok (x, rest) → (row x).kind ≡ k → item_at (kind_data k parse custom) c s ≡ item_at parse c s
+of_kind k parse custom c s rest x h n = by_code (kind_data k parse custom) c s rest x h ∙ (kind_is k parse custom x rest n ∙ sym (by_code parse c s rest x h))
 
-of_kind : (parse : EncodingCodes → List ℕ → Parsed ℕ) (custom : Error) (c : Constructor) (s rest : List ℕ) (x : EncodingCodes) → code_at c s ≡ Ok (x, rest) → (row x).kind ≡ Kind.list → item_at (kind_data Kind.list parse custom) c s ≡ item_at parse c s
-unfolding kind_data
-of_kind parse custom c s rest x k n = by_code (kind_data Kind.list parse custom) c s rest x k ∙ (rw (kind_same (row x).kind Kind.list n) refl ∙ sym (by_code parse c s rest x k))
-
-module _ (parse : EncodingCodes → List ℕ → Parsed ℕ) (later : PartsRefusing) (buffers : Bool) (old : Decoding) where
-  pub other_named : (mid : Decoding) (x : EncodingCodes) (text : List ℕ) (e : Error) → Looks old mid x → ((row x).kind ≡ Kind.list → ⊥) → IsCustom text e → Named (header_refusal (kind_data Kind.list parse) later) true buffers old (as_ended mid) e
+module _ (k : Kind) (parse : EncodingCodes → List ℕ → Parsed ℕ) (later : PartsRefusing) (buffers : Bool) (old : Decoding) where
+  pub other_named : (mid : Decoding) (x : EncodingCodes) (text : List ℕ) (e : Error) → Looks old mid x → ((row x).kind ≡ k → ⊥) → IsCustom text e → Named (header_refusal (kind_data k parse) later) true buffers old (as_ended mid) e
   unfolding header_refusal
   other_named mid x text e l n c = record { why = λ a s at h. let y = l.exact s at in tell s y.0 y.1 e refl c }
     where
-      tell : (s rest : List ℕ) → code_at (stands_under old) s ≡ Ok (x, rest) → (z : Error) → z ≡ e → IsCustom text z
-          → header_refusal (kind_data Kind.list parse) later (stands_under old) s e ⊎ Excused true buffers old.reading mid.reading e
-      tell s rest k (Message t) q i = inl (inl (λ custom f. other_kind parse custom (stands_under old) s rest x k n ∙ ap Err (f (of_message q))))
+      tell : (s rest : List ℕ) → code_at (stands_under old) s ≡ Ok (x, rest) → (z : Error) → z ≡ e → IsCustom text z → header_refusal (kind_data k parse) later (stands_under old) s e ⊎ Excused true buffers old.reading mid.reading e
+      tell s rest h (Message t) q i = inl (inl (λ custom f. other_kind k parse custom (stands_under old) s rest x h n ∙ ap Err (f (of_message q))))
         where
           of_message : Message t ≡ e → IsMessage e
           of_message g = rw (← g) tt
-      tell s rest k OutOfMemory q i = inr (no_memory (sym q) refl)
-      tell s rest k _ q i = absurd i
+      tell s rest h OutOfMemory q i = inr (no_memory (sym q) refl)
+      tell s rest h _ q i = absurd i
 
-  pub unseen_named : (new : Decoding) (e : Error) → LooksNot buffers old new e → Named (header_refusal (kind_data Kind.list parse) later) true buffers old new e
+  pub unseen_named : (new : Decoding) (e : Error) → LooksNot buffers old new e → Named (header_refusal (kind_data k parse) later) true buffers old new e
   unfolding header_refusal
   unseen_named new e n = record { why = λ a s at h. tell s ((n.rejects a).why s at h) }
     where
-      tell : (s : List ℕ) → (code_at (stands_under old) s ≡ Err e) ⊎ Excused buffers buffers old.reading new.reading e → header_refusal (kind_data Kind.list parse) later (stands_under old) s e ⊎ Excused true buffers old.reading new.reading e
-      tell s (inl p) = inl (inl (λ custom f. item_none (kind_data Kind.list parse custom) (stands_under old) s e p))
+      tell : (s : List ℕ) → (code_at (stands_under old) s ≡ Err e) ⊎ Excused buffers buffers old.reading new.reading e → header_refusal (kind_data k parse) later (stands_under old) s e ⊎ Excused true buffers old.reading new.reading e
+      tell s (inl p) = inl (inl (λ custom f. item_none (kind_data k parse custom) (stands_under old) s e p))
       tell s (inr y) = inr (excused_more old.reading new.reading e (λ _. refl) y)
 
-  -- a list is refused as it is anywhere
-  pub list_named : {grows : Bool} (mid new : Decoding) (x : EncodingCodes) (e : Error) → (row x).kind ≡ Kind.list → Looks old mid x → Named (opened_refusal parse later) grows buffers mid new e → Named (header_refusal (kind_data Kind.list parse) later) true buffers old new e
+  -- it is refused as it is anywhere
+  pub kind_named : {grows : Bool} (mid new : Decoding) (x : EncodingCodes) (e : Error) → (row x).kind ≡ k → Looks old mid x → Named (opened_refusal parse later) grows buffers mid new e → Named (header_refusal (kind_data k parse) later) true buffers old new e
   unfolding header_refusal opened_refusal
-  list_named {grows} mid new x e n l m =
+  kind_named {grows} mid new x e n l m =
       let u = named_behind (opened_refusal parse later) grows buffers old mid new x e l m in
       record { why = λ a s at h. let y = l.exact s at in tell s y.0 y.1 (u.why a s at h) }
     where
-      tell : (s rest : List ℕ) → code_at (stands_under old) s ≡ Ok (x, rest) → opened_refusal parse later (stands_under old) s e ⊎ Excused grows buffers old.reading new.reading e
-          → header_refusal (kind_data Kind.list parse) later (stands_under old) s e ⊎ Excused true buffers old.reading new.reading e
-      tell s rest k (inl (inl p)) = inl (inl (λ custom f. of_kind parse custom (stands_under old) s rest x k n ∙ p))
-      tell s rest k (inl (inr p)) = inl (inr (record { count = p.count; rest = p.rest; header = λ custom. of_kind parse custom (stands_under old) s rest x k n ∙ p.header; behind = p.behind }))
-      tell s rest k (inr y) = inr (excused_more old.reading new.reading e (λ _. refl) y)
+      tell : (s rest : List ℕ) → code_at (stands_under old) s ≡ Ok (x, rest) → opened_refusal parse later (stands_under old) s e ⊎ Excused grows buffers old.reading new.reading e → header_refusal (kind_data k parse) later (stands_under old) s e ⊎ Excused true buffers old.reading new.reading e
+      tell s rest h (inl (inl p)) = inl (inl (λ custom f. of_kind k parse custom (stands_under old) s rest x h n ∙ p))
+      tell s rest h (inl (inr p)) = inl (inr (record { count = p.count; rest = p.rest; header = λ custom. of_kind k parse custom (stands_under old) s rest x h n ∙ p.header; behind = p.behind }))
+      tell s rest h (inr y) = inr (excused_more old.reading new.reading e (λ _. refl) y)
 
 -- ---- behind the descriptor
 

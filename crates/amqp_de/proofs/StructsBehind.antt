@@ -10,30 +10,33 @@ use Rattle.amqp_base.specs.Item.{Item, scalar, list, map, array, described, Item
 use Rattle.amqp_base.specs.Parse.{Parsed, item_at, code_at}
 use Rattle.amqp_base.specs.Refusals.{IsCustom, StandsFor}
 use Rattle.amqp_base.specs.SameKind.{same_kind}
-use Rattle.amqp_base.specs.Wire.{Constructor, Wire, lenient, Parts}
+use Rattle.amqp_base.specs.Wire.{Constructor, bare, under, under_pair, Wire, lenient, Parts}
 use Rattle.amqp_base.proofs.KindPlaces.{same_kind_is, kind_same}
 use Rattle.amqp_data.specs.Arrays.{RejectsFor}
 use Rattle.amqp_data.specs.Excuses.{Excused, no_memory}
-use Rattle.amqp_data.specs.Parts.{Within}
+use Rattle.amqp_data.specs.Parts.{Within, HasParts, HasPairs}
 use Rattle.amqp_data.proofs.Descriptors.{rejects_front}
 use Rattle.amqp_data.proofs.FixedWidth.{custom_device}
 use Rattle.amqp_data.proofs.Readings.{advances_then, excused_before, excused_more, onward, rejects_more, stayed, takes_then}
-use Rattle.amqp_de.specs.Access.{Listing, Opens, OpensExactly, OpensNot, Plain}
-use Rattle.amqp_de.specs.Decoding.{Decoding, stands_under, as_ended}
+use Rattle.amqp_de.specs.Access.{Listing, Opens, OpensExactly, OpensNot, Part, AllRead, Plain}
+use Rattle.amqp_de.specs.Decoding.{Decoding, stands_under, behind_descriptor, as_ended}
 use Rattle.amqp_de.specs.Describes.{Describes, NoDescriptor}
-use Rattle.amqp_de.specs.DescribedStructs.{header_behind, described_at, PartsBehind, NoneBehind, NoDescribed, Behind}
+use Rattle.amqp_de.specs.DescribedStructs.{header_behind, described_at, one_left, PartsBehind, OpensBehind, NoneBehind, NoDescribed, Behind, OpensItem}
+use Rattle.amqp_de.specs.Law.{Found}
 use Rattle.amqp_de.specs.Look.{looked_at, Looks, LooksNot}
 use Rattle.amqp_de.specs.declared.described_structs.Encoding.{Encoding}
+use Rattle.amqp_de.specs.declared.described_structs.Encoding.TheVariants as by
+use Rattle.amqp_de.proofs.DescribedRead.{described_found}
 use Rattle.amqp_de.proofs.FormsOpened.{item_none, rejects_behind, exactly_behind, opens_behind}
 use Rattle.amqp_de.proofs.Naming.{by_code}
 
 -- ---- the header behind a descriptor
 
-kind_is : (k : Kind) (parse : EncodingCodes → List ℕ → Parsed ℕ) (custom : Error) (x : EncodingCodes) (s : List ℕ) → (row x).kind ≡ k → kind_data k parse custom x s ≡ parse x s
+pub kind_is : (k : Kind) (parse : EncodingCodes → List ℕ → Parsed ℕ) (custom : Error) (x : EncodingCodes) (s : List ℕ) → (row x).kind ≡ k → kind_data k parse custom x s ≡ parse x s
 unfolding kind_data
 kind_is k parse custom x s h = rw (kind_same (row x).kind k h) refl
 
-kind_not : (k : Kind) (parse : EncodingCodes → List ℕ → Parsed ℕ) (custom : Error) (x : EncodingCodes) (s : List ℕ) → ((row x).kind ≡ k → ⊥) → kind_data k parse custom x s ≡ Err custom
+pub kind_not : (k : Kind) (parse : EncodingCodes → List ℕ → Parsed ℕ) (custom : Error) (x : EncodingCodes) (s : List ℕ) → ((row x).kind ≡ k → ⊥) → kind_data k parse custom x s ≡ Err custom
 unfolding kind_data
 kind_not k parse custom x s n = tell (same_kind (row x).kind k) refl
   where
@@ -121,7 +124,7 @@ own_more : (n a b : ℕ) → n ≤ a → n ≤ a + b
 own_more n a b h = omega (arith, h)
 
 -- what is opened behind a descriptor is the described item that was opened
-pub opens_described : (Has : Item → Items → Type 0) (d : Descriptor) (old mid : Decoding) (l : Listing) → Describes d old mid → Opens Has mid l → Opens (Behind d Has) old l
+opens_described : (Has : Item → Items → Type 0) (d : Descriptor) (old mid : Decoding) (l : Listing) → Describes d old mid → Opens Has mid l → Opens (Behind d Has) old l
 opens_described Has d old mid l x o = record {
   text = x.text ++ o.text;
   step = takes_then old.reading mid.reading l.state.reading x.text o.text x.step o.step;
@@ -145,3 +148,37 @@ opens_described Has d old mid l x o = record {
     only t rest (list js) is p w at = absurd p
     only t rest (map ps) is p w at = absurd p
     only t rest (array js) is p w at = absurd p
+
+-- ---- one value behind a descriptor
+
+same_place : (c : Constructor) → behind_descriptor c false ≡ c
+same_place bare = refl
+same_place (under e) = refl
+same_place (under_pair d e) = refl
+
+value_read : (takes : Item → Bool) (mid : Decoding) (next : Listing) (new : Decoding) → (p : Part takes (λ i. Unit {0}) (one_left mid) next) → AllRead next new → Found takes (λ i. i ≡ p.front.item) mid new
+value_read takes mid next new p r = rw r.is (record {
+  front = λ a. record {
+    item = p.front.item;
+    text = p.front.text;
+    spelled = rw same at (p.front.spelled);
+    taken = p.front.taken;
+    value = refl;
+    step = p.front.step;
+    not_ended = refl;
+    inherited = p.outer;
+    described = p.front.described;
+    begun = rw same at (p.front.begun);
+  };
+  spent = λ a. record { most = rw same at (p.spent.most) };
+  steady = onward p.front.step;
+})
+  where
+    same : stands_under (one_left mid).state ≡ stands_under mid
+    same = same_place (stands_under mid)
+
+-- so the described item was opened
+pub item_opened : (x : Encoding) (d : Descriptor) (old mid : Decoding) (l : Listing) → Describes d old mid → OpensBehind x mid l → OpensItem x d old l
+item_opened by.List d old mid l h o = opens_described HasParts d old mid l h o.opens
+item_opened by.Map d old mid l h o = opens_described HasPairs d old mid l h o.opens
+item_opened by.Basic d old mid l h o = rw o (λ takes next new p r. described_found takes (λ i. i ≡ p.front.item) d old mid new h (value_read takes mid next new p r))

@@ -1,10 +1,13 @@
 -- A struct under a descriptor, read by its fields.
-use Rattle.std.specs.Prelude.{Bool, true, ◌||◌, List, length}
+use Rattle.std.specs.Prelude.{ℕ, Bool, true, ◌||◌, List, length}
 use Rattle.amqp_base.specs.declared.error.Error.{Error}
-use Rattle.amqp_base.specs.Describing.{is_behind, means_behind, behind_refusal, described_list_refusal}
+use Rattle.amqp_base.specs.Codes.{Kind}
+use Rattle.amqp_base.specs.Describing.{is_behind, means_behind, behind_refusal, kind_data, header_refusal, described_list_refusal}
 use Rattle.amqp_base.specs.Leading.{takes_leading, means_leading, leading_refusal}
 use Rattle.amqp_base.specs.Item.{Descriptor, Item}
-use Rattle.amqp_base.specs.Refusing.{Refusing}
+use Rattle.amqp_base.specs.NamedFields.{takes_map, means_map}
+use Rattle.amqp_base.specs.Parse.{map_data}
+use Rattle.amqp_base.specs.Refusing.{Refusing, fields_refusal}
 use Rattle.amqp_de.specs.Decoding.{Decoding}
 use Rattle.amqp_de.specs.Law.{Found, Missed, Named}
 use Rattle.amqp_de.specs.ReadFields.{Slots}
@@ -37,3 +40,21 @@ FieldsBehindRefused d s buffers old new e = Missed (is_behind d (takes_leading s
 
 abbrev pub FieldsBehindNamed : {V : Type 0} → Descriptor → Slots V → List (Item → Bool) → List {1} Refusing → Bool → Decoding → Decoding → Error → Type 0
 FieldsBehindNamed d s takes refuses buffers old new e = Named (behind_refusal d (described_list_refusal s.awaited takes refuses)) true buffers old new e
+
+-- ---- out of a map
+
+-- behind a descriptor: a map from the names of the fields
+abbrev pub described_map_refusal : List (List ℕ) → List (Item → Bool) → List {1} Refusing → List Bool → Refusing
+described_map_refusal names takes refuses awaited = header_refusal (kind_data Kind.map map_data) (fields_refusal names takes refuses awaited)
+
+abbrev pub MapBehindNamed : {V : Type 0} → Slots V → List (Item → Bool) → List {1} Refusing → Bool → Decoding → Decoding → Error → Type 0
+MapBehindNamed s takes refuses buffers old new e = Named (described_map_refusal s.all_names takes refuses s.awaited) true buffers old new e
+
+abbrev pub NamesBehind : {V : Type 0} → Descriptor → Slots V → V → Decoding → Decoding → Type 0
+NamesBehind d s vs old new = Found (is_behind d (takes_map s.names s.kinds)) (λ i. means_behind (λ j. means_map s.names (s.meanings vs) j) i) old new
+
+abbrev pub NamesBehindRefused : {V : Type 0} → Descriptor → Slots V → Bool → Decoding → Decoding → Error → Type 0
+NamesBehindRefused d s buffers old new e = Missed (is_behind d (takes_map s.names s.kinds)) true buffers old new e
+
+abbrev pub NamesBehindNamed : {V : Type 0} → Descriptor → Slots V → List (Item → Bool) → List {1} Refusing → Bool → Decoding → Decoding → Error → Type 0
+NamesBehindNamed d s takes refuses buffers old new e = Named (behind_refusal d (described_map_refusal s.all_names takes refuses s.awaited)) true buffers old new e

@@ -4,7 +4,7 @@ use Rattle.amqp_base.specs.declared.error.Error.{Error}
 use Rattle.amqp_base.specs.declared.error.Error.TheVariants.{InvalidValue}
 use Rattle.amqp_base.specs.declared.format_code.EncodingCodes.{EncodingCodes}
 use Rattle.amqp_base.specs.Codes.{Kind}
-use Rattle.amqp_base.specs.Describing.{describing_at, kind_data}
+use Rattle.amqp_base.specs.Describing.{describing_at, is_described_of, means_described, kind_data}
 use Rattle.amqp_base.specs.Item.{Descriptor, Item, Items, described, scalar, list, map, array}
 use Rattle.amqp_base.specs.Meaning.{Meaning}
 use Rattle.amqp_base.specs.Parse.{Parsed, ◌>>=◌, item_at, list_data, map_data}
@@ -13,10 +13,11 @@ use Rattle.amqp_types.specs.declared.described.Descriptor.{Descriptor as OwnDesc
 use Rattle.amqp_types.specs.Descriptors.{descriptor_of}
 use Rattle.amqp_data.specs.Arrays.{RejectsFor}
 use Rattle.amqp_data.specs.Parts.{HasParts, HasPairs}
-use Rattle.amqp_de.specs.Access.{Listing, Opens, OpensExactly, Plain}
+use Rattle.amqp_de.specs.Access.{Listing, Opens, OpensExactly, Part, AllRead, Plain}
 use Rattle.amqp_de.specs.Calls.{NextElement, ElementNamed, ValueAnswer, ValueNamed}
 use Rattle.amqp_de.specs.Decoding.{Decoding, stands_under}
 use Rattle.amqp_de.specs.Describes.{Describes}
+use Rattle.amqp_de.specs.Law.{Found}
 use Rattle.amqp_de.specs.NotNull.{not_null, not_null_refusal}
 use Rattle.amqp_de.specs.ReadPairs.{KeyNext, NextKey, NextEntry, TurnNamed, ended_access}
 use Rattle.amqp_de.specs.declared.list.Access.{Access}
@@ -56,18 +57,6 @@ pub record NoneBehind (x : Encoding) (buffers : Bool) (old new : Decoding) (e : 
   pub rejects : old.ended ≡ false → RejectsFor (λ custom. header_behind x custom (stands_under old)) buffers old.reading new.reading e
   pub ended : IsTrue new.ended
 
--- the descriptor was answered, and what stands behind it opened
-pub record DescriptorRead (x : Encoding) (d : Descriptor) (old : Decoding) (l : Listing) : Type 0 where
-  pub mid : Decoding
-  pub describes : Describes d old mid
-  pub opened : OpensBehind x mid l
-
--- it was not: by the first rule that the bytes break
-pub record NoDescribed (x : Encoding) (buffers : Bool) (old new : Decoding) (e : Error) : Type 0 where
-  pub if_ended : IsTrue old.ended → (e ≡ InvalidValue) × (new ≡ old)
-  pub rejects : old.ended ≡ false → RejectsFor (λ custom. described_at x custom (stands_under old)) buffers old.reading new.reading e
-  pub ended : IsTrue new.ended
-
 -- a described item of this descriptor whose value has these parts
 abbrev pub Behind : Descriptor → (Item → Items → Type 0) → Item → Items → Type 0
 Behind d Has (described e v) js = (e ≡ d) × Has v js
@@ -75,6 +64,25 @@ Behind d Has (scalar v) js = ⊥
 Behind d Has (list is) js = ⊥
 Behind d Has (map ps) js = ⊥
 Behind d Has (array is) js = ⊥
+
+-- so the described item was opened; or it is read once its one value is
+abbrev pub OpensItem : Encoding → Descriptor → Decoding → Listing → Type 0
+OpensItem by.List d old l = Opens (Behind d HasParts) old l
+OpensItem by.Map d old l = Opens (Behind d HasPairs) old l
+OpensItem by.Basic d old l = (takes : Item → Bool) (next : Listing) (new : Decoding) → (p : Part takes (λ i. Unit {0}) l next) → AllRead next new → Found (is_described_of takes) (means_described (λ i. i ≡ p.front.item) d) old new
+
+-- the descriptor was answered, and what stands behind it opened
+pub record DescriptorRead (x : Encoding) (d : Descriptor) (old : Decoding) (l : Listing) : Type 0 where
+  pub mid : Decoding
+  pub describes : Describes d old mid
+  pub opened : OpensBehind x mid l
+  pub item : OpensItem x d old l
+
+-- it was not: by the first rule that the bytes break
+pub record NoDescribed (x : Encoding) (buffers : Bool) (old new : Decoding) (e : Error) : Type 0 where
+  pub if_ended : IsTrue old.ended → (e ≡ InvalidValue) × (new ≡ old)
+  pub rejects : old.ended ≡ false → RejectsFor (λ custom. described_at x custom (stands_under old)) buffers old.reading new.reading e
+  pub ended : IsTrue new.ended
 
 -- ---- what the calls of an access give
 

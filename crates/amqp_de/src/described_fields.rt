@@ -3,11 +3,16 @@
 ghost use Rattle.std.specs.Prelude.{◌≡◌, false, true, IsTrue, IfOk, IfErr, OnErr};
 ghost use Rattle.amqp_base.specs.Canon.{same_descriptor};
 ghost use Rattle.amqp_base.specs.Codes.{Kind, row};
+ghost use Rattle.amqp_de.specs.Calls.{NamedRead, NamedRefused};
 ghost use Rattle.amqp_de.specs.DescribedFields.{ListRead, ListMissed, ListBehindNamed};
-ghost use Rattle.amqp_de.specs.DescribedFields.{FieldsBehind, FieldsBehindRefused, FieldsBehindNamed};
+ghost use Rattle.amqp_de.specs.DescribedFields.{MapBehindNamed};
+ghost use Rattle.amqp_de.specs.DescribedFields.{FieldsBehind, FieldsBehindRefused};
+ghost use Rattle.amqp_de.specs.DescribedFields.{FieldsBehindNamed};
+ghost use Rattle.amqp_de.specs.DescribedFields.{NamesBehind, NamesBehindRefused, NamesBehindNamed};
 ghost use Rattle.amqp_de.specs.Steps.{Stops};
 ghost use Rattle.amqp_types.specs.Descriptors.{descriptor_of};
 
+use crate::structs::is_map;
 use crate::{Deserializer, Fields};
 use amqp_base::{EncodingCodes, Error};
 use amqp_read::Read;
@@ -53,7 +58,8 @@ impl<R: Read> Deserializer<R> {
         fields: S,
     ) -> Result<S::Values, Error>
         ensures ok { IfOk result (λ vs. ListRead (S.slots fields) vs self.old self.new) }
-        ensures err { IfErr result (λ e. ListMissed (S.slots fields) R.buffers self.old self.new e) }
+        ensures err { IfErr result (λ e.
+            ListMissed (S.slots fields) R.buffers self.old self.new e) }
         ensures named { IfErr result (λ e. ListBehindNamed (S.slots fields) S.takes S.refuses
             R.buffers self.old self.new e) }
         ensures ended { OnErr result (IsTrue self.new.ended) }
@@ -111,4 +117,86 @@ impl<R: Read> Deserializer<R> {
             Err(e) => Err(e),
         }
     }
+
+    /// The fields behind a descriptor, out of a map.
+    fn read_map_behind<S: Fields<R>>(
+        &mut self,
+        alloc: Global,
+        fields: S,
+    ) -> Result<S::Values, Error>
+        ensures ok { IfOk result (λ vs. NamedRead (S.slots fields) vs self.old self.new) }
+        ensures err { IfErr result (λ e.
+            NamedRefused (S.slots fields) R.buffers self.old self.new e) }
+        ensures named { IfErr result (λ e. MapBehindNamed (S.slots fields) S.takes S.refuses
+            R.buffers self.old self.new e) }
+        ensures ended { OnErr result (IsTrue self.new.ended) }
+    {
+        match self.deserialize_any() {
+            Ok(code) => {
+                if !is_map(code) {
+                    self.stop();
+                    return Err(Error::custom(alloc, "expected a map behind the descriptor"));
+                }
+                match self.read_map(alloc, fields) {
+                    Ok(values) => Ok(values),
+                    Err(e) => Err(e),
+                }
+            }
+            Err(e) => Err(e),
+        }
+    }
+
+    /// Reads the fields of a struct under a descriptor (part 1, section 1.2): out of a map behind
+    /// it (section 1.6.23) of just their names as strings, each once, in any order.
+    ///
+    /// In this order: the refusals of `deserialize_descriptor`, `Message` where the descriptor is
+    /// another one, `Io(UnexpectedEof)` where there is no byte behind it, `InvalidFormatCode` where
+    /// it is no code, `Message` where it is no map's code, the refusals of `deserialize_map`, then
+    /// those of `deserialize_fields` for the pairs of a map. A refusal ends the deserializer.
+    #[inline(always)]
+    pub fn deserialize_described_map<S: Fields<R>>(
+        &mut self,
+        alloc: Global,
+        descriptor: &Descriptor,
+        fields: S,
+    ) -> Result<S::Values, Error>
+        ensures ok { IfOk result (λ vs. NamesBehind (descriptor_of descriptor.now)
+            (S.slots fields) vs self.old self.new) }
+        ensures err { IfErr result (λ e. NamesBehindRefused (descriptor_of descriptor.now)
+            (S.slots fields) R.buffers self.old self.new e) }
+        ensures named { IfErr result (λ e. NamesBehindNamed (descriptor_of descriptor.now)
+            (S.slots fields) S.takes S.refuses R.buffers self.old self.new e) }
+        ensures stops { Stops self.old result self.new }
+    {
+        match self.deserialize_descriptor(alloc) {
+            Ok(found) => {
+                if !is_wanted(descriptor, found) {
+                    self.stop();
+                    return Err(Error::custom(alloc, "another descriptor"));
+                }
+                match self.read_map_behind(alloc, fields) {
+                    Ok(values) => Ok(values),
+                    Err(e) => Err(e),
+                }
+            }
+            Err(e) => Err(e),
+        }
+    }
+}
+
+/// Reads a struct under a descriptor, as a list of its fields:
+/// `read_described!(de, alloc, &descriptor, Sensor { id, unit })` calls
+/// `Deserializer::deserialize_described_fields`, and answers the struct of what was read.
+#[macro_export]
+macro_rules! read_described {
+    ($de:expr, $alloc:expr, $descriptor:expr, $name:ident { $($field:ident),+ $(,)? }) => {
+        match $de.deserialize_described_fields(
+            $alloc,
+            $descriptor,
+            $crate::read_fields!(@row $($field),+),
+        ) {
+            Ok(values) => $crate::read_fields!(@take values; $name; []; $($field),+),
+            Err(e) => Err(e),
+        }
+    };
 }

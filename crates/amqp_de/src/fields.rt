@@ -151,13 +151,13 @@ impl<R: Read> Fields<R> for () {
 
     #[inline(always)]
     fn hold(&self, count: u32) -> bool {
-        count == 0
+        0 == count
     }
 
     #[inline(always)]
     fn read_leading(&mut self, alloc: Global, list: &mut ListAccess<'_, R>) -> Result<(), Error> {
         let _ = alloc;
-        let _ = list;
+        let _ = &list;
         Ok(())
     }
 

@@ -54,7 +54,11 @@ impl<R: Read> Deserializer<R> {
     }
 
     /// The fields out of a map.
-    fn read_map<S: Fields<R>>(&mut self, alloc: Global, fields: S) -> Result<S::Values, Error>
+    pub(crate) fn read_map<S: Fields<R>>(
+        &mut self,
+        alloc: Global,
+        fields: S,
+    ) -> Result<S::Values, Error>
         ensures ok { IfOk result (λ vs. NamedRead (S.slots fields) vs self.old self.new) }
         ensures err { IfErr result (λ e.
             NamedRefused (S.slots fields) R.buffers self.old self.new e) }

@@ -193,8 +193,9 @@ impl<R: Read> Deserializer<R> {
 impl<'a, R: Read> StructAccess<'a, R> {
     /// The next field of a list; `None` where all were read, and then nothing is consumed.
     ///
-    /// The refusals are those of `ListAccess::next_element` and `DescribedAccess::next_element`, and
-    /// `InvalidValue` where the item is a map. Each of them ends the access and its deserializer.
+    /// The refusals are those of `ListAccess::next_element` and `DescribedAccess::next_element`,
+    /// and `InvalidValue` where the item is a map. Each of them ends the access and its
+    /// deserializer.
     pub fn next_element<T: Deserialize<R>>(&mut self, alloc: Global) -> Result<Option<T>, Error>
         ensures same_reference { (struct_lender self.new).ghost_name ≡ (struct_lender
             self.old).ghost_name }
@@ -209,8 +210,8 @@ impl<'a, R: Read> StructAccess<'a, R> {
 
     /// The next name of a map; `None` where all pairs were read, and then nothing is consumed.
     ///
-    /// The refusals are those of `MapAccess::next_key`, and `InvalidValue` where the item is a
-    /// list. Each of them ends the access and its deserializer.
+    /// The refusals are those of `MapAccess::next_key` and `DescribedAccess::next_key`, and
+    /// `InvalidValue` where the item is a list. Each of them ends the access and its deserializer.
     pub fn next_key<K: Deserialize<R>>(&mut self, alloc: Global) -> Result<Option<K>, Error>
         ensures same_reference { (struct_lender self.new).ghost_name ≡ (struct_lender
             self.old).ghost_name }
@@ -225,8 +226,8 @@ impl<'a, R: Read> StructAccess<'a, R> {
 
     /// The value of the last name of a map.
     ///
-    /// The refusals are those of `MapAccess::next_value`, and `InvalidValue` where the item is a
-    /// list. Each of them ends the access and its deserializer.
+    /// The refusals are those of `MapAccess::next_value` and `DescribedAccess::next_value`, and
+    /// `InvalidValue` where the item is a list. Each of them ends the access and its deserializer.
     pub fn next_value<V: Deserialize<R>>(&mut self, alloc: Global) -> Result<V, Error>
         ensures same_reference { (struct_lender self.new).ghost_name ≡ (struct_lender
             self.old).ghost_name }
@@ -241,8 +242,8 @@ impl<'a, R: Read> StructAccess<'a, R> {
 
     /// The next name of a map and its value; `None` where all pairs were read.
     ///
-    /// The refusals are those of `MapAccess::next_entry`, and `InvalidValue` where the item is a
-    /// list. Each of them ends the access and its deserializer.
+    /// The refusals are those of `MapAccess::next_entry` and `DescribedAccess::next_entry`, and
+    /// `InvalidValue` where the item is a list. Each of them ends the access and its deserializer.
     pub fn next_entry<K: Deserialize<R>, V: Deserialize<R>>(
         &mut self,
         alloc: Global,
