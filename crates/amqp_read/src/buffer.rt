@@ -1,15 +1,16 @@
 //! Bytes that were received and not consumed yet.
 
-ghost use Rattle.std.specs.Prelude.{◌≡◌, ◌<◌, ◌≤◌, ◌+◌, ◌-◌, ◌++◌, true, List, [], ℕ, length};
+ghost use Rattle.std.specs.Prelude.{◌≡◌, ◌<◌, ◌≤◌, ◌+◌, ◌-◌, ◌*◌, ◌++◌, max, true, List, [], ℕ, length};
 ghost use Rattle.std.specs.Prelude.{take, drop, OnOk, OnErr, IfOk, IfErr, IsTrue, MatchOption};
 ghost use Rattle.std.specs.Io.KnownBytes.{IsAtEnd, ReadConsumes};
 ghost use Rattle.amqp_base.specs.declared.error.Error.TheVariants.{OutOfMemory};
 ghost use Rattle.amqp_base.specs.Faults.{Counts, Remembers};
 ghost use Rattle.amqp_read.specs.Reading.{Stays};
 ghost use Rattle.amqp_read.specs.Steps.{Fails};
-ghost use Rattle.amqp_read.specs.Streaming.{reads};
+ghost use Rattle.amqp_read.specs.Streaming.{Fronted, reads};
 
-use amqp_base::{Error, Source};
+use crate::greatest::Greatest;
+use amqp_base::{Count, Error, Source};
 use std::alloc::Global;
 use std::io::ErrorKind;
 use std::marker::Model;
@@ -19,10 +20,12 @@ use std::marker::Model;
 pub(crate) struct Buffer {
     bytes: Vec<u8>,
     start: usize,
+    moved: Count,
+    most: Greatest,
 }
 
 impl Model for Buffer {
-    ghost use Rattle.std.specs.Prelude.{◌≤◌, ◌-◌, drop};
+    ghost use Rattle.std.specs.Prelude.{◌≡◌, ◌≤◌, ◌-◌, ◌*◌, drop};
     ghost use Rattle.std.specs.Vec.{vec_len, vec_capacity};
     ghost use Rattle.amqp_read.specs.Streaming.{Buffered};
 
@@ -30,27 +33,37 @@ impl Model for Buffer {
 
     ghost view = { λ b. record {
       unread = drop b.start b.bytes.items;
+      length = vec_len b.bytes;
+      start = b.start;
       room = vec_capacity b.bytes - vec_len b.bytes;
+      moved = b.moved.n;
+      most = b.most.n;
     } };
 
-    ghost invariant = { λ b. b.start ≤ vec_len b.bytes };
+    ghost invariant = { λ b. (b.start ≤ vec_len b.bytes)
+        × (b.start ≡ vec_len b.bytes → vec_len b.bytes ≡ 0)
+        × (vec_len b.bytes ≤ 2 * b.most.n) };
 }
 
 impl Buffer {
     /// Nothing was received.
     pub(crate) fn new(alloc: Global) -> Buffer
-        ensures { result.unread ≡ [] }
+        ensures unread { result.unread ≡ [] }
+        ensures moved { result.moved + result.start ≡ 0 }
     {
         Buffer {
             bytes: Vec::new(alloc),
             start: 0,
+            moved: Count::new(),
+            most: Greatest::new(),
         }
     }
 
     /// How many bytes are unread.
     #[inline(always)]
     pub(crate) fn len(&self) -> usize
-        ensures { result ≡ length self.now.unread }
+        ensures len { result ≡ length self.now.unread }
+        ensures held { self.now.length ≤ 2 * self.now.most }
     {
         self.bytes.len() - self.start
     }
@@ -76,7 +89,12 @@ impl Buffer {
     #[inline(always)]
     pub(crate) fn consume(&mut self, n: usize)
         requires { n ≤ length self.old.unread }
-        ensures { self.new.unread ≡ drop n self.old.unread }
+        ensures unread { self.new.unread ≡ drop n self.old.unread }
+        ensures start { self.new.start ≤ self.old.start + n }
+        ensures used_up { n ≡ length self.old.unread →
+            (self.new.start ≡ 0) × (self.new.length ≡ 0) }
+        ensures moved { self.new.moved ≡ self.old.moved }
+        ensures most { self.new.most ≡ self.old.most }
     {
         self.start += n;
         if self.start == self.bytes.len() {
@@ -88,7 +106,9 @@ impl Buffer {
     /// Finds room for `n` bytes more, and moves the unread bytes to the front where they begin in
     /// the second half.
     pub(crate) fn make_room(&mut self, n: usize) -> Result<(), Error>
-        ensures unread { self.new.unread ≡ self.old.unread }
+        ensures front { Fronted self.old self.new }
+        ensures first_half { 2 * self.new.start ≤ self.new.length }
+        ensures moved { self.new.moved + self.new.start ≤ self.old.moved + self.old.start }
         ensures ok { OnOk result (n ≤ self.new.room) }
         ensures err { IfErr result (λ e. e ≡ OutOfMemory) }
     {
@@ -97,6 +117,7 @@ impl Buffer {
             self.bytes.copy_within(self.start.., 0);
             self.bytes.truncate(unread);
             self.start = 0;
+            self.moved.ticks(unread);
         }
         match self.bytes.reserve(n) {
             Ok(()) => Ok(()),
@@ -106,10 +127,14 @@ impl Buffer {
 
     /// Keeps what was received.
     pub(crate) fn append(&mut self, received: &[u8])
-        requires { length received.now ≤ self.old.room }
-        ensures { self.new.unread ≡ self.old.unread ++ received.now }
+        requires room { length received.now ≤ self.old.room }
+        requires first_half { 2 * self.old.start ≤ self.old.length }
+        ensures unread { self.new.unread ≡ self.old.unread ++ received.now }
+        ensures moved { self.new.moved + self.new.start ≡ self.old.moved + self.old.start }
+        ensures most { self.new.most ≡ max self.old.most (length self.new.unread) }
     {
         let _ = self.bytes.extend_from_slice(received);
+        self.most.sees(self.bytes.len() - self.start);
     }
 
     /// Asks a source for `n` bytes at most and keeps what it gives: how many. Memory is asked for
@@ -126,6 +151,9 @@ impl Buffer {
         ensures end { IfOk result (λ got.
             got ≡ 0 → 0 < n → IsTrue (S.is_honest source.old) → IsAtEnd (S.remaining source.old)) }
         ensures kept { OnErr result (self.new.unread ≡ self.old.unread) }
+        ensures moved { self.new.moved + self.new.start ≤ self.old.moved + self.old.start }
+        ensures most { OnOk result (self.new.most ≡ max self.old.most (length self.new.unread)) }
+        ensures most_kept { OnErr result (self.new.most ≡ self.old.most) }
         ensures why { IfErr result (λ e. Fails true true
             (reads self.old.unread (S.remaining source.old) 0 (S.faults source.old)
             (S.last_fault source.old) (S.is_honest source.old) (S.origin source.old))
@@ -141,6 +169,7 @@ impl Buffer {
         match read_behind(source, &mut self.bytes, have) {
             Ok(got) => {
                 self.bytes.truncate(have + got);
+                self.most.sees(have + got - self.start);
                 Ok(got)
             }
             Err(kind) => {

@@ -8,7 +8,7 @@ ghost use Rattle.amqp_base.specs.declared.error.Error.TheVariants.{Io};
 ghost use Rattle.amqp_read.specs.Reading.{Reading, Stays, Takes};
 ghost use Rattle.amqp_read.specs.Steps.{IsShort, Ended, Looked, Fails, NotSeen, NotTaken, Passes};
 ghost use Rattle.amqp_read.specs.Steps.{PassesSome, PassesCount};
-ghost use Rattle.amqp_read.specs.Streaming.{reads};
+ghost use Rattle.amqp_read.specs.Streaming.{IsLean, reads};
 
 use crate::Read;
 use crate::buffer::Buffer;
@@ -36,7 +36,7 @@ pub struct IoReader<S: Source> {
 }
 
 impl<S: Source> Model for IoReader<S> {
-    ghost use Rattle.std.specs.Prelude.{◌<◌, ◌^◌};
+    ghost use Rattle.std.specs.Prelude.{◌+◌, ◌≤◌};
     ghost use Rattle.amqp_read.specs.Streaming.{Streaming, reads};
 
     ghost Value = { Streaming };
@@ -46,6 +46,8 @@ impl<S: Source> Model for IoReader<S> {
           (S.last_fault r.source) (S.is_honest r.source) (S.origin r.source);
       buffer = r.buffer;
     } };
+
+    ghost invariant = { λ r. r.buffer.moved + r.buffer.start ≤ r.taken };
 }
 
 impl<S: Source> IoReader<S> {
@@ -367,8 +369,14 @@ impl<S: Source> Read for IoReader<S> {
         }
     }
 
+    /// However many calls there were, the bytes moved inside the buffer plus its start index are
+    /// at most those consumed, and it holds at most twice the most bytes unread at once so far.
     #[inline(always)]
-    fn bytes_consumed(&self) -> usize {
+    fn bytes_consumed(&self) -> usize
+        ensures taken { result ≡ self.now.reading.taken }
+        ensures lean { IsLean result self.now.buffer }
+    {
+        let _unread = self.buffer.len();
         self.taken
     }
 

@@ -2,6 +2,7 @@
 #![tactic(auto)]
 
 mod buffer;
+mod greatest;
 mod io_reader;
 mod read;
 mod slice_reader;

@@ -6,4 +6,4 @@ use Rattle.amqp_read.proofs.io_reader.IoReader.consume.Goals as goal
 pub returns : goal.returns
 returns g c =
     let same = ap (λ (z : Streaming). z.reading) c.self.view_is in
-    consumed _ _ _ _ _ _ _ _ _ same c.consume.ensures c.requires.received
+    consumed _ _ _ _ _ _ _ _ _ same c.consume.ensures.unread c.requires.received
