@@ -191,6 +191,19 @@ impl<S: Source> IoReader<S> {
         self.taken += n;
     }
 
+    /// Fills `block` with bytes that were received, and consumes them.
+    #[inline(always)]
+    fn take_into(&mut self, block: &mut [u8])
+        requires received { length block.old ≤ length self.old.reading.received }
+        requires counted { self.old.reading.taken + length block.old < 2 ^ 64 }
+        ensures len { length block.new ≡ length block.old }
+        ensures taken { Takes self.old.reading self.new.reading block.new }
+    {
+        let n = block.len();
+        block.copy_from_slice(&self.buffer.unread()[..n]);
+        self.consume(n);
+    }
+
     /// The next byte, straight from the source.
     #[inline(always)]
     fn next_of_source(&mut self) -> Result<Option<u8>, Error>
@@ -285,8 +298,7 @@ impl<S: Source> IoReader<S> {
         let n = block.len();
         match self.receive_all(n) {
             Ok(()) => {
-                block.copy_from_slice(&self.buffer.unread()[..n]);
-                self.consume(n);
+                self.take_into(block);
                 Ok(())
             }
             Err(e) => Err(e),
@@ -470,8 +482,7 @@ impl<S: Source> Read for IoReader<S> {
         if self.received() < n || usize::MAX - self.bytes_consumed() < n {
             return false;
         }
-        block.copy_from_slice(&self.buffer.unread()[..n]);
-        self.consume(n);
+        self.take_into(block);
         true
     }
 
