@@ -3,8 +3,10 @@
 ghost use Rattle.std.specs.Prelude.{◌≡◌, ◌⊎◌, ◌<◌, ◌≤◌, ◌+◌, ◌^◌, ℕ, Bool};
 ghost use Rattle.std.specs.Prelude.{true, false, List, [], ◌∷◌, length, take, IfOk, IfErr, OnOk};
 ghost use Rattle.std.specs.Prelude.{OnErr, IsTrue, MatchOption, Some, None, slice_get};
+ghost use Rattle.std.specs.Prelude.{string_bytes};
+ghost use Rattle.amqp_read.specs.Texts.{NoText};
 ghost use Rattle.std.specs.declared.io.ErrorKind.TheVariants.{UnexpectedEof};
-ghost use Rattle.amqp_base.specs.declared.error.Error.TheVariants.{Io};
+ghost use Rattle.amqp_base.specs.declared.error.Error.TheVariants.{Io, OutOfMemory};
 ghost use Rattle.amqp_read.specs.Reading.{Reading, Stays, Takes};
 ghost use Rattle.amqp_read.specs.Steps.{IsShort, Ended, Looked, Fails, NotSeen, NotTaken, Passes};
 ghost use Rattle.amqp_read.specs.Steps.{PassesSome, PassesCount};
@@ -13,6 +15,7 @@ ghost use Rattle.amqp_read.specs.Streaming.{IsLean, reads};
 use crate::Read;
 use crate::buffer::Buffer;
 use crate::read::sealed::Sealed;
+use crate::read::text_of;
 use amqp_base::{Error, Source};
 use std::alloc::Global;
 use std::io::ErrorKind;
@@ -202,6 +205,28 @@ impl<S: Source> IoReader<S> {
         let n = block.len();
         block.copy_from_slice(&self.buffer.unread()[..n]);
         self.consume(n);
+    }
+
+    /// A copy of the next `n` bytes, which were received.
+    fn front_copied(&self, alloc: Global, n: usize) -> Result<Vec<u8>, Error>
+        requires { n ≤ length self.now.reading.received }
+        ensures ok { IfOk result (λ v. v.items ≡ take n self.now.reading.received) }
+        ensures err { IfErr result (λ e. e ≡ OutOfMemory) }
+    {
+        match Vec::from_slice(alloc, &self.buffer.unread()[..n]) {
+            Ok(bytes) => Ok(bytes),
+            Err(_) => Err(Error::OutOfMemory),
+        }
+    }
+
+    /// The next `n` bytes as a text, which were received.
+    fn front_text(&self, alloc: Global, n: usize) -> Result<String, Error>
+        requires { n ≤ length self.now.reading.received }
+        ensures ok { IfOk result (λ t. string_bytes t ≡ take n self.now.reading.received) }
+        ensures why { IfErr result (λ e.
+            NoText n self.now.reading e ⊎ (e ≡ OutOfMemory)) }
+    {
+        text_of(alloc, &self.buffer.unread()[..n])
     }
 
     /// The next byte, straight from the source.
@@ -428,12 +453,25 @@ impl<S: Source> Read for IoReader<S> {
 
     fn read_bytes(&mut self, alloc: Global, n: usize) -> Result<Vec<u8>, Error> {
         match self.receive_all(n) {
-            Ok(()) => match Vec::from_slice(alloc, &self.buffer.unread()[..n]) {
+            Ok(()) => match self.front_copied(alloc, n) {
                 Ok(bytes) => {
                     self.consume(n);
                     Ok(bytes)
                 }
-                Err(_) => Err(Error::OutOfMemory),
+                Err(e) => Err(e),
+            },
+            Err(e) => Err(e),
+        }
+    }
+
+    fn forward_read_str(&mut self, alloc: Global, n: usize) -> Result<String, Error> {
+        match self.receive_all(n) {
+            Ok(()) => match self.front_text(alloc, n) {
+                Ok(text) => {
+                    self.consume(n);
+                    Ok(text)
+                }
+                Err(e) => Err(e),
             },
             Err(e) => Err(e),
         }
