@@ -1,2 +1,4 @@
 pub mod Reading
 pub mod Steps
+pub mod Streaming
+pub mod Texts

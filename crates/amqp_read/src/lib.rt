@@ -1,8 +1,12 @@
 //! Readers: a list of bytes to come, a position, and bytes that were received ahead.
 #![tactic(auto)]
 
+mod buffer;
+mod greatest;
+mod io_reader;
 mod read;
 mod slice_reader;
 
+pub use io_reader::IoReader;
 pub use read::{Read, read_const_bytes};
 pub use slice_reader::SliceReader;

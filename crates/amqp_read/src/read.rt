@@ -2,11 +2,12 @@
 
 ghost use Rattle.std.specs.Prelude.{◌≡◌, ◌≢◌, ◌⊎◌, ◌+◌, ◌<◌, ◌≤◌};
 ghost use Rattle.std.specs.Prelude.{ℕ, Bool, true, false, IsTrue, List, [], ◌∷◌, length};
-ghost use Rattle.std.specs.Prelude.{take, OnOk, OnErr, IfOk, IfErr, MatchOption};
+ghost use Rattle.std.specs.Prelude.{take, OnOk, OnErr, IfOk, IfErr, MatchOption, string_bytes};
 ghost use Rattle.amqp_read.specs.Reading.{Reading, Stays, Takes};
 ghost use Rattle.amqp_read.specs.Steps.{Shows, MayCome, Ended, IsShort, Fails, NotTaken};
 ghost use Rattle.amqp_read.specs.Steps.{PassesCount, Holds, Looked, AtHand, ShowsBehind, NotSeen};
 ghost use Rattle.amqp_read.specs.Steps.{Passes, PassesSome};
+ghost use Rattle.amqp_read.specs.Texts.{NoText, NotText};
 ghost use Rattle.amqp_base.specs.declared.error.Error.TheVariants.{OutOfMemory};
 
 use amqp_base::Error;
@@ -89,6 +90,31 @@ pub trait Read: sealed::Sealed + Drop {
         ensures bytes_first { IfErr result (λ e.
             (e ≡ OutOfMemory) → (IsTrue buffers ⊎ Holds n (reading self.old).to_come)) };
 
+    /// As `read_bytes`; `n` is a length that was announced.
+    fn forward_read_bytes_with_hint(&mut self, alloc: Global, n: usize) -> Result<Vec<u8>, Error>
+        ensures ok { IfOk result (λ v.
+            (length v.items ≡ n) × Takes (reading self.old) (reading self.new) v.items) }
+        ensures err { OnErr result (Stays (reading self.old) (reading self.new)) }
+        ensures why { IfErr result (λ e.
+            NotTaken true buffers n (reading self.old) (reading self.new) e) }
+        ensures bytes_first { IfErr result (λ e.
+            (e ≡ OutOfMemory) → (IsTrue buffers ⊎ Holds n (reading self.old).to_come)) }
+    {
+        self.read_bytes(alloc, n)
+    }
+
+    /// Consumes the next `n` bytes as a text; `Io(UnexpectedEof)` where fewer are to come,
+    /// `InvalidUtf8Encoding` where they aren't UTF-8, `OutOfMemory` where the text finds no memory.
+    /// Memory for it is asked for only after the bytes are there.
+    fn forward_read_str(&mut self, alloc: Global, n: usize) -> Result<String, Error>
+        ensures ok { IfOk result (λ t. (length (string_bytes t) ≡ n)
+            × Takes (reading self.old) (reading self.new) (string_bytes t)) }
+        ensures err { OnErr result (Stays (reading self.old) (reading self.new)) }
+        ensures why { IfErr result (λ e. NoText n (reading self.old) e
+            ⊎ NotTaken true buffers n (reading self.old) (reading self.new) e) }
+        ensures bytes_first { IfErr result (λ e.
+            (e ≡ OutOfMemory) → (IsTrue buffers ⊎ Holds n (reading self.old).to_come)) };
+
     /// The byte behind the next `i`. All of them stay; `None` where no more than `i` are to come.
     #[doc(hidden)]
     fn peek_at(&mut self, i: usize) -> Result<Option<u8>, Error>
@@ -135,6 +161,20 @@ pub trait Read: sealed::Sealed + Drop {
         ensures err { OnErr result (PassesSome n (reading self.old) (reading self.new)) }
         ensures why { IfErr result (λ e.
             NotTaken buffers buffers n (reading self.old) (reading self.new) e) };
+}
+
+/// A copy of the bytes, as a text.
+pub(crate) fn text_of(alloc: Global, bytes: &[u8]) -> Result<String, Error>
+    ensures ok { IfOk result (λ t. string_bytes t ≡ bytes.now) }
+    ensures why { IfErr result (λ e. NotText bytes.now e ⊎ (e ≡ OutOfMemory)) }
+{
+    match std::str::from_utf8(bytes) {
+        Ok(text) => match String::from_str(alloc, text) {
+            Ok(text) => Ok(text),
+            Err(_) => Err(Error::OutOfMemory),
+        },
+        Err(_) => Err(Error::InvalidUtf8Encoding),
+    }
 }
 
 /// Consumes the next `N` bytes; `Io(UnexpectedEof)` where fewer are to come. A refusal consumes

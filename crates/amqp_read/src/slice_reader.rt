@@ -15,6 +15,7 @@ ghost use Rattle.amqp_read.specs.Steps.{PassesSome};
 
 use crate::Read;
 use crate::read::sealed::Sealed;
+use crate::read::text_of;
 use amqp_base::Error;
 use std::alloc::Global;
 use std::io::ErrorKind;
@@ -168,6 +169,21 @@ impl<'s> Read for SliceReader<'s> {
                 Ok(bytes)
             }
             Err(_) => Err(Error::OutOfMemory),
+        }
+    }
+
+    fn forward_read_str(&mut self, alloc: Global, n: usize) -> Result<String, Error> {
+        if n > self.rest.len() {
+            return Err(Error::Io(ErrorKind::UnexpectedEof));
+        }
+        let (front, rest) = self.rest.split_at(n);
+        match text_of(alloc, front) {
+            Ok(text) => {
+                self.rest = rest;
+                self.taken += n;
+                Ok(text)
+            }
+            Err(e) => Err(e),
         }
     }
 

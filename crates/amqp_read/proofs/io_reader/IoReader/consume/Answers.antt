@@ -1,0 +1,9 @@
+use Rattle.std.proofs.Common.{ap}
+use Rattle.amqp_read.specs.Streaming.{Streaming}
+use Rattle.amqp_read.proofs.Streams.{consumed}
+use Rattle.amqp_read.proofs.io_reader.IoReader.consume.Goals as goal
+
+pub returns : goal.returns
+returns g c =
+    let same = ap (λ (z : Streaming). z.reading) c.self.view_is in
+    consumed _ _ _ _ _ _ _ _ _ same c.consume.ensures.unread c.requires.received

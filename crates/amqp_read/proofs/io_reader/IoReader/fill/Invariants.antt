@@ -1,0 +1,9 @@
+use Rattle.std.proofs.Common.{◌-◌, length}
+use Rattle.amqp_read.specs.Steps.{Looked}
+use Rattle.amqp_read.proofs.io_reader.IoReader.fill.Given as goal
+
+abbrev pub invariant-bytes : goal.invariant-bytes
+invariant-bytes g l = Looked l.n l.fn.self.reading l.self.reading
+
+abbrev pub decreases-bytes : goal.decreases-bytes
+decreases-bytes g l = l.n - length l.self.reading.received

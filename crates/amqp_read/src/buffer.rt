@@ -1,0 +1,201 @@
+//! Bytes that were received and not consumed yet.
+
+ghost use Rattle.std.specs.Prelude.{◌≡◌, ◌<◌, ◌≤◌, ◌+◌, ◌-◌, ◌*◌, ◌++◌, max, true, List, [], ℕ, length};
+ghost use Rattle.std.specs.Prelude.{take, drop, OnOk, OnErr, IfOk, IfErr, IsTrue, MatchOption};
+ghost use Rattle.std.specs.Io.KnownBytes.{IsAtEnd, ReadConsumes};
+ghost use Rattle.amqp_base.specs.declared.error.Error.TheVariants.{OutOfMemory};
+ghost use Rattle.amqp_base.specs.Faults.{Counts, Remembers};
+ghost use Rattle.amqp_read.specs.Reading.{Stays};
+ghost use Rattle.amqp_read.specs.Steps.{Fails};
+ghost use Rattle.amqp_read.specs.Streaming.{Fronted, reads};
+
+use crate::greatest::Greatest;
+use amqp_base::{Count, Error, Source};
+use std::alloc::Global;
+use std::io::ErrorKind;
+use std::marker::Model;
+
+/// Received bytes in one vector; from an index on they are unread.
+#[derive(Drop)]
+pub(crate) struct Buffer {
+    bytes: Vec<u8>,
+    start: usize,
+    moved: Count,
+    most: Greatest,
+}
+
+impl Model for Buffer {
+    ghost use Rattle.std.specs.Prelude.{◌≡◌, ◌≤◌, ◌-◌, ◌*◌, drop};
+    ghost use Rattle.std.specs.Vec.{vec_len, vec_capacity};
+    ghost use Rattle.amqp_read.specs.Streaming.{Buffered};
+
+    ghost Value = { Buffered };
+
+    ghost view = { λ b. record {
+      unread = drop b.start b.bytes.items;
+      length = vec_len b.bytes;
+      start = b.start;
+      room = vec_capacity b.bytes - vec_len b.bytes;
+      moved = b.moved.n;
+      most = b.most.n;
+    } };
+
+    ghost invariant = { λ b. (b.start ≤ vec_len b.bytes)
+        × (b.start ≡ vec_len b.bytes → vec_len b.bytes ≡ 0)
+        × (vec_len b.bytes ≤ 2 * b.most.n) };
+}
+
+impl Buffer {
+    /// Nothing was received.
+    pub(crate) fn new(alloc: Global) -> Buffer
+        ensures unread { result.unread ≡ [] }
+        ensures moved { result.moved + result.start ≡ 0 }
+    {
+        Buffer {
+            bytes: Vec::new(alloc),
+            start: 0,
+            moved: Count::new(),
+            most: Greatest::new(),
+        }
+    }
+
+    /// How many bytes are unread.
+    #[inline(always)]
+    pub(crate) fn len(&self) -> usize
+        ensures len { result ≡ length self.now.unread }
+        ensures held { self.now.length ≤ 2 * self.now.most }
+    {
+        self.bytes.len() - self.start
+    }
+
+    /// The unread bytes.
+    #[inline(always)]
+    pub(crate) fn unread(&self) -> &[u8]
+        ensures { result.now ≡ self.now.unread }
+    {
+        &self.bytes[self.start..]
+    }
+
+    /// The next `n` bytes, where so many are unread.
+    #[inline(always)]
+    pub(crate) fn front(&self, n: usize) -> Option<&[u8]>
+        ensures { MatchOption result (length self.now.unread < n) (λ b.
+            (n ≤ length self.now.unread) × (b.now ≡ take n self.now.unread)) }
+    {
+        self.bytes[self.start..].get(..n)
+    }
+
+    /// The next `n` bytes were read.
+    #[inline(always)]
+    pub(crate) fn consume(&mut self, n: usize)
+        requires { n ≤ length self.old.unread }
+        ensures unread { self.new.unread ≡ drop n self.old.unread }
+        ensures start { self.new.start ≤ self.old.start + n }
+        ensures used_up { n ≡ length self.old.unread →
+            (self.new.start ≡ 0) × (self.new.length ≡ 0) }
+        ensures moved { self.new.moved ≡ self.old.moved }
+        ensures most { self.new.most ≡ self.old.most }
+    {
+        self.start += n;
+        if self.start == self.bytes.len() {
+            self.bytes.clear();
+            self.start = 0;
+        }
+    }
+
+    /// Finds room for `n` bytes more, and moves the unread bytes to the front where they begin in
+    /// the second half.
+    pub(crate) fn make_room(&mut self, n: usize) -> Result<(), Error>
+        ensures front { Fronted self.old self.new }
+        ensures first_half { 2 * self.new.start ≤ self.new.length }
+        ensures moved { self.new.moved + self.new.start ≤ self.old.moved + self.old.start }
+        ensures ok { OnOk result (n ≤ self.new.room) }
+        ensures err { IfErr result (λ e. e ≡ OutOfMemory) }
+    {
+        let unread = self.bytes.len() - self.start;
+        if self.start >= unread {
+            self.bytes.copy_within(self.start.., 0);
+            self.bytes.truncate(unread);
+            self.start = 0;
+            self.moved.ticks(unread);
+        }
+        match self.bytes.reserve(n) {
+            Ok(()) => Ok(()),
+            Err(_) => Err(Error::OutOfMemory),
+        }
+    }
+
+    /// Keeps what was received.
+    pub(crate) fn append(&mut self, received: &[u8])
+        requires room { length received.now ≤ self.old.room }
+        requires first_half { 2 * self.old.start ≤ self.old.length }
+        ensures unread { self.new.unread ≡ self.old.unread ++ received.now }
+        ensures moved { self.new.moved + self.new.start ≡ self.old.moved + self.old.start }
+        ensures most { self.new.most ≡ max self.old.most (length self.new.unread) }
+    {
+        let _ = self.bytes.extend_from_slice(received);
+        self.most.sees(self.bytes.len() - self.start);
+    }
+
+    /// Asks a source for `n` bytes at most and keeps what it gives: how many. Memory is asked for
+    /// first.
+    pub(crate) fn receive<S: Source>(&mut self, source: &mut S, n: usize) -> Result<usize, Error>
+        ensures stays { Stays
+            (reads self.old.unread (S.remaining source.old) 0 (S.faults source.old)
+            (S.last_fault source.old) (S.is_honest source.old) (S.origin source.old))
+            (reads self.new.unread (S.remaining source.new) 0 (S.faults source.new)
+            (S.last_fault source.new) (S.is_honest source.new) (S.origin source.new)) }
+        ensures few { IfOk result (λ got. got ≤ n) }
+        ensures len { IfOk result (λ got.
+            length self.new.unread ≡ length self.old.unread + got) }
+        ensures end { IfOk result (λ got.
+            got ≡ 0 → 0 < n → IsTrue (S.is_honest source.old) → IsAtEnd (S.remaining source.old)) }
+        ensures kept { OnErr result (self.new.unread ≡ self.old.unread) }
+        ensures moved { self.new.moved + self.new.start ≤ self.old.moved + self.old.start }
+        ensures most { OnOk result (self.new.most ≡ max self.old.most (length self.new.unread)) }
+        ensures most_kept { OnErr result (self.new.most ≡ self.old.most) }
+        ensures why { IfErr result (λ e. Fails true true
+            (reads self.old.unread (S.remaining source.old) 0 (S.faults source.old)
+            (S.last_fault source.old) (S.is_honest source.old) (S.origin source.old))
+            (reads self.new.unread (S.remaining source.new) 0 (S.faults source.new)
+            (S.last_fault source.new) (S.is_honest source.new) (S.origin source.new)) e) }
+    {
+        self.make_room(n)?;
+        let have = self.bytes.len();
+        let Some(wanted) = have.checked_add(n) else {
+            return Err(Error::OutOfMemory);
+        };
+        self.bytes.resize(wanted, 0)?;
+        match read_behind(source, &mut self.bytes, have) {
+            Ok(got) => {
+                self.bytes.truncate(have + got);
+                self.most.sees(have + got - self.start);
+                Ok(got)
+            }
+            Err(kind) => {
+                self.bytes.truncate(have);
+                Err(Error::from(kind))
+            }
+        }
+    }
+}
+
+/// Reads some bytes behind the first `from`, which stay.
+fn read_behind<S: Source>(source: &mut S, bytes: &mut [u8], from: usize) -> Result<usize, ErrorKind>
+    requires { from ≤ length bytes.old }
+    ensures len { length bytes.new ≡ length bytes.old }
+    ensures front { take from bytes.new ≡ take from bytes.old }
+    ensures bound { IfOk result (λ n. n ≤ length bytes.old - from) }
+    ensures read { ReadConsumes (S.remaining source.old) (S.remaining source.new) result
+        (drop from bytes.new) }
+    ensures counts { Counts (S.grows source.old) (S.faults source.old) (S.faults source.new)
+        result }
+    ensures kind { Remembers (S.faults source.old) (S.faults source.new)
+        (S.last_fault source.old) (S.last_fault source.new) result }
+    ensures end { IsTrue (S.is_honest source.old) → IfOk result (λ n.
+        n ≡ 0 → from < length bytes.old → IsAtEnd (S.remaining source.old)) }
+    ensures honest { S.is_honest source.new ≡ S.is_honest source.old }
+    ensures origin { S.origin source.new ≡ S.origin source.old }
+{
+    source.read_some(&mut bytes[from..])
+}

@@ -1,0 +1,541 @@
+//! A reader over a source, which gives its bytes piece by piece.
+
+ghost use Rattle.std.specs.Prelude.{◌≡◌, ◌⊎◌, ◌<◌, ◌≤◌, ◌+◌, ◌^◌, ℕ, Bool};
+ghost use Rattle.std.specs.Prelude.{true, false, List, [], ◌∷◌, length, take, IfOk, IfErr, OnOk};
+ghost use Rattle.std.specs.Prelude.{OnErr, IsTrue, MatchOption, Some, None, slice_get};
+ghost use Rattle.std.specs.Prelude.{string_bytes};
+ghost use Rattle.amqp_read.specs.Texts.{NoText};
+ghost use Rattle.std.specs.declared.io.ErrorKind.TheVariants.{UnexpectedEof};
+ghost use Rattle.amqp_base.specs.declared.error.Error.TheVariants.{Io, OutOfMemory};
+ghost use Rattle.amqp_read.specs.Reading.{Reading, Stays, Takes};
+ghost use Rattle.amqp_read.specs.Steps.{IsShort, Ended, Looked, Fails, NotSeen, NotTaken, Passes};
+ghost use Rattle.amqp_read.specs.Steps.{PassesSome, PassesCount};
+ghost use Rattle.amqp_read.specs.Streaming.{IsLean, reads};
+
+use crate::Read;
+use crate::buffer::Buffer;
+use crate::read::sealed::Sealed;
+use crate::read::text_of;
+use amqp_base::{Error, Source};
+use std::alloc::Global;
+use std::io::ErrorKind;
+use std::marker::Model;
+
+/// The most bytes that a buffer grows by before its source is asked for them.
+const PIECE: usize = 4096;
+
+/// The most bytes that are read straight from the source where none was received.
+const SMALL: usize = 16;
+
+/// The most bytes that are passed over at once.
+const BLOCK: usize = 256;
+
+/// Reads from a source, which is never asked for more bytes than a call needs.
+#[derive(Drop)]
+pub struct IoReader<S: Source> {
+    source: S,
+    buffer: Buffer,
+    taken: usize,
+}
+
+impl<S: Source> Model for IoReader<S> {
+    ghost use Rattle.std.specs.Prelude.{◌+◌, ◌≤◌};
+    ghost use Rattle.amqp_read.specs.Streaming.{Streaming, reads};
+
+    ghost Value = { Streaming };
+
+    ghost view = { λ r. record {
+      reading = reads r.buffer.unread (S.remaining r.source) r.taken (S.faults r.source)
+          (S.last_fault r.source) (S.is_honest r.source) (S.origin r.source);
+      buffer = r.buffer;
+    } };
+
+    ghost invariant = { λ r. r.buffer.moved + r.buffer.start ≤ r.taken };
+}
+
+impl<S: Source> IoReader<S> {
+    /// Reads what `source` gives from here on. Its buffer takes no memory yet.
+    pub fn new(alloc: Global, source: S) -> IoReader<S>
+        ensures { result.reading ≡ reads [] (S.remaining source) 0 (S.faults source)
+            (S.last_fault source) (S.is_honest source) (S.origin source) }
+    {
+        IoReader {
+            source,
+            buffer: Buffer::new(alloc),
+            taken: 0,
+        }
+    }
+
+    /// The source. Bytes that were received and not consumed are dropped.
+    pub fn into_inner(self) -> S
+        ensures { reads self.reading.received (S.remaining result) self.reading.taken
+            (S.faults result) (S.last_fault result) (S.is_honest result) (S.origin result)
+            ≡ self.reading }
+    {
+        let IoReader {
+            source,
+            buffer: _,
+            taken: _,
+        } = self;
+        source
+    }
+
+    /// Consumes a received byte; `None` where none is unread, or where the count of bytes consumed
+    /// ends.
+    pub fn pop_first(&mut self) -> Option<u8>
+        ensures { MatchOption result
+            ((self.new ≡ self.old)
+            × ((self.old.reading.received ≡ []) ⊎ (2 ^ 64 ≤ self.old.reading.taken + 1)))
+            (λ b. Takes self.old.reading self.new.reading (b ∷ [])
+            × (slice_get self.old.reading.received 0 ≡ Some b)) }
+    {
+        if self.received() == 0 {
+            return None;
+        }
+        self.take_first().ok()
+    }
+
+    /// Consumes the first received byte; `Io(Other)` where it can't be counted.
+    fn take_first(&mut self) -> Result<u8, Error>
+        requires { 0 < length self.old.reading.received }
+        ensures ok { IfOk result (λ b. Takes self.old.reading self.new.reading (b ∷ [])
+            × (slice_get self.old.reading.received 0 ≡ Some b)) }
+        ensures err { OnErr result (self.new ≡ self.old) }
+        ensures why { IfErr result (λ e. PassesCount true 1 self.old.reading e) }
+    {
+        if self.taken == usize::MAX {
+            return Err(Error::Io(ErrorKind::Other));
+        }
+        let b = self.buffer.unread()[0];
+        self.consume(1);
+        Ok(b)
+    }
+
+    /// Asks the source once for what `n` unread bytes lack: whether it gave some.
+    fn more(&mut self, n: usize) -> Result<bool, Error>
+        requires { length self.old.reading.received < n }
+        ensures looked { Looked n self.old.reading self.new.reading }
+        ensures some { IfOk result (λ some. IsTrue some →
+            length self.old.reading.received < length self.new.reading.received) }
+        ensures short { IfOk result (λ some. some ≡ false → IsShort n self.old.reading) }
+        ensures why { IfErr result (λ e.
+            Fails true true self.old.reading self.new.reading e) }
+    {
+        let lacking = n - self.buffer.len();
+        let got = self.buffer.receive(&mut self.source, lacking.min(PIECE))?;
+        Ok(got != 0)
+    }
+
+    /// Whether `n` bytes are received and unread, once the source was asked for what they lack.
+    fn fill(&mut self, n: usize) -> Result<bool, Error>
+        ensures looked { Looked n self.old.reading self.new.reading }
+        ensures full { IfOk result (λ f. IsTrue f → n ≤ length self.new.reading.received) }
+        ensures short { IfOk result (λ f. f ≡ false → IsShort n self.old.reading) }
+        ensures why { IfErr result (λ e.
+            Fails true true self.old.reading self.new.reading e) }
+    {
+        'bytes: while self.received() < n {
+            match self.more(n) {
+                Ok(true) => {}
+                Ok(false) => return Ok(false),
+                Err(e) => return Err(e),
+            }
+        }
+        Ok(true)
+    }
+
+    /// How many bytes are received and unread.
+    #[inline(always)]
+    fn received(&self) -> usize
+        ensures { result ≡ length self.now.reading.received }
+    {
+        self.buffer.len()
+    }
+
+    /// Receives bytes until `n` are received and unread; `Io(UnexpectedEof)` where fewer are to
+    /// come. None is consumed.
+    pub fn fill_buffer(&mut self, n: usize) -> Result<(), Error>
+        ensures ok { OnOk result (n ≤ length self.new.reading.received) }
+        ensures looked { Looked n self.old.reading self.new.reading }
+        ensures why { IfErr result (λ e.
+            NotSeen true true n self.old.reading self.new.reading e) }
+    {
+        if self.fill(n)? {
+            Ok(())
+        } else {
+            Err(Error::Io(ErrorKind::UnexpectedEof))
+        }
+    }
+
+    /// Receives bytes until `n` are unread that can be counted.
+    fn receive_all(&mut self, n: usize) -> Result<(), Error>
+        ensures looked { Looked n self.old.reading self.new.reading }
+        ensures ok { OnOk result ((n ≤ length self.new.reading.received)
+            × (self.new.reading.taken + n < 2 ^ 64)) }
+        ensures why { IfErr result (λ e.
+            NotTaken true true n self.old.reading self.new.reading e) }
+    {
+        match self.fill(n) {
+            Ok(true) if n > usize::MAX - self.taken => Err(Error::Io(ErrorKind::Other)),
+            Ok(true) => Ok(()),
+            Ok(false) => Err(Error::Io(ErrorKind::UnexpectedEof)),
+            Err(e) => Err(e),
+        }
+    }
+
+    /// `n` of the bytes that were received are consumed.
+    #[inline(always)]
+    fn consume(&mut self, n: usize)
+        requires received { n ≤ length self.old.reading.received }
+        requires counted { self.old.reading.taken + n < 2 ^ 64 }
+        ensures { Takes self.old.reading self.new.reading (take n self.old.reading.received) }
+    {
+        self.buffer.consume(n);
+        self.taken += n;
+    }
+
+    /// Fills `block` with bytes that were received, and consumes them.
+    #[inline(always)]
+    fn take_into(&mut self, block: &mut [u8])
+        requires received { length block.old ≤ length self.old.reading.received }
+        requires counted { self.old.reading.taken + length block.old < 2 ^ 64 }
+        ensures len { length block.new ≡ length block.old }
+        ensures taken { Takes self.old.reading self.new.reading block.new }
+    {
+        let n = block.len();
+        block.copy_from_slice(&self.buffer.unread()[..n]);
+        self.consume(n);
+    }
+
+    /// A copy of the next `n` bytes, which were received.
+    fn front_copied(&self, alloc: Global, n: usize) -> Result<Vec<u8>, Error>
+        requires { n ≤ length self.now.reading.received }
+        ensures ok { IfOk result (λ v. v.items ≡ take n self.now.reading.received) }
+        ensures err { IfErr result (λ e. e ≡ OutOfMemory) }
+    {
+        match Vec::from_slice(alloc, &self.buffer.unread()[..n]) {
+            Ok(bytes) => Ok(bytes),
+            Err(_) => Err(Error::OutOfMemory),
+        }
+    }
+
+    /// The next `n` bytes as a text, which were received.
+    fn front_text(&self, alloc: Global, n: usize) -> Result<String, Error>
+        requires { n ≤ length self.now.reading.received }
+        ensures ok { IfOk result (λ t. string_bytes t ≡ take n self.now.reading.received) }
+        ensures why { IfErr result (λ e.
+            NoText n self.now.reading e ⊎ (e ≡ OutOfMemory)) }
+    {
+        text_of(alloc, &self.buffer.unread()[..n])
+    }
+
+    /// The next byte, straight from the source.
+    #[inline(always)]
+    fn next_of_source(&mut self) -> Result<Option<u8>, Error>
+        requires received { self.old.reading.received ≡ [] }
+        requires counted { self.old.reading.taken + 1 < 2 ^ 64 }
+        ensures ok { IfOk result (λ o. MatchOption o
+            (Stays self.old.reading self.new.reading × Ended self.old.reading)
+            (λ b. Takes self.old.reading self.new.reading (b ∷ []))) }
+        ensures err { OnErr result (Stays self.old.reading self.new.reading) }
+        ensures why { IfErr result (λ e.
+            Fails true true self.old.reading self.new.reading e) }
+    {
+        let mut one = [0; 1];
+        match self.source.read_some(&mut one) {
+            Ok(0) => Ok(None),
+            Ok(_) => {
+                self.taken += 1;
+                Ok(Some(one[0]))
+            }
+            Err(kind) => Err(Error::from(kind)),
+        }
+    }
+
+    /// Asks the source once for all of `block`: whether it gave it. What it gave else is kept, and
+    /// `block` stays.
+    fn read_small(&mut self, block: &mut [u8]) -> Result<bool, Error>
+        requires received { self.old.reading.received ≡ [] }
+        requires some { 0 < length block.old }
+        requires few { length block.old ≤ 16 }
+        requires counted { self.old.reading.taken + length block.old < 2 ^ 64 }
+        ensures len { length block.new ≡ length block.old }
+        ensures taken { IfOk result (λ all. IsTrue all →
+            Takes self.old.reading self.new.reading block.new) }
+        ensures else_kept { IfOk result (λ all. all ≡ false →
+            Looked (length block.old) self.old.reading self.new.reading
+            × (block.new ≡ block.old)) }
+        ensures err { OnErr result (Stays self.old.reading self.new.reading
+            × (block.new ≡ block.old)) }
+        ensures why { IfErr result (λ e.
+            Fails true true self.old.reading self.new.reading e) }
+    {
+        let n = block.len();
+        match self.buffer.make_room(n) {
+            Ok(()) => {}
+            Err(e) => return Err(e),
+        }
+        let mut small = [0; SMALL];
+        match self.source.read_some(&mut small[..n]) {
+            Ok(got) => {
+                if got == n {
+                    block.copy_from_slice(&small[..n]);
+                    self.taken += n;
+                    Ok(true)
+                } else {
+                    self.buffer.append(&small[..got]);
+                    Ok(false)
+                }
+            }
+            Err(kind) => Err(Error::from(kind)),
+        }
+    }
+
+    /// Asks the source once for a small `block` where nothing was received: whether it gave it.
+    fn read_at_once(&mut self, block: &mut [u8]) -> Result<bool, Error>
+        ensures len { length block.new ≡ length block.old }
+        ensures taken { IfOk result (λ all. IsTrue all →
+            Takes self.old.reading self.new.reading block.new) }
+        ensures else_kept { IfOk result (λ all. all ≡ false →
+            Looked (length block.old) self.old.reading self.new.reading
+            × (block.new ≡ block.old)) }
+        ensures err { OnErr result (Stays self.old.reading self.new.reading
+            × (block.new ≡ block.old)) }
+        ensures why { IfErr result (λ e.
+            Fails true true self.old.reading self.new.reading e) }
+    {
+        let n = block.len();
+        if self.received() == 0 && 0 < n && n <= SMALL && n <= usize::MAX - self.bytes_consumed() {
+            return self.read_small(block);
+        }
+        Ok(false)
+    }
+
+    /// Fills `block` by the buffer.
+    fn read_buffered(&mut self, block: &mut [u8]) -> Result<(), Error>
+        ensures len { length block.new ≡ length block.old }
+        ensures ok { OnOk result (Takes self.old.reading self.new.reading block.new) }
+        ensures err { OnErr result (Stays self.old.reading self.new.reading
+            × (block.new ≡ block.old)) }
+        ensures why { IfErr result (λ e. NotTaken true true (length block.old)
+            self.old.reading self.new.reading e) }
+    {
+        let n = block.len();
+        match self.receive_all(n) {
+            Ok(()) => {
+                self.take_into(block);
+                Ok(())
+            }
+            Err(e) => Err(e),
+        }
+    }
+
+    /// Consumes some of the next bytes, `n` at most, and says how many.
+    fn pass(&mut self, n: usize) -> Result<usize, Error>
+        requires some { 0 < n }
+        requires counted { self.old.reading.taken + n < 2 ^ 64 }
+        ensures few { IfOk result (λ k. k ≤ n) }
+        ensures ok { IfOk result (λ k. Passes k self.old.reading self.new.reading) }
+        ensures short { IfOk result (λ k. k ≡ 0 → IsShort 1 self.old.reading) }
+        ensures err { OnErr result (Stays self.old.reading self.new.reading) }
+        ensures received { OnErr result
+            (self.new.reading.received ≡ self.old.reading.received) }
+        ensures why { IfErr result (λ e.
+            Fails true true self.old.reading self.new.reading e) }
+    {
+        let received = self.buffer.len();
+        if received > 0 {
+            let k = n.min(received);
+            self.consume(k);
+            return Ok(k);
+        }
+        self.pass_of_source(n)
+    }
+
+    /// Consumes some of the next bytes, straight from the source.
+    fn pass_of_source(&mut self, n: usize) -> Result<usize, Error>
+        requires received { self.old.reading.received ≡ [] }
+        requires some { 0 < n }
+        requires counted { self.old.reading.taken + n < 2 ^ 64 }
+        ensures few { IfOk result (λ k. k ≤ n) }
+        ensures ok { IfOk result (λ k. Passes k self.old.reading self.new.reading) }
+        ensures short { IfOk result (λ k. k ≡ 0 → IsShort 1 self.old.reading) }
+        ensures err { OnErr result (Stays self.old.reading self.new.reading) }
+        ensures received { OnErr result
+            (self.new.reading.received ≡ self.old.reading.received) }
+        ensures why { IfErr result (λ e.
+            Fails true true self.old.reading self.new.reading e) }
+    {
+        let mut block = [0; BLOCK];
+        let few = n.min(BLOCK);
+        match self.source.read_some(&mut block[..few]) {
+            Ok(k) => {
+                self.taken += k;
+                Ok(k)
+            }
+            Err(kind) => Err(Error::from(kind)),
+        }
+    }
+
+    /// Why `n` bytes that can't be counted aren't passed over. Whether they are there is known of
+    /// received ones alone, and for more there is no room.
+    #[cold]
+    fn uncounted(&self, n: usize) -> Error
+        requires { 2 ^ 64 ≤ self.now.reading.taken + n }
+        ensures { NotTaken true true n self.now.reading self.now.reading result }
+    {
+        if self.buffer.len() >= n {
+            Error::Io(ErrorKind::Other)
+        } else {
+            Error::OutOfMemory
+        }
+    }
+}
+
+impl<S: Source> Sealed for IoReader<S> {}
+
+impl<S: Source> Read for IoReader<S> {
+    ghost reading = { λ r. r.reading };
+
+    ghost buffers = { true };
+
+    fn peek(&mut self) -> Result<Option<u8>, Error> {
+        match self.fill(1) {
+            Ok(_) => Ok(self.buffer.unread().first().copied()),
+            Err(e) => Err(e),
+        }
+    }
+
+    /// However many calls there were, the bytes moved inside the buffer plus its start index are
+    /// at most those consumed, and it holds at most twice the most bytes unread at once so far.
+    #[inline(always)]
+    fn bytes_consumed(&self) -> usize
+        ensures taken { result ≡ self.now.reading.taken }
+        ensures lean { IsLean result self.now.buffer }
+    {
+        let _unread = self.buffer.len();
+        self.taken
+    }
+
+    #[inline(always)]
+    fn at_hand(&self) -> usize {
+        self.buffer.len()
+    }
+
+    fn next(&mut self) -> Result<Option<u8>, Error> {
+        if self.received() == 0 && self.bytes_consumed() != usize::MAX {
+            return self.next_of_source();
+        }
+        match self.fill(1) {
+            Ok(true) => match self.take_first() {
+                Ok(b) => Ok(Some(b)),
+                Err(e) => Err(e),
+            },
+            Ok(false) => Ok(None),
+            Err(e) => Err(e),
+        }
+    }
+
+    fn read_exact(&mut self, buf: &mut [u8]) -> Result<(), Error> {
+        match self.read_at_once(buf) {
+            Ok(true) => Ok(()),
+            Ok(false) => self.read_buffered(buf),
+            Err(e) => Err(e),
+        }
+    }
+
+    fn peek_bytes(&mut self, n: usize) -> Result<Option<&[u8]>, Error> {
+        match self.fill(n) {
+            Ok(_) => Ok(self.buffer.front(n)),
+            Err(e) => Err(e),
+        }
+    }
+
+    fn read_bytes(&mut self, alloc: Global, n: usize) -> Result<Vec<u8>, Error> {
+        match self.receive_all(n) {
+            Ok(()) => match self.front_copied(alloc, n) {
+                Ok(bytes) => {
+                    self.consume(n);
+                    Ok(bytes)
+                }
+                Err(e) => Err(e),
+            },
+            Err(e) => Err(e),
+        }
+    }
+
+    fn forward_read_str(&mut self, alloc: Global, n: usize) -> Result<String, Error> {
+        match self.receive_all(n) {
+            Ok(()) => match self.front_text(alloc, n) {
+                Ok(text) => {
+                    self.consume(n);
+                    Ok(text)
+                }
+                Err(e) => Err(e),
+            },
+            Err(e) => Err(e),
+        }
+    }
+
+    // No buffer holds `usize::MAX` bytes.
+    fn peek_at(&mut self, i: usize) -> Result<Option<u8>, Error> {
+        match self.fill(i.saturating_add(1)) {
+            Ok(true) => match self.buffer.unread().get(i) {
+                Some(b) => Ok(Some(*b)),
+                None => Err(Error::OutOfMemory),
+            },
+            Ok(false) => Ok(None),
+            Err(e) => Err(e),
+        }
+    }
+
+    fn peek_copied(&mut self, alloc: Global, from: usize, n: usize) -> Result<Vec<u8>, Error> {
+        match self.fill(from.saturating_add(n)) {
+            Ok(true) => {
+                let unread = self.buffer.unread();
+                if from > unread.len() || n > unread.len() - from {
+                    return Err(Error::OutOfMemory);
+                }
+                match Vec::from_slice(alloc, &unread[from..from + n]) {
+                    Ok(bytes) => Ok(bytes),
+                    Err(_) => Err(Error::OutOfMemory),
+                }
+            }
+            Ok(false) => Err(Error::Io(ErrorKind::UnexpectedEof)),
+            Err(e) => Err(e),
+        }
+    }
+
+    #[inline(always)]
+    fn show_at_hand(&self, block: &mut [u8]) -> usize {
+        let unread = self.buffer.unread();
+        let n = block.len().min(unread.len());
+        block[..n].copy_from_slice(&unread[..n]);
+        n
+    }
+
+    #[inline(always)]
+    fn take_at_hand(&mut self, block: &mut [u8]) -> bool {
+        let n = block.len();
+        if self.received() < n || usize::MAX - self.bytes_consumed() < n {
+            return false;
+        }
+        self.take_into(block);
+        true
+    }
+
+    fn skip(&mut self, n: usize) -> Result<(), Error> {
+        if n > usize::MAX - self.taken {
+            return Err(self.uncounted(n));
+        }
+        let mut left = n;
+        'bytes: while left > 0 {
+            match self.pass(left) {
+                Ok(0) => return Err(Error::Io(ErrorKind::UnexpectedEof)),
+                Ok(k) => left -= k,
+                Err(e) => return Err(e),
+            }
+        }
+        Ok(())
+    }
+}
