@@ -1,18 +1,16 @@
 -- What asking a source for more does to what is to come.
 use Rattle.std.proofs.Common.{◌≡◌, ◌⊎◌, ◌<◌, ◌≤◌, ◌+◌, ◌++◌, [], ◌∷◌, List, ℕ, zero, suc, length, take, drop, arith, Option, Some, None, refl, sym, ap, ◌∙◌, append_assoc, Bool, true, false, IsTrue, MatchOption, OnOk, Result, Ok, Err, inl, inr, subst, max}
 use Rattle.std.specs.Borrow.{GName}
-use Rattle.std.specs.Io.KnownBytes.{Consumes, Keeps, prepend_known, IsAtEnd}
-use Rattle.std.proofs.lemmas.List.{drop-append-le, take-append-le, drop_all, take_all, length-append, length-take, length-take-le, drop-drop, take-append-drop, take-take}
+use Rattle.std.specs.Io.KnownBytes.{Consumes, Keeps, prepend_known}
+use Rattle.std.proofs.lemmas.List.{drop-append-le, take-append-le, drop_all, take_all, length-append, length-take-le, drop-drop, take-append-drop}
 use Rattle.std.proofs.lemmas.Bool.{cases_lt}
 use Rattle.std.proofs.Math.Seq.{take-add, take-append_seam, take-length}
 use Rattle.std.specs.declared.io.ErrorKind.{ErrorKind}
 use Rattle.std.specs.declared.io.ErrorKind.TheVariants as kinds
-use Rattle.amqp_base.specs.declared.error.Error.{Error}
-use Rattle.amqp_base.specs.declared.error.Error.TheVariants.{Io, OutOfMemory}
-use Rattle.std.specs.declared.io.ErrorKind.TheVariants.{UnexpectedEof}
-use Rattle.amqp_base.specs.Faults.{Counts, Remembers, refusal_of, IsFault}
+use Rattle.amqp_base.specs.declared.error.Error.TheVariants.{OutOfMemory}
+use Rattle.amqp_base.specs.Faults.{refusal_of, IsFault}
 use Rattle.amqp_read.specs.Reading.{Reading, Agree, Stays, Steady, Takes}
-use Rattle.amqp_read.specs.Steps.{Fails, Looked, IsShort, ShortOf, Passes, PassesSome, MayCome, Admits, NotTaken}
+use Rattle.amqp_read.specs.Steps.{Looked, IsShort, ShortOf, Passes, PassesSome, MayCome, Admits}
 use Rattle.amqp_read.specs.Streaming.{reads}
 
 -- bytes that go from the source to the received ones are to come as before
@@ -49,22 +47,11 @@ keeps_same : (known : Option (List ℕ)) → Keeps known known
 keeps_same None = tt
 keeps_same (Some s) = refl
 
-keeps_then : (a b d : Option (List ℕ)) → Keeps a b → Keeps b d → Keeps a d
-keeps_then None b d p q = tt
-keeps_then (Some x) None d p q = absurd p
-keeps_then (Some x) (Some y) None p q = absurd q
-keeps_then (Some x) (Some y) (Some z) p q = q ∙ p
-
 keeps_consumes : (a b d : Option (List ℕ)) (bytes : List ℕ) → Keeps a b → Consumes b d bytes → Consumes a d bytes
 keeps_consumes None b d bytes p q = tt
 keeps_consumes (Some x) None d bytes p q = absurd p
 keeps_consumes (Some x) (Some y) None bytes p q = absurd q
 keeps_consumes (Some x) (Some y) (Some z) bytes p q = sym p ∙ q
-
-keeps_short : (n : ℕ) (a b : Option (List ℕ)) → Keeps a b → ShortOf n b → ShortOf n a
-keeps_short n None b p q = tt
-keeps_short n (Some x) None p q = absurd p
-keeps_short n (Some x) (Some y) p q = let e : length y ≡ length x = ap (λ (z : List ℕ). length z) p in omega arith
 
 agree_front : (k : ℕ) (xs ys : List ℕ) → Agree xs ys → Agree (take k xs) ys
 agree_front zero xs ys h = tt
@@ -85,15 +72,6 @@ drop_grown n xs ys front few = elim (cases_lt (length xs) n) [
   | inl more ↦ drop_all n ys (omega arith) ∙ sym (drop_all n xs (omega arith))
 ]
 
-prefix_len : (xs ys : List ℕ) → take (length xs) ys ≡ xs → length xs ≤ length ys
-prefix_len xs ys p = let len : length (take (length xs) ys) ≡ length xs = ap (λ (z : List ℕ). length z) p in omega (arith, length-take (length xs) ys)
-
-front_then : (xs ys zs : List ℕ) → take (length xs) ys ≡ xs → take (length ys) zs ≡ ys → take (length xs) zs ≡ xs
-front_then xs ys zs p q =
-    let len : length (take (length ys) zs) ≡ length ys = ap (λ (z : List ℕ). length z) q in
-    let few : length xs ≤ length ys = prefix_len xs ys p in
-    sym (take-take (length xs) (length ys) zs few) ∙ ap (λ (z : List ℕ). take (length xs) z) q ∙ p
-
 pub steady_then : {a b d : Reading} → Steady a b → Steady b d → Steady a d
 steady_then {a} {b} {d} p q =
     let pf = p.faults in let qf = q.faults in let pt = p.taken in let qt = q.taken in
@@ -110,17 +88,6 @@ looked_none n r = record {
   received = omega arith;
 }
 
-pub stays_then : {a b d : Reading} → Stays a b → Stays b d → Stays a d
-stays_then {a} {b} {d} p q = record {
-  to_come = keeps_then a.to_come b.to_come d.to_come p.to_come q.to_come;
-  taken = q.taken ∙ p.taken;
-  received = front_then a.received b.received d.received p.received q.received;
-  steady = steady_then p.steady q.steady;
-}
-
-pub looked_then : {n : ℕ} {a b d : Reading} → Looked n a b → Looked n b d → Looked n a d
-looked_then {n} {a} {b} {d} p q = let pr = p.received in let qr = q.received in record { stays = stays_then p.stays q.stays; received = omega arith }
-
 -- what was looked at is consumed
 pub looked_takes : {n : ℕ} {a b d : Reading} {bytes : List ℕ} → Looked n a b → Takes b d bytes → length bytes ≡ n → Takes a d bytes
 looked_takes {n} {a} {b} {d} {bytes} p q len =
@@ -132,13 +99,6 @@ looked_takes {n} {a} {b} {d} {bytes} p q len =
       agrees = subst (λ (z : List ℕ). Agree z bytes) stays.received (agree_front (length a.received) b.received bytes q.agrees);
       steady = steady_then stays.steady q.steady;
     }
-
-pub short_before : (n : ℕ) (a b : Reading) → Stays a b → IsShort n b → IsShort n a
-short_before n a b p short = λ honest. keeps_short n a.to_come b.to_come p.to_come (short (p.steady.honest ∙ honest))
-
-pub fails_after : (a b d : Reading) (e : Error) → Stays a b → Fails true true b d e → Fails true true a d e
-fails_after a b d e p (inl x) = inl x
-fails_after a b d e p (inr x) = let s = p.steady in let f = s.faults in let g = x.1 in inr (x.0, omega arith, x.2)
 
 front_consumed : (n : ℕ) (u : List ℕ) (r : Option (List ℕ)) → Consumes (prepend_known u r) (prepend_known (drop n u) r) (take n u)
 front_consumed n u None = tt
@@ -241,10 +201,6 @@ consumes_short n m (Some a) (Some b) x p q sum = let len : length a ≡ length (
 
 pub short_behind : (j m n : ℕ) (a b : Reading) → Passes j a b → IsShort m b → j + m ≤ n → IsShort n a
 short_behind j m n a b p short sum = let step = p.step in let len = p.len in λ honest. consumes_short n m a.to_come b.to_come p.bytes step.to_come (short (step.steady.honest ∙ honest)) (omega arith)
-
-pub fails_behind : (j : ℕ) (a b d : Reading) (e : Error) → Passes j a b → Fails true true b d e → Fails true true a d e
-fails_behind j a b d e p (inl x) = inl x
-fails_behind j a b d e p (inr x) = let step = p.step in let s = step.steady in let f = s.faults in let g = x.1 in inr (x.0, omega arith, x.2)
 
 -- a refusal behind what was passed
 kept_passes : {a b : Reading} → Stays a b → b.received ≡ a.received → Passes 0 a b

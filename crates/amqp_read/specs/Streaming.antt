@@ -1,5 +1,5 @@
 -- What a reader over a source holds, and what asking the source does.
-use Rattle.std.specs.Prelude.{◌≡◌, ℕ, ◌+◌, ◌*◌, ◌<◌, ◌≤◌, Bool, List, length, Option}
+use Rattle.std.specs.Prelude.{◌≡◌, ℕ, ◌+◌, ◌*◌, ◌<◌, ◌≤◌, max, Bool, List, length, Option}
 use Rattle.std.specs.Borrow.{GName}
 use Rattle.std.specs.Io.KnownBytes.{prepend_known}
 use Rattle.std.specs.declared.io.ErrorKind.{ErrorKind}
@@ -47,3 +47,7 @@ reads received left taken faults last honest origin = record {
   honest = honest;
   origin = origin;
 }
+
+-- the most bytes that were unread at once are those of before, or those that are unread now
+abbrev pub SawMore : Streaming → Streaming → Type 0
+SawMore old new = new.buffer.most ≡ max old.buffer.most (length new.reading.received)

@@ -1,6 +1,7 @@
 //! Bytes that were received and not consumed yet.
 
-ghost use Rattle.std.specs.Prelude.{◌≡◌, ◌<◌, ◌≤◌, ◌+◌, ◌-◌, ◌*◌, ◌++◌, max, true, List, [], ℕ, length};
+ghost use Rattle.std.specs.Prelude.{◌≡◌, ◌<◌, ◌≤◌, ◌+◌, ◌-◌, ◌*◌};
+ghost use Rattle.std.specs.Prelude.{◌++◌, max, true, List, [], ℕ, length};
 ghost use Rattle.std.specs.Prelude.{take, drop, OnOk, OnErr, IfOk, IfErr, IsTrue, MatchOption};
 ghost use Rattle.std.specs.Io.KnownBytes.{IsAtEnd, ReadConsumes};
 ghost use Rattle.amqp_base.specs.declared.error.Error.TheVariants.{OutOfMemory};
@@ -42,14 +43,15 @@ impl Model for Buffer {
 
     ghost invariant = { λ b. (b.start ≤ vec_len b.bytes)
         × (b.start ≡ vec_len b.bytes → vec_len b.bytes ≡ 0)
-        × (vec_len b.bytes ≤ 2 * b.most.n) };
+        × (vec_len b.bytes ≤ 2 * b.most.n)
+        × (vec_len b.bytes - b.start ≤ b.most.n) };
 }
 
 impl Buffer {
     /// Nothing was received.
     pub(crate) fn new(alloc: Global) -> Buffer
         ensures unread { result.unread ≡ [] }
-        ensures moved { result.moved + result.start ≡ 0 }
+        ensures counts { (result.moved + result.start ≡ 0) × (result.most ≡ 0) }
     {
         Buffer {
             bytes: Vec::new(alloc),
@@ -64,6 +66,7 @@ impl Buffer {
     pub(crate) fn len(&self) -> usize
         ensures len { result ≡ length self.now.unread }
         ensures held { self.now.length ≤ 2 * self.now.most }
+        ensures seen { length self.now.unread ≤ self.now.most }
     {
         self.bytes.len() - self.start
     }
@@ -108,6 +111,7 @@ impl Buffer {
     pub(crate) fn make_room(&mut self, n: usize) -> Result<(), Error>
         ensures front { Fronted self.old self.new }
         ensures first_half { 2 * self.new.start ≤ self.new.length }
+        ensures seen { length self.new.unread ≤ self.new.most }
         ensures moved { self.new.moved + self.new.start ≤ self.old.moved + self.old.start }
         ensures ok { OnOk result (n ≤ self.new.room) }
         ensures err { IfErr result (λ e. e ≡ OutOfMemory) }
@@ -152,8 +156,7 @@ impl Buffer {
             got ≡ 0 → 0 < n → IsTrue (S.is_honest source.old) → IsAtEnd (S.remaining source.old)) }
         ensures kept { OnErr result (self.new.unread ≡ self.old.unread) }
         ensures moved { self.new.moved + self.new.start ≤ self.old.moved + self.old.start }
-        ensures most { OnOk result (self.new.most ≡ max self.old.most (length self.new.unread)) }
-        ensures most_kept { OnErr result (self.new.most ≡ self.old.most) }
+        ensures most { self.new.most ≡ max self.old.most (length self.new.unread) }
         ensures why { IfErr result (λ e. Fails true true
             (reads self.old.unread (S.remaining source.old) 0 (S.faults source.old)
             (S.last_fault source.old) (S.is_honest source.old) (S.origin source.old))

@@ -10,7 +10,7 @@ ghost use Rattle.amqp_base.specs.declared.error.Error.TheVariants.{Io, OutOfMemo
 ghost use Rattle.amqp_read.specs.Reading.{Reading, Stays, Takes};
 ghost use Rattle.amqp_read.specs.Steps.{IsShort, Ended, Looked, Fails, NotSeen, NotTaken, Passes};
 ghost use Rattle.amqp_read.specs.Steps.{PassesSome, PassesCount};
-ghost use Rattle.amqp_read.specs.Streaming.{IsLean, reads};
+ghost use Rattle.amqp_read.specs.Streaming.{IsLean, SawMore, reads};
 
 use crate::Read;
 use crate::buffer::Buffer;
@@ -56,8 +56,9 @@ impl<S: Source> Model for IoReader<S> {
 impl<S: Source> IoReader<S> {
     /// Reads what `source` gives from here on. Its buffer takes no memory yet.
     pub fn new(alloc: Global, source: S) -> IoReader<S>
-        ensures { result.reading ≡ reads [] (S.remaining source) 0 (S.faults source)
+        ensures reading { result.reading ≡ reads [] (S.remaining source) 0 (S.faults source)
             (S.last_fault source) (S.is_honest source) (S.origin source) }
+        ensures counts { (result.buffer.moved ≡ 0) × (result.buffer.most ≡ 0) }
     {
         IoReader {
             source,
@@ -120,6 +121,7 @@ impl<S: Source> IoReader<S> {
         ensures short { IfOk result (λ some. some ≡ false → IsShort n self.old.reading) }
         ensures why { IfErr result (λ e.
             Fails true true self.old.reading self.new.reading e) }
+        ensures most { SawMore self.old self.new }
     {
         let lacking = n - self.buffer.len();
         let got = self.buffer.receive(&mut self.source, lacking.min(PIECE))?;
@@ -133,6 +135,7 @@ impl<S: Source> IoReader<S> {
         ensures short { IfOk result (λ f. f ≡ false → IsShort n self.old.reading) }
         ensures why { IfErr result (λ e.
             Fails true true self.old.reading self.new.reading e) }
+        ensures most { SawMore self.old self.new }
     {
         'bytes: while self.received() < n {
             match self.more(n) {
@@ -147,7 +150,8 @@ impl<S: Source> IoReader<S> {
     /// How many bytes are received and unread.
     #[inline(always)]
     fn received(&self) -> usize
-        ensures { result ≡ length self.now.reading.received }
+        ensures len { result ≡ length self.now.reading.received }
+        ensures seen { result ≤ self.now.buffer.most }
     {
         self.buffer.len()
     }
@@ -159,6 +163,7 @@ impl<S: Source> IoReader<S> {
         ensures looked { Looked n self.old.reading self.new.reading }
         ensures why { IfErr result (λ e.
             NotSeen true true n self.old.reading self.new.reading e) }
+        ensures most { SawMore self.old self.new }
     {
         if self.fill(n)? {
             Ok(())

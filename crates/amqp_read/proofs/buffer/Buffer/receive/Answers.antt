@@ -1,4 +1,4 @@
-use Rattle.std.proofs.Common.{rules, ◌≡◌, ◌<◌, ◌≤◌, ◌+◌, ◌++◌, [], ◌∷◌, List, ℕ, length, take, drop, OnOk, OnErr, IfOk, IfErr, IsTrue, true, ◌-◌, arith, sym, ap, ◌∙◌, refl}
+use Rattle.std.proofs.Common.{◌≡◌, ◌≤◌, ◌+◌, ◌++◌, List, ℕ, length, take, drop, arith, ap, ◌∙◌, refl}
 use Rattle.std.proofs.lemmas.Grind.{common_steps}
 use Rattle.amqp_read.specs.Streaming.{Buffered}
 use Rattle.amqp_read.proofs.Streams.{cut_behind, received_stays, fault_fails}
@@ -19,3 +19,6 @@ returns-in-Ok-clause-stays g c =
 
 pub returns-in-Err-clause-why : goal.returns-in-Err-clause-why
 returns-in-Err-clause-why g c = rw c.from.ensures (fault_fails _ refl c.in-Err.ensures.counts c.in-Err.ensures.kind)
+
+pub returns-in_err-make_room-clause-most : goal.returns-in_err-make_room-clause-most
+returns-in_err-make_room-clause-most g c = let same = c.make_room.ensures.front.most in let seen = c.make_room.ensures.seen in omega arith

@@ -1,6 +1,6 @@
-use Rattle.std.proofs.Common.{arith}
-use Rattle.amqp_read.proofs.Streams.{looked_none, looked_then, short_before, fails_after}
+use Rattle.std.proofs.Common.{refl}
+use Rattle.amqp_read.proofs.Streams.{looked_none}
 use Rattle.amqp_read.proofs.io_reader.IoReader.fill.Goals as goal
 
 pub bytes-init : goal.bytes-init
-bytes-init g c = looked_none _ _
+bytes-init g c = record { looked = looked_none _ _; most = refl }

@@ -1,4 +1,4 @@
-use Rattle.std.proofs.Common.{◌≡◌, ◌<◌, ap, subst, List, ℕ, length}
+use Rattle.std.proofs.Common.{◌<◌, ap, subst, List, ℕ, length}
 use Rattle.amqp_read.specs.Reading.{Reading}
 use Rattle.amqp_read.specs.Streaming.{Streaming}
 use Rattle.amqp_read.proofs.Streams.{front_may_come, front_shown, not_full}

@@ -1,5 +1,5 @@
-use Rattle.std.proofs.Common.{◌≡◌, ◌≤◌, ◌-◌, ◌+◌, refl, inl, arith}
-use Rattle.amqp_read.proofs.Streams.{none_passed, passes_then, refused_behind, refused_at_once, short_behind, fails_behind}
+use Rattle.std.proofs.Common.{◌-◌, refl, inl, arith}
+use Rattle.amqp_read.proofs.Streams.{none_passed, passes_then, refused_behind, refused_at_once, short_behind}
 use Rattle.amqp_read.proofs.io_reader.IoReaderRead.skip.Goals as goal
 
 pub bytes-init : goal.bytes-init
