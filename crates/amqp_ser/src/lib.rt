@@ -27,6 +27,7 @@ mod tuple_structs;
 mod tuples;
 mod unsigned;
 
+pub use amqp_base::DESCRIBED_LIST;
 pub use amqp_write::Measure;
 pub use compound::{Announced, Compound, Elements, Entries, Named, Parts, Unnamed};
 pub use fields::{Struct, StructFields, Written};

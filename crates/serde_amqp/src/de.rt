@@ -3,6 +3,6 @@
 pub use crate::from_slice;
 pub use amqp_base::{MAX_ARRAY_COUNT, NeverNull, RoundTrip};
 pub use amqp_de::{
-    ArrayAccess, Deserialize, Deserializer, Ended, Field, Fields, ListAccess, MapAccess, SeqAccess,
-    StructAccess,
+    ArrayAccess, DescribedAccess, Deserialize, Deserializer, Ended, Field, Fields, ListAccess,
+    MapAccess, SeqAccess, StructAccess,
 };

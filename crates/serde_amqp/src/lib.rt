@@ -11,6 +11,8 @@ ghost use Rattle.serde_amqp.specs.Headline.{ReadFrom, ReadsAll, NamedFrom};
 ghost use Rattle.amqp_base.specs.declared.shape.Setting.{Setting};
 
 pub mod de;
+pub mod described;
+pub mod descriptor;
 pub mod error;
 pub mod format_code;
 pub mod laws;
@@ -26,20 +28,20 @@ pub use amqp_base::{
     StructEncoding, Typed, UNTAGGED_ENUM, UUID_WIDTH, VALUE,
 };
 pub use amqp_de::{
-    ArrayAccess, Chosen, Deserialize, Deserializer, Ended, Field, Fields, ListAccess, MapAccess,
-    SeqAccess, StructAccess, read_fields, read_parts,
+    ArrayAccess, Chosen, DescribedAccess, Deserialize, Deserializer, Ended, Field, Fields,
+    ListAccess, MapAccess, SeqAccess, StructAccess, read_described, read_fields, read_parts,
 };
-pub use amqp_read::{Read, SliceReader, read_const_bytes};
+pub use amqp_read::{IoReader, Read, SliceReader, read_const_bytes};
 use amqp_ser::{measured_size, measured_vec};
 pub use amqp_ser::{
     MapSerializer, Part, SeqSerializer, Serialize, Serializer, Struct, StructFields,
-    StructSerializer, TupleParts, TupleSerializer, TupleStructSerializer, Written, write_fields,
-    write_parts,
+    StructSerializer, TupleParts, TupleSerializer, TupleStructSerializer, Written, write_described,
+    write_fields, write_parts,
 };
 pub use amqp_types::{
-    Array, Binary, BinaryRef, Boolean, Byte, Char, Dec32, Dec64, Dec128, Decimal, Double, Float,
-    Int, List, Long, OrderedMap, Short, Symbol, SymbolRef, Timestamp, Ubyte, Uint, Ulong, Ushort,
-    Uuid,
+    Array, Binary, BinaryRef, Boolean, Byte, Char, Dec32, Dec64, Dec128, Decimal, Described,
+    Descriptor, Double, Float, Int, List, Long, OrderedMap, Short, Symbol, SymbolRef, Timestamp,
+    Ubyte, Uint, Ulong, Ushort, Uuid,
 };
 use std::alloc::Global;
 

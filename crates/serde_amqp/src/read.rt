@@ -1,3 +1,3 @@
 //! Readers.
 
-pub use amqp_read::{Read, SliceReader, read_const_bytes};
+pub use amqp_read::{IoReader, Read, SliceReader, read_const_bytes};

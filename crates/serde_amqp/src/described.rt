@@ -1,0 +1,3 @@
+//! Described values.
+
+pub use amqp_types::Described;

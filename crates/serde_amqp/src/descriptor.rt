@@ -1,0 +1,3 @@
+//! What stands before a described value.
+
+pub use amqp_types::Descriptor;
