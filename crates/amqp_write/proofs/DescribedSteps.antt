@@ -86,9 +86,11 @@ name_fits b u none = go (nat_lt limit (length b)) refl
   where
     some_no : {A : Type 0} (o : Option A) (x : A) → o ≡ Some x → o ≡ None → ⊥
     some_no o x h k = let e : Some x ≡ None = sym h ∙ k in cc
+
     short : (t : Bool) → nat_le (length b) 254 ≡ t → length b ≤ limit → ⊥
     short true e l = some_no _ _ (payload_narrow 0xa3 Sym32 b (leb-true (length b) 254 e)) (sym (symbol_at unmarked b u) ∙ none)
     short false e l = some_no _ _ (payload_wide 0xa3 Sym32 b (leb-false (length b) 254 e) l) (sym (symbol_at unmarked b u) ∙ none)
+
     go : (t : Bool) → nat_lt limit (length b) ≡ t → nat_lt limit (length b) ≡ true
     go true h = h
     go false h = absurd (short (nat_le (length b) 254) refl (ltb-false limit (length b) h))

@@ -3,7 +3,7 @@
 ghost use Rattle.serde_amqp.specs.Headline.{KeptAs};
 
 use crate::{
-    Celsius, Colour, Delivery, Foo, Measurement, Note, Offer, Pair, Priority, Reply, Sensor,
+    Celsius, Colour, Delivery, Foo, Measurement, Note, Offer, Open, Pair, Priority, Reply, Sensor,
     Station, Tags,
 };
 use serde_amqp::{Error, Typed, from_slice, laws};
@@ -110,5 +110,13 @@ pub fn priority_is_kept(alloc: Global, bytes: &[u8]) -> Result<Priority, Error>
     ensures { KeptAs ⟦<Priority as Typed>⟧.meaning bytes.now result }
 {
     laws::kept::<Priority>();
+    from_slice(alloc, bytes)
+}
+
+/// What `to_vec` wrote for a performative is read as the same one, or memory was wanting.
+pub fn open_is_kept(alloc: Global, bytes: &[u8]) -> Result<Open, Error>
+    ensures { KeptAs ⟦<Open as Typed>⟧.meaning bytes.now result }
+{
+    laws::kept::<Open>();
     from_slice(alloc, bytes)
 }

@@ -153,7 +153,7 @@ const STRUCTS: &[(&'static str, &[u8], &'static [Step], Answer)] = &[
     ("Foo", NAMED, &[Entry("bar", 13)], Answer::Taken),
     ("Foo", NAMED, &[Number(Err(REFUSED))], REFUSED),
     // what is opened
-    (DESCRIBED_LIST, ROW, &[], REFUSED),
+    (DESCRIBED_LIST, ROW, &[], Answer::InvalidFormatCode),
     ("Foo", b"", &[], UNEXPECTED_EOF),
     ("Foo", b"\x40", &[], Answer::InvalidFormatCode),
     ("Foo", b"\x45", &[], Answer::SequenceLengthMismatch),
