@@ -7,7 +7,7 @@ use super::made::string;
 use super::written::{By, Writes, writes_so};
 use Answer::{InvalidFormatCode, InvalidValue, Message, SequenceLengthMismatch, Taken};
 use amqp_base::{DESCRIBED_BASIC, DESCRIBED_LIST, DESCRIBED_MAP, Error, Sink};
-use amqp_de::{DescribedAccess, Deserializer, StructAccess};
+use amqp_de::{Deserializer, StructAccess};
 use amqp_read::Read;
 use amqp_ser::{Serializer, Struct, Written};
 use amqp_types::Descriptor;
@@ -37,30 +37,33 @@ fn is_code(outcome: Result<Descriptor, Error>, want: u64) -> bool {
     }
 }
 
+/// What the descriptor is.
+fn described<R: Read>(foo: &mut StructAccess<'_, R>, alloc: Global) -> Result<Descriptor, Error> {
+    match foo {
+        StructAccess::Described(access) => access.descriptor(alloc),
+        _ => Err(Error::InvalidLength),
+    }
+}
+
 /// The step is answered so.
-fn answers<R: Read>(access: &mut DescribedAccess<'_, R>, alloc: Global, step: Step) -> bool {
+fn answers<R: Read>(foo: &mut StructAccess<'_, R>, alloc: Global, step: Step) -> bool {
     match step {
-        Code(want) => is_code(access.descriptor(alloc), want),
-        NoCode(want) => told(access.descriptor(alloc)) == want,
-        Number(want) => is(access.next_element::<u32>(alloc), want),
-        Key(want) => is(access.next_key::<u32>(alloc), want),
-        Value(want) => is(access.next_value::<u32>(alloc), want),
+        Code(want) => is_code(described(foo, alloc), want),
+        NoCode(want) => told(described(foo, alloc)) == want,
+        Number(want) => is(foo.next_element::<u32>(alloc), want),
+        Key(want) => is(foo.next_key::<u32>(alloc), want),
+        Value(want) => is(foo.next_value::<u32>(alloc), want),
     }
 }
 
 /// The steps are answered so, one behind the other, and the end behind them.
-fn ends<R: Read>(
-    access: DescribedAccess<'_, R>,
-    alloc: Global,
-    steps: &[Step],
-    ended: Answer,
-) -> bool {
-    let mut access = access;
+fn ends<R: Read>(foo: StructAccess<'_, R>, alloc: Global, steps: &[Step], ended: Answer) -> bool {
+    let mut foo = foo;
     let mut is_so = true;
     for step in steps {
-        is_so = answers(&mut access, alloc, *step) && is_so;
+        is_so = answers(&mut foo, alloc, *step) && is_so;
     }
-    let end = told(access.end());
+    let end = told(foo.end());
     is_so && end == ended
 }
 
@@ -76,8 +79,7 @@ struct Behind {
 impl Asked for Behind {
     fn is_answered<R: Read>(&self, alloc: Global, de: &mut Deserializer<R>) -> bool {
         match de.deserialize_struct(alloc, self.name, 2) {
-            Ok(StructAccess::Described(access)) => ends(access, alloc, self.steps, self.answer),
-            Ok(_) => false,
+            Ok(foo) => ends(foo, alloc, self.steps, self.answer),
             Err(e) => self.steps.is_empty() && name_of(&e) == self.answer,
         }
     }
