@@ -2,16 +2,17 @@
 
 use super::answer::{Answer, UNEXPECTED_EOF, is, name_of, told};
 use super::asked::{Asked, taken};
-use super::bytes::{is_made_as, refuses_each};
-use super::made::string;
+use super::bytes::{is_made_as, is_written_as, refuses_each};
+use super::made::{array, both, string};
 use super::written::{By, Writes, writes_so};
 use Answer::{InvalidFormatCode, InvalidValue, Message, SequenceLengthMismatch, Taken};
 use amqp_base::{DESCRIBED_BASIC, DESCRIBED_LIST, DESCRIBED_MAP, Error, Sink};
 use amqp_de::{Deserializer, StructAccess};
 use amqp_read::Read;
 use amqp_ser::{Serializer, Struct, Written};
-use amqp_types::Descriptor;
+use amqp_types::{Array, Descriptor};
 use own_types::Open;
+use serde_amqp::from_slice;
 use std::alloc::Global;
 
 /// What is asked of a struct behind a descriptor, and the answer.
@@ -297,4 +298,26 @@ fn a_performative_is_a_list_whose_last_fields_may_be_left_out(rt: HostRuntime) {
     let channels = b"\x00\x53\x10\xc0\x09\x04\xa1\x01\x61\x40\x40\x60\x00\xff";
     assert!(rt; is_open(alloc, channels, Some(255)));
     assert!(rt; refuses_each::<Open>(alloc, NO_OPEN));
+}
+
+/// Two performatives behind the descriptor that they share.
+const OPENS: &[u8] = b"\xe0\x21\x02\x00\x53\x10\xd0\
+    \x00\x00\x00\x0a\x00\x00\x00\x04\xa1\x01\x61\x40\x40\x40\
+    \x00\x00\x00\x0a\x00\x00\x00\x04\xa1\x01\x62\x40\x40\x40";
+
+/// What was read is written as the bytes.
+fn is_written_again(alloc: Global, read: Result<Array<Open>, Error>, bytes: &[u8]) -> bool {
+    match read {
+        Ok(opens) => opens.len() == 2 && is_written_as(alloc, &opens, bytes),
+        Err(_) => false,
+    }
+}
+
+#[test]
+fn performatives_are_elements_of_an_array(rt: HostRuntime) {
+    let alloc = rt.alloc();
+    let a = open(string(alloc, "a"), None);
+    let b = open(string(alloc, "b"), None);
+    assert!(rt; is_made_as(alloc, array(both(alloc, a, b)), OPENS));
+    assert!(rt; is_written_again(alloc, from_slice(alloc, OPENS), OPENS));
 }
