@@ -17,6 +17,7 @@ mod empty_arrays;
 mod error;
 mod fixed;
 mod format_code;
+mod io_reader;
 mod lists;
 mod looks;
 mod made;

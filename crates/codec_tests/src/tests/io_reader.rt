@@ -1,0 +1,141 @@
+//! The reader over a source that gives its bytes piece by piece.
+
+use super::answer::{Answer, UNEXPECTED_EOF, is, told};
+use amqp_base::{Counted, Error};
+use amqp_read::{IoReader, Read, SliceReader, read_const_bytes};
+use std::alloc::Global;
+use std::io;
+use std::io::ErrorKind;
+
+/// Gives so many bytes a read at most, and fails at one read.
+#[derive(Drop)]
+struct Pieces {
+    next: u8,
+    end: u8,
+    most: usize,
+    reads: usize,
+    fails_at: usize,
+}
+
+impl io::Read for Pieces {
+    fn read(&mut self, buf: &mut [u8]) -> io::Result<usize> {
+        self.reads = self.reads.saturating_add(1);
+        if self.reads == self.fails_at {
+            return Err(io::Error::from(ErrorKind::Interrupted));
+        }
+        let n = buf
+            .len()
+            .min(self.most)
+            .min(self.end.saturating_sub(self.next) as usize);
+        for i in 0..n {
+            buf[i] = self.next;
+            self.next = self.next.wrapping_add(1);
+        }
+        Ok(n)
+    }
+}
+
+fn over(alloc: Global, end: u8, most: usize, fails_at: usize) -> IoReader<Counted<Pieces>> {
+    IoReader::new(
+        alloc,
+        Counted::new(Pieces {
+            next: 0,
+            end,
+            most,
+            reads: 0,
+            fails_at,
+        }),
+    )
+}
+
+/// The next ten bytes are these, or missing.
+fn is_ten<R: Read>(reader: &mut R, want: Result<[u8; 10], Answer>) -> bool {
+    is(read_const_bytes::<R, 10>(reader), want)
+}
+
+/// Twenty-one bytes: a look, and two blocks of ten.
+fn are_twenty_one<R: Read>(reader: &mut R) -> bool {
+    let is_shown = is(reader.peek_at(1), Ok(Some(1)));
+    let is_first = is_ten(reader, Ok([0, 1, 2, 3, 4, 5, 6, 7, 8, 9]));
+    let is_second = is_ten(reader, Ok([10, 11, 12, 13, 14, 15, 16, 17, 18, 19]));
+    let is_short = is_ten(reader, Err(UNEXPECTED_EOF));
+    let is_there = reader.bytes_consumed() == 20 && is(reader.peek(), Ok(Some(20)));
+    is_shown && is_first && is_second && is_short && is_there
+}
+
+/// A read of twelve bytes whose `k`th request fails is refused, loses nothing, and is answered then.
+fn fails_at(alloc: Global, k: usize) -> bool {
+    let mut reader = over(alloc, 40, 1, k);
+    let mut block = [9u8; 12];
+    let refused = matches!(
+        reader.read_exact(&mut block),
+        Err(Error::Io(ErrorKind::Interrupted))
+    );
+    let kept = block == [9u8; 12]
+        && reader.bytes_consumed() == 0
+        && reader.at_hand() == k.saturating_sub(1);
+    let answered = reader.read_exact(&mut block).is_ok();
+    let filled = block == [0, 1, 2, 3, 4, 5, 6, 7, 8, 9, 10, 11];
+    let passed = reader.skip(5).is_ok();
+    let next = matches!(reader.next(), Ok(Some(17)));
+    let text = matches!(reader.forward_read_bytes_with_hint(alloc, 3), Ok(_));
+    let behind = matches!(reader.peek_at(2), Ok(Some(23)));
+    refused && kept && answered && filled && passed && next && text && behind
+}
+
+/// Three bytes, one a read: looks, a byte of the buffer, and the end.
+fn are_three(alloc: Global) -> bool {
+    let mut reader = over(alloc, 3, 1, 0);
+    let mut is_so = matches!(reader.peek(), Ok(Some(0)));
+    is_so = matches!(reader.peek_bytes(2), Ok(Some([0, 1]))) && is_so;
+    is_so = reader.bytes_consumed() == 0 && is_so;
+    is_so = reader.pop_first() == Some(0) && is_so;
+    is_so = reader.bytes_consumed() == 1 && is_so;
+    is_so = matches!(
+        reader.fill_buffer(3),
+        Err(Error::Io(ErrorKind::UnexpectedEof))
+    ) && is_so;
+    is_so = matches!(reader.peek_bytes(3), Ok(None)) && is_so;
+    is_so = matches!(reader.next(), Ok(Some(1))) && is_so;
+    is_so = matches!(reader.next(), Ok(Some(2))) && is_so;
+    is_so = matches!(reader.next(), Ok(None)) && is_so;
+    is_so = reader.bytes_consumed() == 3 && is_so;
+    reader.pop_first().is_none() && is_so
+}
+
+/// The twenty-one bytes are the same over a slice and over sources that give 1, 2, 7 or all of them
+/// a read.
+fn are_same(alloc: Global) -> bool {
+    let bytes: [u8; 21] = [
+        0, 1, 2, 3, 4, 5, 6, 7, 8, 9, 10, 11, 12, 13, 14, 15, 16, 17, 18, 19, 20,
+    ];
+    let a = are_twenty_one(&mut SliceReader::new(&bytes));
+    let b = are_twenty_one(&mut over(alloc, 21, 1, 0));
+    let c = are_twenty_one(&mut over(alloc, 21, 2, 0));
+    let d = are_twenty_one(&mut over(alloc, 21, 7, 0));
+    let e = are_twenty_one(&mut over(alloc, 21, 1000, 0));
+    a && b && c && d && e
+}
+
+#[test]
+fn a_source_is_read_however_it_cuts_its_bytes(rt: HostRuntime) {
+    assert!(rt; are_three(rt.alloc()));
+    assert!(rt; are_same(rt.alloc()));
+    assert!(rt; fails_at(rt.alloc(), 1));
+    assert!(rt; fails_at(rt.alloc(), 2));
+    assert!(rt; fails_at(rt.alloc(), 12));
+}
+
+/// The bytes are handed on as a text, or refused so, and so many are consumed.
+fn is_text(alloc: Global, bytes: &[u8], want: Answer, consumed: usize) -> bool {
+    let mut reader = SliceReader::new(bytes);
+    let answer = told(reader.forward_read_str(alloc, bytes.len()));
+    answer == want && reader.bytes_consumed() == consumed
+}
+
+#[test]
+fn a_text_is_handed_on_where_it_is_one(rt: HostRuntime) {
+    let alloc = rt.alloc();
+    assert!(rt; is_text(alloc, b"\xc3\xa9", Answer::Taken, 2));
+    assert!(rt; is_text(alloc, b"\xff", Answer::InvalidUtf8Encoding, 0));
+}
