@@ -63,7 +63,7 @@ fn are_twenty_one<R: Read>(reader: &mut R) -> bool {
     is_shown && is_first && is_second && is_short && is_there
 }
 
-/// A read of twelve bytes whose `k`th request fails is refused, loses nothing, and is answered then.
+/// A read of twelve bytes whose `k`th request fails is refused and loses nothing; then it succeeds.
 fn fails_at(alloc: Global, k: usize) -> bool {
     let mut reader = over(alloc, 40, 1, k);
     let mut block = [9u8; 12];
