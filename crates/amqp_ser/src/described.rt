@@ -52,7 +52,7 @@ impl<W: Sink> Serializer<W> {
     /// descriptor, behind another descriptor, or under another constructor; or its value is
     /// described, too. `OutOfMemory`: a first element's descriptor finds no memory to be kept.
     #[inline(always)]
-    pub(crate) fn described<T: Serialize>(
+    pub fn serialize_described<T: Serialize>(
         &mut self,
         alloc: Global,
         descriptor: &Descriptor,
@@ -285,7 +285,7 @@ impl<W: Sink> Serializer<W> {
 impl<T: Serialize> Serialize for Described<T> {
     #[inline(always)]
     fn serialize<W: Sink>(&self, alloc: Global, ser: &mut Serializer<W>) -> Result<(), Error> {
-        match ser.described(alloc, &self.descriptor, &self.value) {
+        match ser.serialize_described(alloc, &self.descriptor, &self.value) {
             Ok(()) => Ok(()),
             Err(e) => Err(e),
         }

@@ -96,7 +96,7 @@ impl<W: Sink> Serializer<W> {
         let map = is_name(whole.name, DESCRIBED_MAP);
         if map || is_name(whole.name, DESCRIBED_LIST) {
             let fields = &whole.fields;
-            return match self.described(alloc, descriptor, &Body { fields, map }) {
+            return match self.serialize_described(alloc, descriptor, &Body { fields, map }) {
                 Ok(()) => Ok(()),
                 Err(e) => Err(e),
             };

@@ -3,7 +3,7 @@ use Rattle.amqp_ser.specs.State.{state}
 use Rattle.amqp_ser.specs.Law.{text_for}
 use Rattle.amqp_write.specs.State.{stand}
 use Rattle.amqp_ser.proofs.Describing.{alone_ok}
-use Rattle.amqp_ser.proofs.serializer.Serializer.described.Goals as goal
+use Rattle.amqp_ser.proofs.serializer.Serializer.serialize_described.Goals as goal
 
 pub returns-in-Ok-clause-ok : goal.returns-in-Ok-clause-ok
 unfolding state stand
