@@ -19,7 +19,7 @@ use Rattle.amqp_de.specs.Decoding.{Decoding, stands_under}
 use Rattle.amqp_de.specs.Describes.{Describes}
 use Rattle.amqp_de.specs.Law.{Found}
 use Rattle.amqp_de.specs.NotNull.{not_null, not_null_refusal}
-use Rattle.amqp_de.specs.ReadPairs.{KeyNext, NextKey, NextEntry, TurnNamed, ended_access}
+use Rattle.amqp_de.specs.ReadPairs.{KeyNext, NextKey, NextEntry, TurnNamed, EntryTurnNamed, ended_access}
 use Rattle.amqp_de.specs.declared.list.Access.{Access}
 use Rattle.amqp_de.specs.declared.list.Open.{Open}
 use Rattle.amqp_de.specs.declared.described_structs.Encoding.{Encoding}
@@ -142,3 +142,8 @@ abbrev pub DescribedValueNamed : {V : Type 0} → Meaning V → Bool → Stage �
 DescribedValueNamed m buffers at.Entries old new e = ValueNamed m buffers old new e
 DescribedValueNamed m buffers at.Elements old new e = Unit {0}
 DescribedValueNamed m buffers (at.Before x) old new e = Unit {0}
+
+abbrev pub DescribedEntryNamed : {K V : Type 0} → Meaning K → Meaning V → Bool → Stage → Listing → Listing → Error → Type 0
+DescribedEntryNamed k v buffers at.Entries old new e = EntryTurnNamed (not_null k.takes) v.takes k.means (not_null_refusal k.refuses) v.refuses (k.grows || buffers) (v.grows || buffers) buffers old new e
+DescribedEntryNamed k v buffers at.Elements old new e = Unit {0}
+DescribedEntryNamed k v buffers (at.Before x) old new e = Unit {0}

@@ -4,7 +4,7 @@ ghost use Rattle.std.specs.Prelude.{◌≡◌, ◌%◌, IfErr};
 ghost use Rattle.amqp_de.specs.DescribedStructs.{stage, DescriptorAnswer, DescribedElement};
 ghost use Rattle.amqp_de.specs.DescribedStructs.{DescribedKey, DescribedValue, DescribedEntry};
 ghost use Rattle.amqp_de.specs.DescribedStructs.{DescribedElementNamed, DescribedKeyNamed};
-ghost use Rattle.amqp_de.specs.DescribedStructs.{DescribedValueNamed};
+ghost use Rattle.amqp_de.specs.DescribedStructs.{DescribedValueNamed, DescribedEntryNamed};
 ghost use Rattle.amqp_de.specs.ReadParts.{open_list};
 
 use crate::Deserialize;
@@ -136,6 +136,8 @@ impl<'a, R: Read> Access<'a, R, Stage> {
         ensures stage { stage self.new ≡ stage self.old }
         ensures next { DescribedEntry K.meaning V.meaning R.buffers (stage self.old)
             (open_list self.old) result (open_list self.new) }
+        ensures named { IfErr result (λ e. DescribedEntryNamed K.meaning V.meaning R.buffers
+            (stage self.old) (open_list self.old) (open_list self.new) e) }
     {
         match self.next_key(alloc) {
             Ok(Some(key)) => match self.next_value(alloc) {
