@@ -19,9 +19,9 @@ use Rattle.amqp_de.specs.Seq.{listing, at_open}
 use Rattle.amqp_data.specs.Steps.{Rejects}
 use Rattle.amqp_de.specs.ReadParts.{Progress, NoTuple, open_list}
 use Rattle.amqp_base.specs.Meaning.{Meaning}
-use Rattle.amqp_de.specs.Calls.{NextElement, KeyAnswer, ValueAnswer, EntryAnswer}
+use Rattle.amqp_de.specs.Calls.{NextElement, KeyAnswer, ValueAnswer, EntryAnswer, ElementNamed, KeyNamed, ValueNamed, EntryNamed}
 use Rattle.amqp_de.specs.ReadPairs.{PairsRead, ended_access}
-use Rattle.amqp_de.specs.DescribedStructs.{stage, DescribedElement, DescribedKey, DescribedValue, DescribedEntry}
+use Rattle.amqp_de.specs.DescribedStructs.{stage, DescribedElement, DescribedKey, DescribedValue, DescribedEntry, DescribedElementNamed, DescribedKeyNamed, DescribedValueNamed, DescribedEntryNamed}
 use Rattle.amqp_de.specs.Look.{Looks}
 use Rattle.amqp_de.specs.declared.described_structs.Encoding.{Encoding}
 use Rattle.amqp_de.specs.declared.described_structs.Encoding.TheVariants as by
@@ -179,3 +179,29 @@ FormEntry k v buffers (form.Map a) r (form.Map b) = EntryAnswer k v buffers (ope
 FormEntry k v buffers (form.List a) r (form.List b) = WrongForm (listing a) r (listing b)
 FormEntry k v buffers (form.Described a) r (form.Described b) = DescribedEntry k v buffers (stage a) (open_list a) r (open_list b)
 FormEntry k v buffers a r b = ⊥
+
+-- ---- and by name they refuse as the form does; of a wrong form the answer says it
+
+abbrev pub FormElementNamed : {X T : Type 0} → Meaning T → Bool → StructAccess X → StructAccess X → Error → Type 0
+FormElementNamed m buffers (form.List a) (form.List b) e = ElementNamed m buffers (open_list a) (open_list b) e
+FormElementNamed m buffers (form.Map a) (form.Map b) e = Unit {0}
+FormElementNamed m buffers (form.Described a) (form.Described b) e = DescribedElementNamed m buffers (stage a) (open_list a) (open_list b) e
+FormElementNamed m buffers a b e = ⊥
+
+abbrev pub FormKeyNamed : {X K : Type 0} → Meaning K → Bool → StructAccess X → StructAccess X → Error → Type 0
+FormKeyNamed m buffers (form.Map a) (form.Map b) e = KeyNamed m buffers (open_list a) (open_list b) e
+FormKeyNamed m buffers (form.List a) (form.List b) e = Unit {0}
+FormKeyNamed m buffers (form.Described a) (form.Described b) e = DescribedKeyNamed m buffers (stage a) (open_list a) (open_list b) e
+FormKeyNamed m buffers a b e = ⊥
+
+abbrev pub FormValueNamed : {X V : Type 0} → Meaning V → Bool → StructAccess X → StructAccess X → Error → Type 0
+FormValueNamed m buffers (form.Map a) (form.Map b) e = ValueNamed m buffers (open_list a) (open_list b) e
+FormValueNamed m buffers (form.List a) (form.List b) e = Unit {0}
+FormValueNamed m buffers (form.Described a) (form.Described b) e = DescribedValueNamed m buffers (stage a) (open_list a) (open_list b) e
+FormValueNamed m buffers a b e = ⊥
+
+abbrev pub FormEntryNamed : {X K V : Type 0} → Meaning K → Meaning V → Bool → StructAccess X → StructAccess X → Error → Type 0
+FormEntryNamed k v buffers (form.Map a) (form.Map b) e = EntryNamed k v buffers (open_list a) (open_list b) e
+FormEntryNamed k v buffers (form.List a) (form.List b) e = Unit {0}
+FormEntryNamed k v buffers (form.Described a) (form.Described b) e = DescribedEntryNamed k v buffers (stage a) (open_list a) (open_list b) e
+FormEntryNamed k v buffers a b e = ⊥

@@ -9,6 +9,8 @@ ghost use Rattle.amqp_de.specs.Decoding.{as_ended};
 ghost use Rattle.amqp_de.specs.Forms.{struct_listing, struct_lender, FormOpened, StructOpened};
 ghost use Rattle.amqp_de.specs.Forms.{NoStruct, RefusesStruct, FormElement, FormKey, FormValue};
 ghost use Rattle.amqp_de.specs.Forms.{FormEntry, NamedForm, NoneDescribed, encoding_named};
+ghost use Rattle.amqp_de.specs.Forms.{FormElementNamed, FormKeyNamed, FormValueNamed};
+ghost use Rattle.amqp_de.specs.Forms.{FormEntryNamed};
 ghost use Rattle.amqp_de.specs.Look.{Looks};
 ghost use Rattle.amqp_de.specs.contracts.deserializer.Deserializer.{the_row};
 
@@ -200,6 +202,8 @@ impl<'a, R: Read> StructAccess<'a, R> {
         ensures same_reference { (struct_lender self.new).ghost_name ≡ (struct_lender
             self.old).ghost_name }
         ensures next { FormElement T.meaning R.buffers self.old result self.new }
+        ensures named { IfErr result (λ e.
+            FormElementNamed T.meaning R.buffers self.old self.new e) }
     {
         match self {
             StructAccess::List(list) => list.next_element(alloc),
@@ -216,6 +220,8 @@ impl<'a, R: Read> StructAccess<'a, R> {
         ensures same_reference { (struct_lender self.new).ghost_name ≡ (struct_lender
             self.old).ghost_name }
         ensures next { FormKey K.meaning R.buffers self.old result self.new }
+        ensures named { IfErr result (λ e.
+            FormKeyNamed K.meaning R.buffers self.old self.new e) }
     {
         match self {
             StructAccess::List(list) => Err(list.refuse()),
@@ -232,6 +238,8 @@ impl<'a, R: Read> StructAccess<'a, R> {
         ensures same_reference { (struct_lender self.new).ghost_name ≡ (struct_lender
             self.old).ghost_name }
         ensures next { FormValue V.meaning R.buffers self.old result self.new }
+        ensures named { IfErr result (λ e.
+            FormValueNamed V.meaning R.buffers self.old self.new e) }
     {
         match self {
             StructAccess::List(list) => Err(list.refuse()),
@@ -251,6 +259,8 @@ impl<'a, R: Read> StructAccess<'a, R> {
         ensures same_reference { (struct_lender self.new).ghost_name ≡ (struct_lender
             self.old).ghost_name }
         ensures next { FormEntry K.meaning V.meaning R.buffers self.old result self.new }
+        ensures named { IfErr result (λ e.
+            FormEntryNamed K.meaning V.meaning R.buffers self.old self.new e) }
     {
         match self {
             StructAccess::List(list) => Err(list.refuse()),
