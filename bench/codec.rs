@@ -14,6 +14,7 @@ pub enum Error {
     Utf8,
     Value,
     Name,
+    Descriptor,
     TooLong,
 }
 
@@ -25,7 +26,10 @@ const NARROW: usize = 254;
 #[derive(Debug, PartialEq)]
 pub struct Binary(pub Vec<u8>);
 
-/// Numbers that are written as an array.
+#[derive(Debug, PartialEq)]
+pub struct Symbol(pub String);
+
+/// Numbers, or structs behind a descriptor, that are written as an array.
 #[derive(Debug, PartialEq)]
 pub struct Array<T>(pub Vec<T>);
 
@@ -37,6 +41,34 @@ pub struct Record {
     pub active: bool,
     pub level: i32,
     pub number: Option<u32>,
+}
+
+/// A struct that is written as a list of its fields behind a descriptor.
+#[derive(Debug, PartialEq)]
+pub struct Open {
+    pub container_id: String,
+    pub hostname: Option<String>,
+    pub max_frame_size: Option<u32>,
+    pub channel_max: Option<u16>,
+    pub idle_time_out: Option<u32>,
+    pub outgoing_locales: Option<Symbol>,
+    pub incoming_locales: Option<Symbol>,
+    pub offered_capabilities: Option<Symbol>,
+}
+
+impl Open {
+    const DESCRIPTOR: u8 = 0x10;
+}
+
+/// As `Open`: an element of an array.
+#[derive(Debug, PartialEq)]
+pub struct Small {
+    pub number: u32,
+    pub flag: bool,
+}
+
+impl Small {
+    const DESCRIPTOR: u8 = 0x24;
 }
 
 /// A map that keeps the order in which its keys came.
@@ -81,13 +113,14 @@ pub fn from_slice<T: Decode>(mut text: &[u8]) -> Result<T, Error> {
     T::decode(&mut text)
 }
 
-/// A number as an array has it: its data behind a code that all share.
+/// What an array has: its data behind a constructor that all share.
 pub trait Element: Sized {
-    const WIDEST: u8;
+    /// The code of the widest data, behind the descriptor where there is one.
+    const WIDEST: &'static [u8];
 
-    fn put(&self, out: &mut Vec<u8>);
+    fn put(&self, out: &mut Vec<u8>) -> Result<(), Error>;
 
-    /// So many elements under the code.
+    /// So many elements under the constructor, whose first byte is the code.
     fn get(code: u8, count: usize, body: &mut &[u8]) -> Result<Vec<Self>, Error>;
 }
 
@@ -95,6 +128,15 @@ impl Encode for bool {
     #[inline]
     fn encode(&self, out: &mut Vec<u8>) -> Result<(), Error> {
         out.push(if *self { 0x41 } else { 0x42 });
+        Ok(())
+    }
+}
+
+impl Encode for u16 {
+    #[inline]
+    fn encode(&self, out: &mut Vec<u8>) -> Result<(), Error> {
+        let [a, b] = self.to_be_bytes();
+        out.extend_from_slice(&[0x60, a, b]);
         Ok(())
     }
 }
@@ -176,6 +218,13 @@ impl Encode for String {
     }
 }
 
+impl Encode for Symbol {
+    #[inline]
+    fn encode(&self, out: &mut Vec<u8>) -> Result<(), Error> {
+        payload(0xa3, 0xb3, self.0.as_bytes(), out)
+    }
+}
+
 impl Encode for Binary {
     #[inline]
     fn encode(&self, out: &mut Vec<u8>) -> Result<(), Error> {
@@ -226,11 +275,12 @@ impl<T: Encode> Encode for Vec<T> {
 }
 
 impl Element for u32 {
-    const WIDEST: u8 = 0x70;
+    const WIDEST: &'static [u8] = &[0x70];
 
     #[inline]
-    fn put(&self, out: &mut Vec<u8>) {
+    fn put(&self, out: &mut Vec<u8>) -> Result<(), Error> {
         out.extend_from_slice(&self.to_be_bytes());
+        Ok(())
     }
 
     #[inline]
@@ -245,11 +295,12 @@ impl Element for u32 {
 }
 
 impl Element for i32 {
-    const WIDEST: u8 = 0x71;
+    const WIDEST: &'static [u8] = &[0x71];
 
     #[inline]
-    fn put(&self, out: &mut Vec<u8>) {
+    fn put(&self, out: &mut Vec<u8>) -> Result<(), Error> {
         out.extend_from_slice(&self.to_be_bytes());
+        Ok(())
     }
 
     #[inline]
@@ -262,6 +313,49 @@ impl Element for i32 {
     }
 }
 
+impl Small {
+    #[inline]
+    fn put_fields(&self, out: &mut Vec<u8>) -> Result<(), Error> {
+        self.number.encode(out)?;
+        self.flag.encode(out)
+    }
+
+    #[inline]
+    fn fields(count: usize, mut body: &[u8]) -> Result<Small, Error> {
+        let mut left = at_most(2, count)?;
+        let small = Small { number: field(&mut left, &mut body)?, flag: field(&mut left, &mut body)? };
+        ended(body, small)
+    }
+}
+
+impl Element for Small {
+    const WIDEST: &'static [u8] = &[0x00, 0x53, Small::DESCRIPTOR, 0xd0];
+
+    #[inline]
+    fn put(&self, out: &mut Vec<u8>) -> Result<(), Error> {
+        let start = out.len();
+        out.extend_from_slice(&[0, 0, 0, 0, 0, 0, 0, 2]);
+        self.put_fields(out)?;
+        let size = u32::try_from(out.len() - (start + 4)).map_err(|_| Error::TooLong)?;
+        out[start..start + 4].copy_from_slice(&size.to_be_bytes());
+        Ok(())
+    }
+
+    fn get(code: u8, count: usize, body: &mut &[u8]) -> Result<Vec<Small>, Error> {
+        if code != 0 {
+            return Err(Error::Code);
+        }
+        descriptor(Small::DESCRIPTOR, body)?;
+        let code = byte(body)?;
+        let mut items = Vec::with_capacity(count.min(body.len()));
+        for _ in 0..count {
+            let (count, data) = list_data(code, body)?;
+            items.push(Small::fields(count, data)?);
+        }
+        Ok(items)
+    }
+}
+
 impl<T: Element> Encode for Array<T> {
     fn encode(&self, out: &mut Vec<u8>) -> Result<(), Error> {
         if self.0.is_empty() {
@@ -269,9 +363,9 @@ impl<T: Element> Encode for Array<T> {
             return Ok(());
         }
         compound(0xe0, 0xf0, self.0.len(), out, |out| {
-            out.push(T::WIDEST);
+            out.extend_from_slice(T::WIDEST);
             for item in &self.0 {
-                item.put(out);
+                item.put(out)?;
             }
             Ok(())
         })
@@ -307,6 +401,22 @@ impl Encode for Record {
             self.active.encode(out)?;
             self.level.encode(out)?;
             self.number.encode(out)
+        })
+    }
+}
+
+impl Encode for Open {
+    fn encode(&self, out: &mut Vec<u8>) -> Result<(), Error> {
+        out.extend_from_slice(&[0x00, 0x53, Open::DESCRIPTOR]);
+        compound(0xc0, 0xd0, 8, out, |out| {
+            self.container_id.encode(out)?;
+            self.hostname.encode(out)?;
+            self.max_frame_size.encode(out)?;
+            self.channel_max.encode(out)?;
+            self.idle_time_out.encode(out)?;
+            self.outgoing_locales.encode(out)?;
+            self.incoming_locales.encode(out)?;
+            self.offered_capabilities.encode(out)
         })
     }
 }
@@ -355,6 +465,16 @@ impl Decode for bool {
                 1 => Ok(true),
                 _ => Err(Error::Value),
             },
+            _ => Err(Error::Code),
+        }
+    }
+}
+
+impl Decode for u16 {
+    #[inline]
+    fn decode(input: &mut &[u8]) -> Result<u16, Error> {
+        match byte(input)? {
+            0x60 => Ok(u16::from_be_bytes(array(input)?)),
             _ => Err(Error::Code),
         }
     }
@@ -419,13 +539,25 @@ fn payload_of<'a>(narrow: u8, wide: u8, input: &mut &'a [u8]) -> Result<&'a [u8]
     take(input, len)
 }
 
+#[inline]
+fn text(bytes: &[u8]) -> Result<String, Error> {
+    match std::str::from_utf8(bytes) {
+        Ok(text) => Ok(text.to_owned()),
+        Err(_) => Err(Error::Utf8),
+    }
+}
+
 impl Decode for String {
     #[inline]
     fn decode(input: &mut &[u8]) -> Result<String, Error> {
-        match std::str::from_utf8(payload_of(0xa1, 0xb1, input)?) {
-            Ok(text) => Ok(text.to_owned()),
-            Err(_) => Err(Error::Utf8),
-        }
+        text(payload_of(0xa1, 0xb1, input)?)
+    }
+}
+
+impl Decode for Symbol {
+    #[inline]
+    fn decode(input: &mut &[u8]) -> Result<Symbol, Error> {
+        Ok(Symbol(text(payload_of(0xa3, 0xb3, input)?)?))
     }
 }
 
@@ -440,6 +572,12 @@ impl Decode for Binary {
 #[inline]
 fn body<'a>(narrow: u8, wide: u8, input: &mut &'a [u8]) -> Result<(usize, &'a [u8]), Error> {
     let code = byte(input)?;
+    data(narrow, wide, code, input)
+}
+
+/// The same behind the code.
+#[inline]
+fn data<'a>(narrow: u8, wide: u8, code: u8, input: &mut &'a [u8]) -> Result<(usize, &'a [u8]), Error> {
     let (size, count, width) = if code == narrow {
         let [size, count] = array(input)?;
         (usize::from(size), usize::from(count), 1)
@@ -463,6 +601,44 @@ fn ended<T>(body: &[u8], value: T) -> Result<T, Error> {
         return Err(Error::Left);
     }
     Ok(value)
+}
+
+/// The data of a list behind its code; an empty one has none.
+#[inline]
+fn list_data<'a>(code: u8, input: &mut &'a [u8]) -> Result<(usize, &'a [u8]), Error> {
+    if code == 0x45 {
+        return Ok((0, &[]));
+    }
+    data(0xc0, 0xd0, code, input)
+}
+
+/// The descriptor behind its 00 is this one, as a number.
+#[inline]
+fn descriptor(wanted: u8, input: &mut &[u8]) -> Result<(), Error> {
+    match input.first() {
+        Some(0xa3 | 0xb3) => {
+            Symbol::decode(input)?;
+            Err(Error::Descriptor)
+        }
+        _ if u64::decode(input)? == u64::from(wanted) => Ok(()),
+        _ => Err(Error::Descriptor),
+    }
+}
+
+/// So many of the fields of a struct that a list has, which may end before the last.
+#[inline]
+fn at_most(fields: usize, count: usize) -> Result<usize, Error> {
+    if count > fields { Err(Error::Count) } else { Ok(count) }
+}
+
+/// The next field; where none is left, what its type reads from null.
+#[inline]
+fn field<T: Decode>(left: &mut usize, body: &mut &[u8]) -> Result<T, Error> {
+    if *left == 0 {
+        return T::decode(&mut &[0x40][..]);
+    }
+    *left -= 1;
+    T::decode(body)
 }
 
 impl<T: Decode> Decode for Vec<T> {
@@ -568,6 +744,29 @@ fn named(input: &mut &[u8]) -> Result<Record, Error> {
             ended(body, Record { id, name, active, level, number })
         }
         _ => Err(Error::Name),
+    }
+}
+
+impl Decode for Open {
+    fn decode(input: &mut &[u8]) -> Result<Open, Error> {
+        if byte(input)? != 0 {
+            return Err(Error::Code);
+        }
+        descriptor(Open::DESCRIPTOR, input)?;
+        let code = byte(input)?;
+        let (count, mut body) = list_data(code, input)?;
+        let mut left = at_most(8, count)?;
+        let open = Open {
+            container_id: field(&mut left, &mut body)?,
+            hostname: field(&mut left, &mut body)?,
+            max_frame_size: field(&mut left, &mut body)?,
+            channel_max: field(&mut left, &mut body)?,
+            idle_time_out: field(&mut left, &mut body)?,
+            outgoing_locales: field(&mut left, &mut body)?,
+            incoming_locales: field(&mut left, &mut body)?,
+            offered_capabilities: field(&mut left, &mut body)?,
+        };
+        ended(body, open)
     }
 }
 

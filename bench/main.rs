@@ -9,7 +9,7 @@ mod plain;
 #[cfg(not(counting))]
 mod timing;
 
-use codec::{Array, Binary, OrderedMap, Record};
+use codec::{Array, Binary, Open, OrderedMap, Record, Small, Symbol};
 use std::fmt::Write;
 
 type OursEncode = unsafe extern "C" fn(*const u8, usize, u32, *mut u8, usize) -> usize;
@@ -50,6 +50,10 @@ unsafe extern "C" {
     fn amqp_bench_decode_depth_5(text: *const u8, len: usize, times: u32) -> usize;
     fn amqp_bench_encode_depth_6(text: *const u8, len: usize, times: u32, out: *mut u8, room: usize) -> usize;
     fn amqp_bench_decode_depth_6(text: *const u8, len: usize, times: u32) -> usize;
+    fn amqp_bench_encode_open(text: *const u8, len: usize, times: u32, out: *mut u8, room: usize) -> usize;
+    fn amqp_bench_decode_open(text: *const u8, len: usize, times: u32) -> usize;
+    fn amqp_bench_encode_array_of_described(text: *const u8, len: usize, times: u32, out: *mut u8, room: usize) -> usize;
+    fn amqp_bench_decode_array_of_described(text: *const u8, len: usize, times: u32) -> usize;
 }
 
 /// A value by its text, and the calls for its type.
@@ -81,7 +85,7 @@ impl Case {
 
     /// What begins the line of one way.
     fn key(&self, way: &str) -> String {
-        format!("{:25} {way}", self.name)
+        format!("{:32} {way}", self.name)
     }
 
     fn ours_encode(&self, times: u32, out: &mut [u8]) -> usize {
@@ -199,6 +203,18 @@ fn cases() -> Vec<Case> {
     let depth_6 = vec![depth_5.clone()];
     let array_of_ints = Array(n.ints(10_000));
     let array_of_uints: Array<u32> = Array((0..10_000).map(|_| n.long() as u32).collect());
+    let open = Open {
+        container_id: n.text(12),
+        hostname: Some(n.text(20)),
+        max_frame_size: Some(65_536),
+        channel_max: Some(2_047),
+        idle_time_out: None,
+        outgoing_locales: Some(Symbol("en-US".to_owned())),
+        incoming_locales: None,
+        offered_capabilities: Some(Symbol(n.text(16))),
+    };
+    let array_of_described =
+        Array((0..1_000).map(|_| Small { number: n.long() as u32, flag: n.next() % 2 == 0 }).collect());
     vec![
         Case::new("vec of 10000 i32", ints, amqp_bench_encode_ints, amqp_bench_decode_ints),
         Case::new("vec of 1000 strings of 20", strings, amqp_bench_encode_strings, amqp_bench_decode_strings),
@@ -220,6 +236,13 @@ fn cases() -> Vec<Case> {
         Case::new("4096 u64 at depth 4", depth_4, amqp_bench_encode_depth_4, amqp_bench_decode_depth_4),
         Case::new("4096 u64 at depth 5", depth_5, amqp_bench_encode_depth_5, amqp_bench_decode_depth_5),
         Case::new("4096 u64 at depth 6", depth_6, amqp_bench_encode_depth_6, amqp_bench_decode_depth_6),
+        Case::new("open performative", open, amqp_bench_encode_open, amqp_bench_decode_open),
+        Case::new(
+            "array of 1000 described structs",
+            array_of_described,
+            amqp_bench_encode_array_of_described,
+            amqp_bench_decode_array_of_described,
+        ),
     ]
 }
 

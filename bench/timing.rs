@@ -42,12 +42,12 @@ fn counts<'a>(all: &'a str, key: &str) -> Vec<&'a str> {
 pub fn run(cases: &[Case], all: &str) {
     let word = std::env::args().nth(2).unwrap_or_default();
     println!(
-        "{:25} {:6} {:>10} {:>10} {:>6} {:>8} {:>7} {:>7} {:>8} {:>8} {:>8} {:>8}",
+        "{:32} {:6} {:>10} {:>10} {:>6} {:>8} {:>7} {:>7} {:>8} {:>8} {:>8} {:>8}",
         "case", "", "ns", "plain ns", "ratio", "bytes", "allocs", "plain", "peak", "plain", "instr", "plain"
     );
     for case in cases.iter().filter(|case| case.name.contains(&word)) {
         let print = |way, (ours, plain): (f64, f64)| {
-            print!("{:25} {way:6} {ours:10.1} {plain:10.1} {:6.2} {:8}", case.name, ours / plain, case.text.len());
+            print!("{:32} {way:6} {ours:10.1} {plain:10.1} {:6.2} {:8}", case.name, ours / plain, case.text.len());
             for (count, width) in counts(all, &case.key(way)).iter().zip([7, 7, 8, 8, 8, 8]) {
                 print!(" {count:>width$}");
             }
