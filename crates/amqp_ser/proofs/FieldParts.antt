@@ -106,7 +106,7 @@ pub pair_more : (s : State) (shape : Shape) (xs : List Item) (k v : Item) (q : O
 pair_more s shape xs k v q h = subst (λ ys. Holds s shape ys q) (append_assoc xs (k ∷ []) (v ∷ [])) h
 
 -- nothing is lacking where there are fields
-fields_lack : (setting : Setting) (fs : List FieldItem) → lacking (struct_shape setting) (fields_parts (struct_shape setting) fs) ≡ None
+pub fields_lack : (setting : Setting) (fs : List FieldItem) → lacking (struct_shape setting) (fields_parts (struct_shape setting) fs) ≡ None
 fields_lack Plain fs = refl
 fields_lack Symbol fs = refl
 fields_lack DescribedList fs = refl

@@ -9,3 +9,5 @@ pub mod WholeFields
 pub mod Passes
 pub mod Lending
 pub mod Describing
+pub mod Fronts
+pub mod Stages

@@ -7,13 +7,17 @@ ghost use Rattle.amqp_base.specs.Item.{Item};
 ghost use Rattle.amqp_base.specs.Shapes.{whole, setting_inside};
 ghost use Rattle.amqp_ser.specs.State.{State, state, answering};
 ghost use Rattle.amqp_write.specs.declared.pass.Opened.TheVariants.{Buffered as IsBuffered};
-ghost use Rattle.amqp_ser.specs.Law.{Refused};
+ghost use Rattle.amqp_ser.specs.Law.{Wrote, Refused};
 ghost use Rattle.amqp_ser.specs.Compound.{the_buffer, open_parts, awaits_value, Empty, Run, Holds};
 ghost use Rattle.amqp_ser.specs.Compound.{Complete, BeginsWith, EndsCompound, Keeps};
 ghost use Rattle.amqp_ser.specs.Compound.{WritesPart, WritesEach, EndsWhole, EndsStruct, part_in, outside_in};
 ghost use Rattle.amqp_ser.specs.Compound.{open_state, open_as, lacking, lacks, lacks_value};
+ghost use Rattle.amqp_ser.specs.Staged.{Before, HasFields, HasRow, AwaitsDescriptor, HasEnded};
+ghost use Rattle.amqp_ser.specs.Staged.{struct_under, item_under, lacks_field, lacks_field_of};
+ghost use Rattle.amqp_base.specs.Structs.{FieldItem};
 
-use crate::{Serialize, Serializer};
+use crate::staged::end_staged;
+use crate::{Serialize, Serializer, StructSerializer, TupleStructSerializer};
 use amqp_base::{Error, Pass, Setting, Shape, Sink};
 use amqp_types::Descriptor;
 use amqp_write::{
@@ -141,6 +145,74 @@ impl<'a, W: Sink, F: Drop> Compound<'a, W, F> {
             None => {}
         }
         ser.close(parts)
+    }
+}
+
+impl<'a, W: Sink> StructSerializer<'a, W> {
+    /// Writes the whole: a list or a map of the fields, behind its descriptor where it has one.
+    /// Only then does its serializer answer again.
+    ///
+    /// `SequenceLengthMismatch`: under `DESCRIBED_BASIC` there isn't just one field. `Io(Other)`:
+    /// the fields have more than 4,294,967,291 bytes. `InvalidValue`: the descriptor is missing, a
+    /// call was refused, or the array that the whole is to stand in has other elements.
+    pub fn end(self) -> Result<(), Error>
+        ensures ok { OnOk result ((s : State) (b : Before) (fs : List FieldItem) →
+            HasFields W.Write W.FaultCount s b fs self.entry → Wrote s
+            (struct_under b s.setting fs) (state W.Write W.FaultCount self.exit.0.now)) }
+        ensures err { IfErr result (λ e. (s : State) (b : Before) (fs : List FieldItem) →
+            HasFields W.Write W.FaultCount s b fs self.entry →
+            lacks_field_of b s.setting fs ≡ false →
+            Refused s (struct_under b s.setting fs) e
+            (state W.Write W.FaultCount self.exit.0.now)) }
+        ensures lacking { (s : State) (b : Before) (fs : List FieldItem) →
+            HasFields W.Write W.FaultCount s b fs self.entry →
+            lacks_field_of b s.setting fs ≡ true →
+            result ≡ Err Error.SequenceLengthMismatch }
+        ensures early { (s : State) (x : _) →
+            AwaitsDescriptor W.Write W.FaultCount s x self.entry →
+            result ≡ Err Error.InvalidValue }
+        ensures ended { HasEnded self.entry → result ≡ Err Error.InvalidValue }
+    {
+        let Compound {
+            ser,
+            parts,
+            form: _,
+        } = self;
+        end_staged(ser, parts)
+    }
+}
+
+impl<'a, W: Sink> TupleStructSerializer<'a, W> {
+    /// Writes the whole: a list of the fields, behind its descriptor where it has one. Only then
+    /// does its serializer answer again.
+    ///
+    /// `SequenceLengthMismatch`: under `DESCRIBED_BASIC` there isn't just one field. `Io(Other)`:
+    /// the fields have more than 4,294,967,291 bytes. `InvalidValue`: the descriptor is missing, a
+    /// call was refused, or the array that the whole is to stand in has other elements.
+    pub fn end(self) -> Result<(), Error>
+        ensures ok { OnOk result ((s : State) (b : Before) (xs : List Item) →
+            HasRow W.Write W.FaultCount s b xs self.entry → Wrote s
+            (item_under b Shape.List xs) (state W.Write W.FaultCount self.exit.0.now)) }
+        ensures err { IfErr result (λ e. (s : State) (b : Before) (xs : List Item) →
+            HasRow W.Write W.FaultCount s b xs self.entry →
+            lacks_field b xs ≡ false →
+            Refused s (item_under b Shape.List xs) e
+            (state W.Write W.FaultCount self.exit.0.now)) }
+        ensures lacking { (s : State) (b : Before) (xs : List Item) →
+            HasRow W.Write W.FaultCount s b xs self.entry →
+            lacks_field b xs ≡ true →
+            result ≡ Err Error.SequenceLengthMismatch }
+        ensures early { (s : State) (x : _) →
+            AwaitsDescriptor W.Write W.FaultCount s x self.entry →
+            result ≡ Err Error.InvalidValue }
+        ensures ended { HasEnded self.entry → result ≡ Err Error.InvalidValue }
+    {
+        let Compound {
+            ser,
+            parts,
+            form: _,
+        } = self;
+        end_staged(ser, parts)
     }
 }
 
@@ -345,6 +417,25 @@ impl Parts {
                 descriptor: None,
             },
         })
+    }
+
+    /// None, of a compound that isn't open yet.
+    pub(crate) fn none(alloc: Global) -> Parts {
+        Parts {
+            shape: Shape::List,
+            buffer: Serializer {
+                writer: Vec::new(alloc),
+                place: Place::new(Setting::Plain),
+            },
+            count: 0,
+            opened: Opened::Buffered,
+            outer: Outer::Had {
+                setting: Setting::Plain,
+                mark: Mark::Unmarked,
+                found: None,
+                descriptor: None,
+            },
+        }
     }
 
     /// What is missing: parts of a tuple, or the value of a key.

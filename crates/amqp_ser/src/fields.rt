@@ -10,7 +10,7 @@ ghost use Rattle.amqp_ser.specs.Compound.{open_state, HoldsFields, BeginsWith};
 
 use crate::compound::write_part;
 use crate::structs::is_name;
-use crate::{Serialize, Serializer, StructSerializer};
+use crate::{Serialize, Serializer, WholeStruct};
 use amqp_base::{DESCRIPTOR, Error, Setting, Shape, Sink, Typed};
 use std::alloc::Global;
 
@@ -35,7 +35,7 @@ pub trait StructFields: Drop {
     fn write_values<W: Sink>(
         &self,
         alloc: Global,
-        out: &mut StructSerializer<'_, W>,
+        out: &mut WholeStruct<'_, W>,
     ) -> Result<(), Error>
         ensures same_reference { out.new.ser.ghost_name ≡ out.old.ser.ghost_name }
         ensures ok { OnOk result ((s : State) (fs : List FieldItem) →
@@ -49,7 +49,7 @@ pub trait StructFields: Drop {
             (state W.Write W.FaultCount out.new.ser.now)) };
 
     /// Writes them, in order.
-    fn write<W: Sink>(&self, alloc: Global, out: &mut StructSerializer<'_, W>) -> Result<(), Error>
+    fn write<W: Sink>(&self, alloc: Global, out: &mut WholeStruct<'_, W>) -> Result<(), Error>
         ensures same_reference { out.new.ser.ghost_name ≡ out.old.ser.ghost_name }
         ensures ok { OnOk result ((s : State) (fs : List FieldItem) →
             HoldsFields s fs (open_state W.Write W.FaultCount out.old) →
@@ -75,7 +75,7 @@ impl StructFields for () {
     fn write_values<W: Sink>(
         &self,
         alloc: Global,
-        out: &mut StructSerializer<'_, W>,
+        out: &mut WholeStruct<'_, W>,
     ) -> Result<(), Error> {
         let _ = alloc;
         let _ = out;
@@ -83,11 +83,7 @@ impl StructFields for () {
     }
 
     #[inline(always)]
-    fn write<W: Sink>(
-        &self,
-        alloc: Global,
-        out: &mut StructSerializer<'_, W>,
-    ) -> Result<(), Error> {
+    fn write<W: Sink>(&self, alloc: Global, out: &mut WholeStruct<'_, W>) -> Result<(), Error> {
         let (_, _) = (alloc, out);
         Ok(())
     }
@@ -118,7 +114,7 @@ impl<T: Serialize, Rest: StructFields> StructFields for Written<'_, T, Rest> {
     fn write_values<W: Sink>(
         &self,
         alloc: Global,
-        out: &mut StructSerializer<'_, W>,
+        out: &mut WholeStruct<'_, W>,
     ) -> Result<(), Error> {
         match write_part(&mut *out.ser, &mut out.parts, alloc, self.value) {
             Ok(()) => match self.rest.write_values(alloc, out) {
@@ -130,11 +126,7 @@ impl<T: Serialize, Rest: StructFields> StructFields for Written<'_, T, Rest> {
     }
 
     #[inline(always)]
-    fn write<W: Sink>(
-        &self,
-        alloc: Global,
-        out: &mut StructSerializer<'_, W>,
-    ) -> Result<(), Error> {
+    fn write<W: Sink>(&self, alloc: Global, out: &mut WholeStruct<'_, W>) -> Result<(), Error> {
         match out.serialize_field(alloc, self.name, self.value) {
             Ok(()) => self.rest.write(alloc, out),
             Err(e) => Err(e),
@@ -196,7 +188,7 @@ impl<W: Sink> Serializer<W> {
                 if fields.has_descriptor() {
                     return self.fields_one_by_one(alloc, name, fields);
                 }
-                let mut out = match self.serialize_struct(alloc, name, 0) {
+                let mut out = match self.whole_struct(alloc, name) {
                     Ok(out) => out,
                     Err(e) => return Err(e),
                 };
@@ -224,7 +216,7 @@ impl<W: Sink> Serializer<W> {
             (struct_item (state W.Write W.FaultCount self.old).setting (F.items fields.now)) e
             (state W.Write W.FaultCount self.new)) }
     {
-        let mut out = match self.serialize_struct(alloc, name, 0) {
+        let mut out = match self.whole_struct(alloc, name) {
             Ok(out) => out,
             Err(e) => return Err(e),
         };

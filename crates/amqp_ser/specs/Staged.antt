@@ -1,0 +1,229 @@
+-- A struct that is written field by field, plain or behind a descriptor.
+use Rattle.std.specs.Prelude.{◌≡◌, ⊤, Bool, true, false, not, if◌then◌else◌, ℕ, List, [], ◌∷◌, ◌++◌, Option, Some, None, Result, Ok, Err, OnOk, OnErr, IfErr, bytes_eq}
+use Rattle.std.specs.declared.io.Write as Write
+use Rattle.amqp_base.specs.declared.fault.FaultCount as FaultCount
+use Rattle.amqp_base.specs.declared.constants.TheConstants.{DESCRIBED_LIST, DESCRIBED_MAP, DESCRIBED_BASIC}
+use Rattle.amqp_base.specs.declared.error.Error.{Error}
+use Rattle.amqp_base.specs.declared.error.Error.TheVariants.{InvalidValue}
+use Rattle.amqp_base.specs.declared.shape.Setting.{Setting}
+use Rattle.amqp_base.specs.declared.shape.Setting.TheVariants.{Plain, DescribedMap, DescribedBasic}
+use Rattle.amqp_base.specs.declared.shape.Shape.{Shape}
+use Rattle.amqp_base.specs.Item.{Descriptor, Item, scalar, null, described}
+use Rattle.amqp_base.specs.Shapes.{whole}
+use Rattle.amqp_base.specs.Structs.{FieldItem, fields_parts, struct_shape}
+use Rattle.amqp_types.specs.Descriptors.{descriptor_of}
+use Rattle.amqp_ser.specs.State.{State, state}
+use Rattle.amqp_ser.specs.Law.{Kept, Wrote, Refused, Stops}
+use Rattle.amqp_ser.specs.Compound.{Open, Holds, open_parts, is_map, BeginsWith, Complete, lacking}
+use Rattle.amqp_ser.specs.Front.{Stands}
+use Rattle.amqp_ser.specs.declared.compound.Compound.{Compound}
+use Rattle.amqp_ser.specs.declared.front.Front.{Front}
+use Rattle.amqp_ser.specs.declared.front.Front.TheVariants as front
+use Rattle.amqp_ser.specs.declared.compound.Parts.{Parts}
+use Rattle.amqp_ser.specs.declared.staged.Staged.{Staged}
+use Rattle.amqp_ser.specs.declared.staged.Encoding.{Encoding}
+use Rattle.amqp_ser.specs.declared.staged.Encoding.TheVariants as by
+use Rattle.amqp_ser.specs.declared.staged.Stage.{Stage}
+use Rattle.amqp_ser.specs.declared.staged.Stage.TheVariants as at
+
+-- what stands before the fields: nothing, or a descriptor, behind which they stand so
+pub data Before : Type 0 where
+  plain : Before
+  behind : Encoding → Descriptor → Before
+
+-- what stands behind the descriptor of a struct of this name, if one does
+abbrev pub encoding_named : List ℕ → Option Encoding
+encoding_named name =
+    if bytes_eq name DESCRIBED_LIST.now then Some by.List
+    else (if bytes_eq name DESCRIBED_MAP.now then Some by.Map
+    else (if bytes_eq name DESCRIBED_BASIC.now then Some by.Basic else None))
+
+-- the same of a tuple struct, which is never a map
+abbrev pub row_encoding : List ℕ → Option Encoding
+row_encoding name =
+    if bytes_eq name DESCRIBED_LIST.now then Some by.List
+    else (if bytes_eq name DESCRIBED_BASIC.now then Some by.Basic else None)
+
+-- the setting of the fields' compound
+abbrev pub setting_behind : Encoding → Setting
+setting_behind by.List = Plain
+setting_behind by.Map = DescribedMap
+setting_behind by.Basic = DescribedBasic
+
+abbrev pub shape_behind : Encoding → Shape
+shape_behind by.List = Shape.List
+shape_behind by.Map = Shape.Fields
+shape_behind by.Basic = Shape.List
+
+-- a list or map of the fields, or the one that there is
+abbrev pub the_field : List Item → Item
+the_field [] = scalar null
+the_field (x ∷ xs) = x
+
+abbrev pub value_behind : Encoding → List Item → Item
+value_behind by.List xs = whole Shape.List xs
+value_behind by.Map xs = whole Shape.Fields xs
+value_behind by.Basic xs = the_field xs
+
+-- the item of these parts
+abbrev pub item_under : Before → Shape → List Item → Item
+item_under plain shape xs = whole shape xs
+item_under (behind x d) shape xs = described d (value_behind x xs)
+
+abbrev pub shape_under : Before → Setting → Shape
+shape_under plain k = struct_shape k
+shape_under (behind x d) k = shape_behind x
+
+-- the item of a struct of these fields
+abbrev pub struct_under : Before → Setting → List FieldItem → Item
+struct_under b k fs = item_under b (shape_under b k) (fields_parts (shape_under b k) fs)
+
+-- the fields are a list or a map behind the descriptor
+abbrev pub IsListed : Encoding → Type 0
+IsListed by.List = ⊤
+IsListed by.Map = ⊤
+IsListed by.Basic = ⊥
+
+abbrev pub is_rest : List Item → Bool
+is_rest [] = false
+is_rest (x ∷ xs) = true
+
+-- a descriptor stands there, and behind it so many parts of a list or a map
+pub record HoldsBehind (s : State) (b : Before) (xs : List Item) (f : Front) (q : Bool → Open) : Type 0 where
+  pub encoding : Encoding
+  pub descriptor : Descriptor
+  pub is : b ≡ behind encoding descriptor
+  pub listed : IsListed encoding
+  pub front : State
+  pub answered : s.ended ≡ false
+  pub stands : Stands s descriptor f front
+  pub holds : Holds (record front { setting = setting_behind encoding }) (shape_behind encoding) xs (q (is_map (shape_behind encoding)))
+
+-- the one value stands there behind its descriptor, and there were more or not
+pub record HoldsValue (s : State) (b : Before) (xs : List Item) (again : Bool) (o : State) : Type 0 where
+  pub descriptor : Descriptor
+  pub is : b ≡ behind by.Basic descriptor
+  pub value : Item
+  pub rest : List Item
+  pub parts : xs ≡ value ∷ rest
+  pub more : again ≡ is_rest rest
+  pub behind : State
+  pub answered : s.ended ≡ false
+  pub wrote : Wrote s (described descriptor value) behind
+  pub held : o ≡ record behind { ended = true }
+
+-- the descriptor that is known
+abbrev pub Keeps : Front → Descriptor → Type 0
+Keeps (front.First k own) d = descriptor_of own ≡ d
+Keeps (front.Alone k) d = ⊥
+Keeps (front.Again outer long) d = ⊥
+Keeps front.Nowhere d = ⊥
+
+-- the descriptor is known, and nothing was written yet
+pub record HoldsNone (s : State) (b : Before) (xs : List Item) (f : Front) (o : State) : Type 0 where
+  pub descriptor : Descriptor
+  pub is : b ≡ behind by.Basic descriptor
+  pub known : Keeps f descriptor
+  pub parts : xs ≡ []
+  pub answered : s.ended ≡ false
+  pub held : o ≡ record s { ended = true }
+
+-- the struct was opened on a serializer in the state s, and has these parts
+abbrev pub HoldsAt : State → Before → Shape → List Item → State → Front → Parts → Stage → Type 0
+HoldsAt s b shape xs o f p at.Plain = (b ≡ plain) × Holds s shape xs (open_parts (is_map shape) o p)
+HoldsAt s b shape xs o f p at.Behind = HoldsBehind s b xs f (λ pairs. open_parts pairs o p)
+HoldsAt s b shape xs o f p at.Given = HoldsNone s b xs f o
+HoldsAt s b shape xs o f p (at.Written m) = HoldsValue s b xs m o
+HoldsAt s b shape xs o f p (at.Awaited x) = ⊥
+HoldsAt s b shape xs o f p at.Ended = ⊥
+
+abbrev pub HoldsParts : State → Before → Shape → List Item → State → Staged → Type 0
+HoldsParts s b shape xs o g = HoldsAt s b shape xs o g.front g.parts g.stage
+
+abbrev pub HoldsStruct : State → Before → List FieldItem → State → Staged → Type 0
+HoldsStruct s b fs o g = HoldsParts s b (shape_under b s.setting) (fields_parts (shape_under b s.setting) fs) o g
+
+-- a tuple struct is never a map
+abbrev pub IsRow : Before → Type 0
+IsRow plain = ⊤
+IsRow (behind by.List d) = ⊤
+IsRow (behind by.Map d) = ⊥
+IsRow (behind by.Basic d) = ⊤
+
+abbrev pub HoldsRow : State → Before → List Item → State → Staged → Type 0
+HoldsRow s b xs o g = IsRow b × HoldsParts s b Shape.List xs o g
+
+-- its descriptor comes first
+pub record Awaits (s : State) (x : Encoding) (o : State) (g : Staged) : Type 0 where
+  pub stage : g.stage ≡ at.Awaited x
+  pub answered : s.ended ≡ false
+  pub held : o ≡ record s { ended = true }
+
+-- a refusal ends the struct, and each call of an ended one is refused
+pub record EndsStage {A : Type 0} (g : Staged) (r : Result A Error) (h : Staged) : Type 0 where
+  pub err : OnErr r (h.stage ≡ at.Ended)
+  pub ended : g.stage ≡ at.Ended → r ≡ Err InvalidValue
+
+-- a descriptor was put in front, and behind it a compound opened
+pub record OpensBehind (s : State) (d : Descriptor) (k : Setting) (shape : Shape) (f : Front) (q : Open) : Type 0 where
+  pub front : State
+  pub stands : Stands s d f front
+  pub holds : Holds (record front { setting = k }) shape [] q
+
+-- the compound behind a descriptor was written, or refused; then the serializer is in the state t
+pub record ClosesBehind (f : Front) (q : Bool → Open) (r : Result (Unit {0}) Error) (t : State) : Type 0 where
+  pub ok : OnOk r ((s u : State) (d : Descriptor) (k : Setting) (shape : Shape) (xs : List Item) → s.ended ≡ false → Stands s d f u → Holds (record u { setting = k }) shape xs (q (is_map shape)) → Complete (is_map shape) xs → Wrote s (described d (whole shape xs)) t)
+  pub err : IfErr r (λ e. (s u : State) (d : Descriptor) (k : Setting) (shape : Shape) (xs : List Item) → s.ended ≡ false → Stands s d f u → Holds (record u { setting = k }) shape xs (q (is_map shape)) → Complete (is_map shape) xs → Refused s (described d (whole shape xs)) e t)
+
+-- its fields aren't parts of a compound
+abbrev pub is_apart : Stage → Bool
+is_apart at.Plain = false
+is_apart at.Behind = false
+is_apart at.Given = true
+is_apart (at.Written m) = true
+is_apart (at.Awaited x) = true
+is_apart at.Ended = true
+
+abbrev pub IsApart : Staged → Type 0
+IsApart g = is_apart g.stage ≡ true
+
+-- no name is without its value, and nothing else is missing in a compound
+abbrev pub AllThere : Before → Shape → List Item → Type 0
+AllThere plain shape xs = (Complete (is_map shape) xs) × (lacking shape xs ≡ None)
+AllThere (behind x d) shape xs = Complete (is_map (shape_behind x)) xs
+
+-- there isn't just one field where one is to be
+abbrev pub lacks_field : Before → List Item → Bool
+lacks_field plain xs = false
+lacks_field (behind by.List d) xs = false
+lacks_field (behind by.Map d) xs = false
+lacks_field (behind by.Basic d) [] = true
+lacks_field (behind by.Basic d) (x ∷ xs) = is_rest xs
+
+-- a call that opens a struct, plain where nothing stands before its fields: refused as any of these would be, or because the serializer had ended
+pub record RefusesStart {A X : Type 0} (before : Option Encoding) (item : X → Item) (s : State) (r : Result A Error) (t : State) : Type 0 where
+  pub law : before ≡ None → IfErr r (λ e. (x : X) → Refused s (item x) e t)
+  pub stops : Stops s r t
+  pub opens : (x : Encoding) → before ≡ Some x → OnErr r (s.ended ≡ true)
+
+-- ---- of a serializer of a struct's fields
+
+-- it was opened on a serializer in the state s, and has these fields behind that
+abbrev pub HasFields : {W F : Type 0} → Write.Ghosts W → FaultCount.Ghosts W → State → Before → List FieldItem → Compound W F Staged → Type 0
+HasFields w f s b fs q = HoldsStruct s b fs (state w f q.ser.now) q.parts
+
+-- the same of a tuple struct
+abbrev pub HasRow : {W F : Type 0} → Write.Ghosts W → FaultCount.Ghosts W → State → Before → List Item → Compound W F Staged → Type 0
+HasRow w f s b xs q = HoldsRow s b xs (state w f q.ser.now) q.parts
+
+-- its descriptor comes first
+abbrev pub AwaitsDescriptor : {W F : Type 0} → Write.Ghosts W → FaultCount.Ghosts W → State → Encoding → Compound W F Staged → Type 0
+AwaitsDescriptor w f s x q = Awaits s x (state w f q.ser.now) q.parts
+
+-- a call was refused
+abbrev pub HasEnded : {W F : Type 0} → Compound W F Staged → Type 0
+HasEnded q = q.parts.stage ≡ at.Ended
+
+-- just one field is to be, and it isn't
+abbrev pub lacks_field_of : Before → Setting → List FieldItem → Bool
+lacks_field_of b k fs = lacks_field b (fields_parts (shape_under b k) fs)
