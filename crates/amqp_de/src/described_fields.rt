@@ -21,7 +21,7 @@ use std::alloc::Global;
 
 /// Whether a descriptor is the one that is wanted.
 #[inline(always)]
-fn is_wanted(wanted: &Descriptor, found: Descriptor) -> bool
+pub(crate) fn is_wanted(wanted: &Descriptor, found: Descriptor) -> bool
     ensures { result ≡ same_descriptor (descriptor_of wanted.now) (descriptor_of found) }
 {
     match wanted {
