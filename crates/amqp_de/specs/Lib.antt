@@ -16,6 +16,7 @@ pub mod ReadLeading
 pub mod Describes
 pub mod DescribedFields
 pub mod DescribedValues
+pub mod DescribedMaps
 pub mod NotNull
 pub mod DescribedStructs
 pub mod Forms

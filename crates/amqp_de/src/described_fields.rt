@@ -200,3 +200,20 @@ macro_rules! read_described {
         }
     };
 }
+
+/// Reads a struct under a descriptor, as a map from the names of its fields:
+/// `read_described_map!(de, alloc, &descriptor, Sensor { id, unit })` calls
+/// `Deserializer::deserialize_described_map`, and answers the struct of what was read.
+#[macro_export]
+macro_rules! read_described_map {
+    ($de:expr, $alloc:expr, $descriptor:expr, $name:ident { $($field:ident),+ $(,)? }) => {
+        match $de.deserialize_described_map(
+            $alloc,
+            $descriptor,
+            $crate::read_fields!(@row $($field),+),
+        ) {
+            Ok(values) => $crate::read_fields!(@take values; $name; []; $($field),+),
+            Err(e) => Err(e),
+        }
+    };
+}
