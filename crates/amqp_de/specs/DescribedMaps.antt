@@ -4,8 +4,8 @@ use Rattle.std.proofs.Common.{refl, sym, subst}
 use Rattle.amqp_base.specs.declared.shape.Setting.TheVariants.{Plain, DescribedMap}
 use Rattle.amqp_base.specs.declared.shape.Shape.{Shape}
 use Rattle.amqp_base.specs.Describing.{same_as_itself, under_descriptor}
-use Rattle.amqp_base.specs.Item.{Descriptor, name, Item, scalar, list, map, array, described, Pairs}
-use Rattle.amqp_base.specs.Meaning.{Meaning, Row, Field, row_of, option_of, newtype_of, struct_of, first_of, second_of, from_false}
+use Rattle.amqp_base.specs.Item.{Descriptor, name, Item, scalar, list, map, array, described}
+use Rattle.amqp_base.specs.Meaning.{Meaning, Row, Field, at, row_of, option_of, newtype_of, struct_of, first_of, second_of, from_false}
 use Rattle.amqp_base.specs.NamedFields.{OneRow, takes_named, means_named, takes_map, means_map, takes_struct, means_struct}
 use Rattle.amqp_base.specs.Options.{option_taken_back, option_read_back}
 use Rattle.amqp_base.specs.Parse.{map_data}
@@ -23,23 +23,23 @@ pub record KeptInMap {T : Type 0} (m : Meaning T) : Type 0 where
   pub not_null : IsTrue m.never_null → (v : T) → is_null (m.item v DescribedMap) ≡ false
 
 -- where it is what is written for it anywhere
-pub as_ever : {T : Type 0} {m : Meaning T} → ((v : T) → m.item v DescribedMap ≡ m.item v Plain) → KeptInMap m
+pub as_ever : {T : Type 0} {m : Meaning T} → ◌≡◌ {A = T → Item} (λ v. m.item v DescribedMap) (λ v. m.item v Plain) → KeptInMap m
 as_ever {T} {m} h = record {
-  taken = λ r v s. subst (λ i. IsTrue (m.takes i)) (sym (h v)) (m.taken_back r v s);
-  read = λ r v s. subst (λ i. m.means i v) (sym (h v)) (m.read_back r v s);
-  not_null = λ n v. subst (λ i. is_null i ≡ false) (sym (h v)) (m.not_null n v);
+  taken = λ r v s. subst (λ f. IsTrue (m.takes (f v))) (sym h) (m.taken_back r v s);
+  read = λ r v s. subst (λ f. m.means (f v) v) (sym h) (m.read_back r v s);
+  not_null = λ n v. subst (λ f. is_null (f v) ≡ false) (sym h) (m.not_null n v);
 }
 
 -- of an option, and of a type that holds a value of another
-pub option_kept : {T : Type 0} {m : Meaning T} → KeptInMap m → KeptInMap (option_of m)
-option_kept {T} {m} k = record {
+pub option_kept : {T : Type 0} (m : Meaning T) → KeptInMap m → KeptInMap (option_of m)
+option_kept m k = record {
   taken = λ r. option_taken_back m.takes m.item DescribedMap m.sound (k.taken (first_of m.reads_back m.never_null r));
   read = λ r. option_read_back m.means m.item DescribedMap m.sound (k.not_null (second_of m.reads_back m.never_null r)) (k.read (first_of m.reads_back m.never_null r));
   not_null = λ h. from_false h;
 }
 
-pub newtype_kept : {V T : Type 0} {m : Meaning T} {get : V → T} → KeptInMap m → KeptInMap (newtype_of m get)
-newtype_kept {V} {T} {m} {get} k = record {
+pub newtype_kept : {V T : Type 0} (m : Meaning T) (get : V → T) → KeptInMap m → KeptInMap (newtype_of m get)
+newtype_kept m get k = record {
   taken = λ r v s. k.taken r (get v) s;
   read = λ r v s. k.read r (get v) s;
   not_null = λ n v. k.not_null n (get v);
@@ -60,17 +60,18 @@ pub fields_taken : {V : Type 0} (fs : List {1} (Field V)) → AllKept fs → IsT
 fields_taken [] k r v s = refl
 fields_taken (f ∷ fs) k r v s =
     rw (own_name f.name)
-      (both (f.meaning.takes (f.meaning.item (f.get v) DescribedMap)) (takes_named (row_of fs).names (row_of fs).takes (pairs_of (fields_parts Shape.Fields ((row_of fs).items v))))
-        (k.0.taken (first_of f.meaning.reads_back (row_of fs).reads_back r) (f.get v) s.0)
-        (fields_taken fs k.1 (second_of f.meaning.reads_back (row_of fs).reads_back r) v s.1))
+    (both (f.meaning.takes (f.meaning.item (f.get v) DescribedMap)) (takes_named (row_of fs).names (row_of fs).takes (pairs_of (fields_parts Shape.Fields ((row_of fs).items v))))
+    (k.0.taken (first_of f.meaning.reads_back (row_of fs).reads_back r) (f.get v) s.0)
+    (fields_taken fs k.1 (second_of f.meaning.reads_back (row_of fs).reads_back r) v s.1))
 
 pub fields_read : {V : Type 0} (fs : List {1} (Field V)) → AllKept fs → IsTrue (row_of fs).reads_back → (v : V) → (row_of fs).sound v
     → means_named (row_of fs).names ((row_of fs).means v) (pairs_of (fields_parts Shape.Fields ((row_of fs).items v)))
 fields_read [] k r v s = tt
 fields_read (f ∷ fs) k r v s =
-    rw (own_name f.name)
-      (k.0.read (first_of f.meaning.reads_back (row_of fs).reads_back r) (f.get v) s.0,
-        fields_read fs k.1 (second_of f.meaning.reads_back (row_of fs).reads_back r) v s.1)
+    rw (own_name f.name) (
+      k.0.read (first_of f.meaning.reads_back (row_of fs).reads_back r) (f.get v) s.0,
+      fields_read fs k.1 (second_of f.meaning.reads_back (row_of fs).reads_back r) v s.1,
+    )
 
 pub map_taken : {V : Type 0} (fs : List {1} (Field V)) → AllKept fs → IsTrue (row_of fs).reads_back → (v : V) → (row_of fs).sound v
     → IsTrue (takes_map (row_of fs).names (row_of fs).takes (struct_item DescribedMap ((row_of fs).items v)))
@@ -136,6 +137,24 @@ named_of fs kept = record {
   not_null = λ _ v. map_present (row_of fs) v;
 }
 
+-- an entry of a map: its name, what the type of its value means, the value, and why that is read back
+pub record Entry (V : Type 0) : Type 1 where
+  pub field : Field V
+  pub kept : KeptInMap field.meaning
+
+abbrev pub entry : {V T : Type 0} → List ℕ → (m : Meaning T) → (V → T) → KeptInMap m → Entry V
+entry key m get kept = record { field = at key m get; kept = kept }
+
+abbrev pub fields_of : {V : Type 0} → List {1} (Entry V) → List {1} (Field V)
+fields_of [] = []
+fields_of (e ∷ es) = e.field ∷ fields_of es
+
+abbrev pub each_kept : {V : Type 0} → (es : List {1} (Entry V)) → AllKept (fields_of es)
+each_kept [] = tt
+each_kept (e ∷ es) = (e.kept, each_kept es)
+
 -- a struct of these fields under a descriptor, as a map from their names
-abbrev pub described_map_of : {V : Type 0} → Descriptor → (fs : List {1} (Field V)) → AllKept fs → Meaning V
-described_map_of d fs kept = under_descriptor d (described_map_refusal (row_of fs).names (row_of fs).takes (row_of fs).refuses (all_awaited (row_of fs).names)) (named_of fs kept)
+abbrev pub described_map_of : {V : Type 0} → Descriptor → List {1} (Entry V) → Meaning V
+described_map_of d es =
+    let row = row_of (fields_of es) in
+    under_descriptor d (described_map_refusal row.names row.takes row.refuses (all_awaited row.names)) (named_of (fields_of es) (each_kept es))
