@@ -97,7 +97,7 @@ pub map_present : {V : Type 0} (row : Row V) (v : V) → is_null (struct_item De
 unfolding struct_item whole
 map_present row v = refl
 
--- a struct is read back as such a map, too
+-- a struct is read back from such a map, too
 struct_taken : {V : Type 0} (fs : List {1} (Field V)) → AllKept fs → IsTrue (row_of fs).reads_back → (v : V) → (row_of fs).sound v
     → IsTrue (takes_struct (row_of fs).names (row_of fs).takes (struct_item DescribedMap ((row_of fs).items v)))
 unfolding takes_struct struct_item whole
@@ -107,13 +107,6 @@ struct_read : {V : Type 0} (fs : List {1} (Field V)) → AllKept fs → IsTrue (
     → means_struct (row_of fs).names ((row_of fs).means v) (struct_item DescribedMap ((row_of fs).items v))
 unfolding means_struct struct_item whole
 struct_read fs k r v s = fields_read fs k r v s
-
-pub struct_kept : {V : Type 0} (fs : List {1} (Field V)) → AllKept fs → KeptInMap (struct_of (row_of fs))
-struct_kept fs k = record {
-  taken = λ r v s. struct_taken fs k r v s;
-  read = λ r v s. struct_read fs k r v s;
-  not_null = λ _ v. map_present (row_of fs) v;
-}
 
 -- a map from the names of these fields, each once, in any order
 abbrev pub named_of : {V : Type 0} → (fs : List {1} (Field V)) → AllKept fs → Meaning V
@@ -152,6 +145,14 @@ fields_of (e ∷ es) = e.field ∷ fields_of es
 abbrev pub each_kept : {V : Type 0} → (es : List {1} (Entry V)) → AllKept (fields_of es)
 each_kept [] = tt
 each_kept (e ∷ es) = (e.kept, each_kept es)
+
+-- a value that is a struct of such fields is itself a map in a map
+pub struct_kept : {V : Type 0} (es : List {1} (Entry V)) → KeptInMap (struct_of (row_of (fields_of es)))
+struct_kept es = record {
+  taken = λ r v s. struct_taken (fields_of es) (each_kept es) r v s;
+  read = λ r v s. struct_read (fields_of es) (each_kept es) r v s;
+  not_null = λ _ v. map_present (row_of (fields_of es)) v;
+}
 
 -- a struct of these fields under a descriptor, as a map from their names
 abbrev pub described_map_of : {V : Type 0} → Descriptor → List {1} (Entry V) → Meaning V
