@@ -15,6 +15,8 @@ pub mod Openings
 pub mod ReadLeading
 pub mod Describes
 pub mod DescribedFields
+pub mod DescribedValues
+pub mod DescribedMaps
 pub mod NotNull
 pub mod DescribedStructs
 pub mod Forms

@@ -21,7 +21,7 @@ use std::alloc::Global;
 
 /// Whether a descriptor is the one that is wanted.
 #[inline(always)]
-fn is_wanted(wanted: &Descriptor, found: Descriptor) -> bool
+pub(crate) fn is_wanted(wanted: &Descriptor, found: Descriptor) -> bool
     ensures { result ≡ same_descriptor (descriptor_of wanted.now) (descriptor_of found) }
 {
     match wanted {
@@ -191,6 +191,23 @@ impl<R: Read> Deserializer<R> {
 macro_rules! read_described {
     ($de:expr, $alloc:expr, $descriptor:expr, $name:ident { $($field:ident),+ $(,)? }) => {
         match $de.deserialize_described_fields(
+            $alloc,
+            $descriptor,
+            $crate::read_fields!(@row $($field),+),
+        ) {
+            Ok(values) => $crate::read_fields!(@take values; $name; []; $($field),+),
+            Err(e) => Err(e),
+        }
+    };
+}
+
+/// Reads a struct under a descriptor, as a map from the names of its fields:
+/// `read_described_map!(de, alloc, &descriptor, Sensor { id, unit })` calls
+/// `Deserializer::deserialize_described_map`, and answers the struct of what was read.
+#[macro_export]
+macro_rules! read_described_map {
+    ($de:expr, $alloc:expr, $descriptor:expr, $name:ident { $($field:ident),+ $(,)? }) => {
+        match $de.deserialize_described_map(
             $alloc,
             $descriptor,
             $crate::read_fields!(@row $($field),+),

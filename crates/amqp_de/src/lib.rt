@@ -10,6 +10,7 @@ mod described;
 mod described_access;
 mod described_fields;
 mod described_structs;
+mod described_values;
 mod deserialize;
 mod deserializer;
 mod fields;

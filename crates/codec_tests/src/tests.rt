@@ -33,6 +33,7 @@ mod primitive_types;
 mod printed;
 mod puts;
 mod scalars;
+mod sections;
 mod serializer;
 mod sink;
 mod slice_reader;

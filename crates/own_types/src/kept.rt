@@ -3,8 +3,8 @@
 ghost use Rattle.serde_amqp.specs.Headline.{KeptAs};
 
 use crate::{
-    Celsius, Colour, Delivery, Foo, Measurement, Note, Offer, Open, Pair, Priority, Reply, Sensor,
-    Station, Tags,
+    Celsius, Colour, Data, Delivery, Foo, Measurement, Note, Offer, Open, Pair, Priority, Reply,
+    Sensor, Shipment, Station, Tags,
 };
 use serde_amqp::{Error, Typed, from_slice, laws};
 use std::alloc::Global;
@@ -118,5 +118,21 @@ pub fn open_is_kept(alloc: Global, bytes: &[u8]) -> Result<Open, Error>
     ensures { KeptAs ⟦<Open as Typed>⟧.meaning bytes.now result }
 {
     laws::kept::<Open>();
+    from_slice(alloc, bytes)
+}
+
+/// What `to_vec` wrote for the bytes of a message is read as the same ones, or memory was wanting.
+pub fn data_is_kept(alloc: Global, bytes: &[u8]) -> Result<Data, Error>
+    ensures { KeptAs ⟦<Data as Typed>⟧.meaning bytes.now result }
+{
+    laws::kept::<Data>();
+    from_slice(alloc, bytes)
+}
+
+/// What `to_vec` wrote for a shipment is read as the same one, or memory was wanting.
+pub fn shipment_is_kept(alloc: Global, bytes: &[u8]) -> Result<Shipment, Error>
+    ensures { KeptAs ⟦<Shipment as Typed>⟧.meaning bytes.now result }
+{
+    laws::kept::<Shipment>();
     from_slice(alloc, bytes)
 }

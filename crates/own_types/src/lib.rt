@@ -2,6 +2,7 @@
 #![tactic(auto)]
 
 mod colour;
+mod data;
 mod delivery;
 mod foo;
 pub mod kept;
@@ -14,9 +15,11 @@ mod pair;
 mod priority;
 mod reply;
 mod sensor;
+mod shipment;
 mod station;
 
 pub use colour::Colour;
+pub use data::Data;
 pub use delivery::Delivery;
 pub use foo::Foo;
 pub use measurement::Measurement;
@@ -28,4 +31,5 @@ pub use pair::Pair;
 pub use priority::Priority;
 pub use reply::Reply;
 pub use sensor::Sensor;
+pub use shipment::Shipment;
 pub use station::Station;
