@@ -18,7 +18,7 @@ use Rattle.amqp_ser.proofs.Fronts.{stands_refused}
 use Rattle.amqp_ser.proofs.FieldParts.{fields_complete, fields_lack}
 use Rattle.amqp_ser.specs.declared.compound.Parts.{Parts}
 use Rattle.amqp_ser.specs.Front.{Stands, renamed}
-use Rattle.amqp_ser.specs.Staged.{Before, plain, behind, IsListed, setting_behind, shape_behind, item_under, the_field, value_behind, HoldsBehind, HoldsValue, HoldsNone, HoldsAt, HoldsParts, HoldsStruct, HoldsRow, IsRow, IsApart, is_apart, struct_under, shape_under, AllThere, lacks_field, ClosesBehind, RefusesStart, Keeps, Awaits, OpensBehind}
+use Rattle.amqp_ser.specs.Staged.{Before, plain, behind, IsListed, setting_behind, shape_behind, item_under, the_field, value_behind, HoldsBehind, HoldsValue, HoldsNone, HoldsAt, HoldsParts, HoldsStruct, HoldsRow, IsRow, IsApart, is_apart, struct_under, shape_under, AllThere, lacks_field, ClosesBehind, RefusesStart, EndRefused, RowEndRefused, Keeps, Awaits, OpensBehind}
 use Rattle.amqp_ser.specs.declared.front.Front.{Front}
 use Rattle.amqp_ser.specs.declared.front.Front.TheVariants as front
 use Rattle.amqp_ser.specs.declared.staged.Encoding.{Encoding}
@@ -174,7 +174,6 @@ unfolding HoldsFields
 fields_out s o b fs g e is h = subst (λ z. HoldsStruct s z fs o g) (sym is) (subst (λ z. HoldsAt s plain (struct_shape s.setting) (fields_parts (struct_shape s.setting) fs) o g.front g.parts z) (sym e) (refl, h))
 
 pub plain_refused : (s t : State) (b : Before) (all : List FieldItem) (e : Error) → b ≡ plain → Refused s (struct_item s.setting all) e t → Refused s (struct_under b s.setting all) e t
-unfolding struct_item
 plain_refused s t b all e is h = subst (λ z. Refused s (struct_under z s.setting all) e t) (sym is) h
 
 -- behind a descriptor they are those of a struct under a setting of their own
@@ -334,3 +333,18 @@ pub row_shape : (x : Encoding) (d : Descriptor) → IsRow (behind x d) → shape
 row_shape by.List d h = refl
 row_shape by.Map d h = absurd h
 row_shape by.Basic d h = refl
+
+-- a struct is the item of its parts
+pub struct_is : (b : Before) (k : Setting) (fs : List FieldItem) → item_under b (shape_under b k) (fields_parts (shape_under b k) fs) ≡ struct_under b k fs
+unfolding struct_item
+struct_is plain k fs = refl
+struct_is (behind x d) k fs = refl
+
+pub ends_refused : (s t : State) (b : Before) (fs : List FieldItem) (e : Error) → (lacks_field b (fields_parts (shape_under b s.setting) fs) ≡ false → Refused s (item_under b (shape_under b s.setting) (fields_parts (shape_under b s.setting) fs)) e t) → EndRefused s b fs e t
+unfolding struct_item
+ends_refused s t plain fs e h = h refl
+ends_refused s t (behind x d) fs e h = h
+
+pub row_ends_refused : (s t : State) (b : Before) (xs : List Item) (e : Error) → (lacks_field b xs ≡ false → Refused s (item_under b Shape.List xs) e t) → RowEndRefused s b xs e t
+row_ends_refused s t plain xs e h = h refl
+row_ends_refused s t (behind x d) xs e h = h

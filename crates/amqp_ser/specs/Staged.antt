@@ -10,7 +10,7 @@ use Rattle.amqp_base.specs.declared.shape.Setting.TheVariants.{Plain, DescribedM
 use Rattle.amqp_base.specs.declared.shape.Shape.{Shape}
 use Rattle.amqp_base.specs.Item.{Descriptor, Item, scalar, null, described}
 use Rattle.amqp_base.specs.Shapes.{whole}
-use Rattle.amqp_base.specs.Structs.{FieldItem, fields_parts, struct_shape}
+use Rattle.amqp_base.specs.Structs.{FieldItem, fields_parts, struct_shape, struct_item}
 use Rattle.amqp_types.specs.Descriptors.{descriptor_of}
 use Rattle.amqp_ser.specs.State.{State, state}
 use Rattle.amqp_ser.specs.Law.{Kept, Wrote, Refused, Stops}
@@ -76,7 +76,8 @@ shape_under (behind x d) k = shape_behind x
 
 -- the item of a struct of these fields
 abbrev pub struct_under : Before → Setting → List FieldItem → Item
-struct_under b k fs = item_under b (shape_under b k) (fields_parts (shape_under b k) fs)
+struct_under plain k fs = struct_item k fs
+struct_under (behind x d) k fs = item_under (behind x d) (shape_behind x) (fields_parts (shape_behind x) fs)
 
 -- the fields are a list or a map behind the descriptor
 abbrev pub IsListed : Encoding → Type 0
@@ -200,6 +201,15 @@ lacks_field (behind by.Map d) xs = false
 lacks_field (behind by.Basic d) [] = true
 lacks_field (behind by.Basic d) (x ∷ xs) = is_rest xs
 
+-- where nothing stands before its fields a struct has none yet, else its descriptor comes first
+abbrev pub StartsAt : Option Encoding → State → State → Staged → Type 0
+StartsAt None s o g = HoldsStruct s plain [] o g
+StartsAt (Some x) s o g = Awaits s x o g
+
+abbrev pub RowStartsAt : Option Encoding → State → State → Staged → Type 0
+RowStartsAt None s o g = HoldsRow s plain [] o g
+RowStartsAt (Some x) s o g = Awaits s x o g
+
 -- a call that opens a struct, plain where nothing stands before its fields: refused as any of these would be, or because the serializer had ended
 pub record RefusesStart {A X : Type 0} (before : Option Encoding) (item : X → Item) (s : State) (r : Result A Error) (t : State) : Type 0 where
   pub law : before ≡ None → IfErr r (λ e. (x : X) → Refused s (item x) e t)
@@ -209,15 +219,15 @@ pub record RefusesStart {A X : Type 0} (before : Option Encoding) (item : X → 
 -- ---- of a serializer of a struct's fields
 
 -- it was opened on a serializer in the state s, and has these fields behind that
-abbrev pub HasFields : {W F : Type 0} → Write.Ghosts W → FaultCount.Ghosts W → State → Before → List FieldItem → Compound W F Staged → Type 0
+unfoldable pub HasFields : {W F : Type 0} → Write.Ghosts W → FaultCount.Ghosts W → State → Before → List FieldItem → Compound W F Staged → Type 0
 HasFields w f s b fs q = HoldsStruct s b fs (state w f q.ser.now) q.parts
 
 -- the same of a tuple struct
-abbrev pub HasRow : {W F : Type 0} → Write.Ghosts W → FaultCount.Ghosts W → State → Before → List Item → Compound W F Staged → Type 0
+unfoldable pub HasRow : {W F : Type 0} → Write.Ghosts W → FaultCount.Ghosts W → State → Before → List Item → Compound W F Staged → Type 0
 HasRow w f s b xs q = HoldsRow s b xs (state w f q.ser.now) q.parts
 
 -- its descriptor comes first
-abbrev pub AwaitsDescriptor : {W F : Type 0} → Write.Ghosts W → FaultCount.Ghosts W → State → Encoding → Compound W F Staged → Type 0
+unfoldable pub AwaitsDescriptor : {W F : Type 0} → Write.Ghosts W → FaultCount.Ghosts W → State → Encoding → Compound W F Staged → Type 0
 AwaitsDescriptor w f s x q = Awaits s x (state w f q.ser.now) q.parts
 
 -- a call was refused
@@ -227,3 +237,21 @@ HasEnded q = q.parts.stage ≡ at.Ended
 -- just one field is to be, and it isn't
 abbrev pub lacks_field_of : Before → Setting → List FieldItem → Bool
 lacks_field_of b k fs = lacks_field b (fields_parts (shape_under b k) fs)
+
+-- how it begins, by its name
+abbrev pub Starts : {W F : Type 0} → Option Encoding → Write.Ghosts W → FaultCount.Ghosts W → State → Compound W F Staged → Type 0
+Starts None w f s q = HasFields w f s plain [] q
+Starts (Some x) w f s q = AwaitsDescriptor w f s x q
+
+abbrev pub RowStarts : {W F : Type 0} → Option Encoding → Write.Ghosts W → FaultCount.Ghosts W → State → Compound W F Staged → Type 0
+RowStarts None w f s q = HasRow w f s plain [] q
+RowStarts (Some x) w f s q = AwaitsDescriptor w f s x q
+
+-- a struct was refused at its end, where it has as many fields as it is to have
+abbrev pub EndRefused : State → Before → List FieldItem → Error → State → Type 0
+EndRefused s plain fs e t = Refused s (struct_item s.setting fs) e t
+EndRefused s (behind x d) fs e t = lacks_field_of (behind x d) s.setting fs ≡ false → Refused s (struct_under (behind x d) s.setting fs) e t
+
+abbrev pub RowEndRefused : State → Before → List Item → Error → State → Type 0
+RowEndRefused s plain xs e t = Refused s (whole Shape.List xs) e t
+RowEndRefused s (behind x d) xs e t = lacks_field (behind x d) xs ≡ false → Refused s (item_under (behind x d) Shape.List xs) e t

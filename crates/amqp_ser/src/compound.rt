@@ -14,6 +14,7 @@ ghost use Rattle.amqp_ser.specs.Compound.{WritesPart, WritesEach, EndsWhole, End
 ghost use Rattle.amqp_ser.specs.Compound.{open_state, open_as, lacking, lacks, lacks_value};
 ghost use Rattle.amqp_ser.specs.Staged.{Before, HasFields, HasRow, AwaitsDescriptor, HasEnded};
 ghost use Rattle.amqp_ser.specs.Staged.{struct_under, item_under, lacks_field, lacks_field_of};
+ghost use Rattle.amqp_ser.specs.Staged.{EndRefused, RowEndRefused};
 ghost use Rattle.amqp_base.specs.Structs.{FieldItem};
 
 use crate::staged::end_staged;
@@ -161,9 +162,7 @@ impl<'a, W: Sink> StructSerializer<'a, W> {
             (struct_under b s.setting fs) (state W.Write W.FaultCount self.exit.0.now)) }
         ensures err { IfErr result (λ e. (s : State) (b : Before) (fs : List FieldItem) →
             HasFields W.Write W.FaultCount s b fs self.entry →
-            lacks_field_of b s.setting fs ≡ false →
-            Refused s (struct_under b s.setting fs) e
-            (state W.Write W.FaultCount self.exit.0.now)) }
+            EndRefused s b fs e (state W.Write W.FaultCount self.exit.0.now)) }
         ensures lacking { (s : State) (b : Before) (fs : List FieldItem) →
             HasFields W.Write W.FaultCount s b fs self.entry →
             lacks_field_of b s.setting fs ≡ true →
@@ -195,9 +194,7 @@ impl<'a, W: Sink> TupleStructSerializer<'a, W> {
             (item_under b Shape.List xs) (state W.Write W.FaultCount self.exit.0.now)) }
         ensures err { IfErr result (λ e. (s : State) (b : Before) (xs : List Item) →
             HasRow W.Write W.FaultCount s b xs self.entry →
-            lacks_field b xs ≡ false →
-            Refused s (item_under b Shape.List xs) e
-            (state W.Write W.FaultCount self.exit.0.now)) }
+            RowEndRefused s b xs e (state W.Write W.FaultCount self.exit.0.now)) }
         ensures lacking { (s : State) (b : Before) (xs : List Item) →
             HasRow W.Write W.FaultCount s b xs self.entry →
             lacks_field b xs ≡ true →

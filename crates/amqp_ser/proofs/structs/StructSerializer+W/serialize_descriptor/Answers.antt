@@ -1,12 +1,15 @@
 use Rattle.amqp_base.specs.Structs.{fields_parts}
-use Rattle.amqp_ser.specs.Staged.{shape_under, shape_behind}
+use Rattle.amqp_ser.specs.Staged.{shape_under, shape_behind, HasFields, AwaitsDescriptor}
 use Rattle.amqp_ser.proofs.structs.StructSerializer+W.serialize_descriptor.Goals as goal
 
 pub returns-in-Ok-clause-uncalled : goal.returns-in-Ok-clause-uncalled
+unfolding HasFields AwaitsDescriptor
 returns-in-Ok-clause-uncalled g c = λ s b fs h. c.in-Ok.ensures.uncalled s b (shape_under b s.setting) (fields_parts (shape_under b s.setting) fs) h
 
 pub returns-in-Err-clause-err : goal.returns-in-Err-clause-err
+unfolding HasFields AwaitsDescriptor
 returns-in-Err-clause-err g c = λ s x fs a. c.in-Err.ensures.err s x (fields_parts (shape_behind x) fs) a
 
 pub returns-in-Err-clause-uncalled : goal.returns-in-Err-clause-uncalled
+unfolding HasFields AwaitsDescriptor
 returns-in-Err-clause-uncalled g c = λ s b fs h. c.in-Err.ensures.uncalled s b (shape_under b s.setting) (fields_parts (shape_under b s.setting) fs) h
