@@ -200,6 +200,14 @@ impl<W: Sink> Serializer<W> {
     }
 }
 
+/// The refusal of a descriptor where none is awaited.
+#[cold]
+fn out_of_order() -> Error
+    ensures { result ≡ Error.InvalidValue }
+{
+    refused(Refusal::InvalidValue)
+}
+
 /// Writes the descriptor of a struct that awaits it.
 pub(crate) fn write_descriptor<W: Sink>(
     ser: &mut Serializer<W>,
@@ -230,7 +238,7 @@ pub(crate) fn write_descriptor<W: Sink>(
             }
             Encoding::Basic => of.keep(Setting::DescribedBasic, alloc, descriptor),
         },
-        _ => Err(refused(Refusal::InvalidValue)),
+        _ => Err(out_of_order()),
     }
 }
 
