@@ -338,12 +338,14 @@ row_shape by.Basic d h = refl
 pub struct_is : (b : Before) (k : Setting) (fs : List FieldItem) → item_under b (shape_under b k) (fields_parts (shape_under b k) fs) ≡ struct_under b k fs
 unfolding struct_item
 struct_is plain k fs = refl
-struct_is (behind x d) k fs = refl
+struct_is (behind by.List d) k fs = refl
+struct_is (behind by.Map d) k fs = refl
+struct_is (behind by.Basic d) k fs = refl
 
 pub ends_refused : (s t : State) (b : Before) (fs : List FieldItem) (e : Error) → (lacks_field b (fields_parts (shape_under b s.setting) fs) ≡ false → Refused s (item_under b (shape_under b s.setting) (fields_parts (shape_under b s.setting) fs)) e t) → EndRefused s b fs e t
 unfolding struct_item
 ends_refused s t plain fs e h = h refl
-ends_refused s t (behind x d) fs e h = h
+ends_refused s t (behind x d) fs e h = λ lack. subst (λ i. Refused s i e t) (struct_is (behind x d) s.setting fs) (h lack)
 
 pub row_ends_refused : (s t : State) (b : Before) (xs : List Item) (e : Error) → (lacks_field b xs ≡ false → Refused s (item_under b Shape.List xs) e t) → RowEndRefused s b xs e t
 row_ends_refused s t plain xs e h = h refl

@@ -75,9 +75,14 @@ shape_under plain k = struct_shape k
 shape_under (behind x d) k = shape_behind x
 
 -- the item of a struct of these fields
+abbrev pub fields_behind : Encoding → List FieldItem → Item
+fields_behind by.List fs = struct_item Plain fs
+fields_behind by.Map fs = struct_item DescribedMap fs
+fields_behind by.Basic fs = the_field (fields_parts Shape.List fs)
+
 abbrev pub struct_under : Before → Setting → List FieldItem → Item
 struct_under plain k fs = struct_item k fs
-struct_under (behind x d) k fs = item_under (behind x d) (shape_behind x) (fields_parts (shape_behind x) fs)
+struct_under (behind x d) k fs = described d (fields_behind x fs)
 
 -- the fields are a list or a map behind the descriptor
 abbrev pub IsListed : Encoding → Type 0

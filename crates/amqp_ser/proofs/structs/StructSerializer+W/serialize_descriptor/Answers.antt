@@ -1,5 +1,10 @@
+use Rattle.std.proofs.Common.{subst}
+use Rattle.amqp_types.specs.Descriptors.{descriptor_of}
+use Rattle.amqp_ser.specs.State.{state}
+use Rattle.amqp_ser.specs.Law.{Refused}
+use Rattle.amqp_ser.proofs.Stages.{struct_is}
 use Rattle.amqp_base.specs.Structs.{fields_parts}
-use Rattle.amqp_ser.specs.Staged.{shape_under, shape_behind, HasFields, AwaitsDescriptor}
+use Rattle.amqp_ser.specs.Staged.{behind, shape_under, shape_behind, HasFields, AwaitsDescriptor}
 use Rattle.amqp_ser.proofs.structs.StructSerializer+W.serialize_descriptor.Goals as goal
 
 pub returns-in-Ok-clause-uncalled : goal.returns-in-Ok-clause-uncalled
@@ -8,7 +13,7 @@ returns-in-Ok-clause-uncalled g c = λ s b fs h. c.in-Ok.ensures.uncalled s b (s
 
 pub returns-in-Err-clause-err : goal.returns-in-Err-clause-err
 unfolding HasFields AwaitsDescriptor
-returns-in-Err-clause-err g c = λ s x fs a. c.in-Err.ensures.err s x (fields_parts (shape_behind x) fs) a
+returns-in-Err-clause-err g c = λ s x fs a. subst (λ i. Refused s i c.in-Err.e (state g.W.Write g.W.FaultCount c.write_descriptor.new.ser)) (struct_is (behind x (descriptor_of c.args.descriptor.now)) s.setting fs) (c.in-Err.ensures.err s x (fields_parts (shape_behind x) fs) a)
 
 pub returns-in-Err-clause-uncalled : goal.returns-in-Err-clause-uncalled
 unfolding HasFields AwaitsDescriptor
