@@ -11,6 +11,7 @@ mod bytes;
 mod calls;
 mod constants;
 mod described;
+mod described_fields;
 mod described_structs;
 mod deserializer;
 mod empty_arrays;
