@@ -1,5 +1,5 @@
 -- From a descriptor and the value behind it to a described item that is written.
-use Rattle.std.proofs.Common.{◌≡◌, ℕ, ◌<◌, nat_lt, if◌then◌else◌, Bool, true, false, List, [], ◌∷◌, ◌++◌, length, Option, Some, None, Result, Ok, Err, refl, sym, ap, subst, ◌∙◌, arith, inl, inr, ◌⊎◌}
+use Rattle.std.proofs.Common.{◌≡◌, ℕ, nat_lt, if◌then◌else◌, Bool, true, false, List, [], ◌∷◌, ◌++◌, length, Option, Some, None, Result, Ok, Err, refl, sym, ap, subst, ◌∙◌, arith, inl, inr, ◌⊎◌}
 use Rattle.std.specs.declared.io.ErrorKind.TheVariants.{Other as IoOther}
 use Rattle.amqp_base.specs.declared.error.Error.{Error}
 use Rattle.amqp_base.specs.declared.error.Error.TheVariants.{Message, Io, InvalidFormatCode, InvalidValue, InvalidUtf8Encoding, SequenceLengthMismatch, InvalidLength, OutOfMemory}
@@ -19,13 +19,12 @@ use Rattle.amqp_ser.specs.State.{State, Planned, Mark, unmarked, first, other, m
 use Rattle.amqp_write.specs.State.{constructor_in}
 use Rattle.amqp_write.specs.declared.place.Constructor.TheVariants.{UnderPair}
 use Rattle.amqp_write.specs.Texts.{unwritten, payload_length}
-use Rattle.amqp_ser.specs.Law.{marked, why_unwritten, fits, is_next, text_for, found_after, plan_after, Goes, Took, Kept, Wrote, Refused, MayRefuse, Unwritten}
-use Rattle.amqp_write.specs.Appending.{Pays, NotWritten}
+use Rattle.amqp_ser.specs.Law.{marked, why_unwritten, fits, is_next, text_for, found_after, plan_after, Goes, Wrote, Refused}
+use Rattle.amqp_write.specs.Appending.{Pays}
 use Rattle.amqp_ser.specs.Describing.{describing, why_undescribed, IsOwn, WroteBehind, by_descriptor, RefusesAbsent}
 use Rattle.amqp_write.proofs.Steps.{kept_two, fits_nil}
 use Rattle.amqp_write.proofs.Counting.{goes_more}
-use Rattle.amqp_write.proofs.PartTexts.{bind_some}
-use Rattle.amqp_write.proofs.DescribedTexts.{behind_text, alone_text, first_text, first_code, first_without, alone_undescribed, first_undescribed, first_twice, other_text, why_described, why_no_descriptor}
+use Rattle.amqp_write.proofs.DescribedTexts.{alone_text, first_text, first_code, first_without, alone_undescribed, first_undescribed, first_twice, other_text, why_described, why_no_descriptor}
 use Rattle.amqp_write.proofs.WhyElsewhere.{canon_why, why_name, IsName}
 
 -- where an item has its own constructor, the mark of the code says all

@@ -1,23 +1,22 @@
 -- From what stands in front of a value, and the value behind it, to a described item that is written.
-use Rattle.std.proofs.Common.{◌≡◌, if◌then◌else◌, Bool, true, false, List, [], ◌∷◌, Option, Some, None, Result, Ok, Err, OnOk, IfErr, refl, sym, ap, subst, ◌∙◌, arith, inl, inr}
+use Rattle.std.proofs.Common.{◌≡◌, if◌then◌else◌, Bool, true, false, List, Option, Some, None, Result, Ok, Err, refl, sym, ap, subst, ◌∙◌}
 use Rattle.std.specs.declared.io.ErrorKind.TheVariants.{Other as IoOther}
 use Rattle.amqp_base.specs.declared.error.Error.{Error}
 use Rattle.amqp_base.specs.declared.error.Error.TheVariants.{Message, Io, InvalidFormatCode, InvalidValue, InvalidUtf8Encoding, SequenceLengthMismatch, InvalidLength, OutOfMemory}
 use Rattle.amqp_base.specs.declared.format_code.EncodingCodes.{EncodingCodes}
 use Rattle.amqp_base.specs.declared.shape.Setting.{Setting}
-use Rattle.amqp_base.specs.declared.shape.Setting.TheVariants.{DescribedBasic}
 use Rattle.amqp_base.specs.Item.{Descriptor, Item, described}
 use Rattle.amqp_base.specs.Wire.{Constructor, under, under_pair}
-use Rattle.amqp_base.specs.Canon.{kind_code, descriptor_text}
+use Rattle.amqp_base.specs.Canon.{kind_code}
 use Rattle.amqp_types.specs.Descriptors.{descriptor_of}
-use Rattle.amqp_ser.specs.State.{State, Mark, unmarked, first, other}
+use Rattle.amqp_ser.specs.State.{State, Mark, unmarked, first}
 use Rattle.amqp_ser.specs.Law.{marked, text_for, found_after, Wrote, Refused}
-use Rattle.amqp_ser.specs.Compound.{back, outer_in, Open, Holds, Complete, is_map, shape_code}
+use Rattle.amqp_ser.specs.Compound.{back, Open, Holds, Complete, is_map, shape_code}
 use Rattle.amqp_ser.specs.Staged.{ClosesBehind}
 use Rattle.amqp_base.specs.Shapes.{whole}
 use Rattle.amqp_base.specs.declared.shape.Shape.{Shape}
-use Rattle.amqp_ser.specs.Describing.{describing, why_undescribed, by_descriptor, RefusesAbsent, WroteBehind, IsOwn}
-use Rattle.amqp_ser.specs.Front.{PutsFront, Shares, Stands, long_first, renamed, ClosesFront}
+use Rattle.amqp_ser.specs.Describing.{why_undescribed, by_descriptor, RefusesAbsent, WroteBehind, IsOwn}
+use Rattle.amqp_ser.specs.Front.{PutsFront, Stands, long_first, renamed, ClosesFront}
 use Rattle.amqp_ser.specs.declared.front.Front.{Front}
 use Rattle.amqp_ser.specs.declared.front.Front.TheVariants as at
 use Rattle.amqp_ser.specs.declared.compound.Outer.{Outer}

@@ -1,5 +1,5 @@
 -- The stages of a struct that is written field by field.
-use Rattle.std.proofs.Common.{◌≡◌, ℕ, Option, Some, None, Bool, true, false, List, [], ◌∷◌, ◌++◌, Result, Ok, Err, OnOk, IfErr, refl, sym, ap, subst, ◌∙◌, inl, inr}
+use Rattle.std.proofs.Common.{◌≡◌, ℕ, Option, Some, None, Bool, true, false, List, [], ◌∷◌, ◌++◌, Result, Ok, Err, OnOk, IfErr, refl, sym, ap, subst, ◌∙◌}
 use Rattle.std.proofs.lemmas.Result.{IfErr-weaker}
 use Rattle.amqp_base.specs.declared.error.Error.{Error}
 use Rattle.amqp_base.specs.declared.shape.Setting.{Setting}
@@ -9,7 +9,7 @@ use Rattle.amqp_types.specs.declared.described.Descriptor.{Descriptor as OwnDesc
 use Rattle.amqp_types.specs.Descriptors.{descriptor_of}
 use Rattle.amqp_ser.specs.State.{State, answering}
 use Rattle.amqp_ser.specs.Law.{Wrote, Refused}
-use Rattle.amqp_ser.specs.Compound.{Open, Holds, HoldsFields, open_parts, is_map, BeginsWith, Complete, EndsWhole, RefusesOpen}
+use Rattle.amqp_ser.specs.Compound.{Holds, HoldsFields, open_parts, is_map, BeginsWith, EndsWhole, RefusesOpen}
 use Rattle.amqp_base.specs.Shapes.{whole, setting_inside}
 use Rattle.amqp_base.specs.Structs.{FieldItem, named, fields_parts, struct_shape, struct_item}
 use Rattle.amqp_base.specs.declared.shape.Setting.TheVariants.{Plain, DescribedMap}
@@ -18,7 +18,7 @@ use Rattle.amqp_ser.proofs.Fronts.{stands_refused}
 use Rattle.amqp_ser.proofs.FieldParts.{fields_complete, fields_lack}
 use Rattle.amqp_ser.specs.declared.compound.Parts.{Parts}
 use Rattle.amqp_ser.specs.Front.{Stands, renamed}
-use Rattle.amqp_ser.specs.Staged.{Before, plain, behind, IsListed, setting_behind, shape_behind, item_under, the_field, value_behind, HoldsBehind, HoldsValue, HoldsNone, HoldsAt, HoldsParts, HoldsStruct, HoldsRow, IsRow, IsApart, is_apart, struct_under, shape_under, AllThere, lacks_field, ClosesBehind, RefusesStart, EndRefused, RowEndRefused, Keeps, Awaits, OpensBehind}
+use Rattle.amqp_ser.specs.Staged.{Before, plain, behind, IsListed, setting_behind, shape_behind, item_under, value_behind, HoldsBehind, HoldsValue, HoldsNone, HoldsAt, HoldsParts, HoldsStruct, HoldsRow, IsRow, IsApart, is_apart, struct_under, shape_under, AllThere, lacks_field, ClosesBehind, RefusesStart, EndRefused, RowEndRefused, Keeps, Awaits, OpensBehind}
 use Rattle.amqp_ser.specs.declared.front.Front.{Front}
 use Rattle.amqp_ser.specs.declared.front.Front.TheVariants as front
 use Rattle.amqp_ser.specs.declared.staged.Encoding.{Encoding}

@@ -1,5 +1,5 @@
 -- What stands in front of a value that is written behind a descriptor, part by part.
-use Rattle.std.specs.Prelude.{◌≡◌, ℕ, Bool, true, false, List, Some, None, Result, Ok, Err, ⊤, [], if◌then◌else◌}
+use Rattle.std.specs.Prelude.{◌≡◌, Bool, true, false, Some, None, Result, Ok, Err, [], if◌then◌else◌}
 use Rattle.std.specs.declared.io.ErrorKind.TheVariants.{Other as IoOther}
 use Rattle.amqp_base.specs.declared.error.Error.{Error}
 use Rattle.amqp_base.specs.declared.error.Error.TheVariants.{Io, InvalidValue}
@@ -13,7 +13,7 @@ use Rattle.amqp_write.specs.Appending.{Pays}
 use Rattle.amqp_ser.specs.State.{State, unmarked, first, other}
 use Rattle.amqp_ser.specs.Law.{marked}
 use Rattle.amqp_ser.specs.Compound.{Back, back, outer_in}
-use Rattle.amqp_ser.specs.Describing.{describing, why_undescribed, IsOwn, by_descriptor}
+use Rattle.amqp_ser.specs.Describing.{describing, why_undescribed}
 use Rattle.amqp_ser.specs.declared.front.Front.{Front}
 use Rattle.amqp_ser.specs.declared.front.Front.TheVariants as at
 

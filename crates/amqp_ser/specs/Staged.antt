@@ -1,5 +1,5 @@
 -- A struct that is written field by field, plain or behind a descriptor.
-use Rattle.std.specs.Prelude.{◌≡◌, ⊤, Bool, true, false, not, if◌then◌else◌, ℕ, List, [], ◌∷◌, ◌++◌, Option, Some, None, Result, Ok, Err, OnOk, OnErr, IfErr, bytes_eq}
+use Rattle.std.specs.Prelude.{◌≡◌, ⊤, Bool, true, false, if◌then◌else◌, ℕ, List, [], ◌∷◌, Option, Some, None, Result, Err, OnOk, OnErr, IfErr, bytes_eq}
 use Rattle.std.specs.declared.io.Write as Write
 use Rattle.amqp_base.specs.declared.fault.FaultCount as FaultCount
 use Rattle.amqp_base.specs.declared.constants.TheConstants.{DESCRIBED_LIST, DESCRIBED_MAP, DESCRIBED_BASIC}
@@ -13,8 +13,8 @@ use Rattle.amqp_base.specs.Shapes.{whole}
 use Rattle.amqp_base.specs.Structs.{FieldItem, fields_parts, struct_shape, struct_item}
 use Rattle.amqp_types.specs.Descriptors.{descriptor_of}
 use Rattle.amqp_ser.specs.State.{State, state}
-use Rattle.amqp_ser.specs.Law.{Kept, Wrote, Refused, Stops}
-use Rattle.amqp_ser.specs.Compound.{Open, Holds, open_parts, is_map, BeginsWith, Complete, lacking}
+use Rattle.amqp_ser.specs.Law.{Wrote, Refused, Stops}
+use Rattle.amqp_ser.specs.Compound.{Open, Holds, open_parts, is_map, Complete, lacking}
 use Rattle.amqp_ser.specs.Front.{Stands}
 use Rattle.amqp_ser.specs.declared.compound.Compound.{Compound}
 use Rattle.amqp_ser.specs.declared.front.Front.{Front}

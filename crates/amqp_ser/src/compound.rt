@@ -1,7 +1,8 @@
 //! What is common to all compounds: their parts so far.
 
 ghost use Rattle.std.specs.Prelude.{◌≡◌, ◌≢◌, ◌+◌, ◌==◌, ◌%◌, ◌++◌};
-ghost use Rattle.std.specs.Prelude.{Some, None, ◌∷◌, ℕ, Bool, List, [], true, false, IfOk, IfErr, OnOk};
+ghost use Rattle.std.specs.Prelude.{Some, None, ◌∷◌, ℕ, Bool, List, [], true, false, IfOk};
+ghost use Rattle.std.specs.Prelude.{IfErr, OnOk};
 ghost use Rattle.std.specs.Prelude.{OnErr, Err};
 ghost use Rattle.amqp_base.specs.Item.{Item};
 ghost use Rattle.amqp_base.specs.Shapes.{whole, setting_inside};
@@ -10,7 +11,8 @@ ghost use Rattle.amqp_write.specs.declared.pass.Opened.TheVariants.{Buffered as 
 ghost use Rattle.amqp_ser.specs.Law.{Wrote, Refused};
 ghost use Rattle.amqp_ser.specs.Compound.{the_buffer, open_parts, awaits_value, Empty, Run, Holds};
 ghost use Rattle.amqp_ser.specs.Compound.{Complete, BeginsWith, EndsCompound, Keeps};
-ghost use Rattle.amqp_ser.specs.Compound.{WritesPart, WritesEach, EndsWhole, EndsStruct, part_in, outside_in};
+ghost use Rattle.amqp_ser.specs.Compound.{WritesPart, WritesEach, EndsWhole, EndsStruct};
+ghost use Rattle.amqp_ser.specs.Compound.{part_in, outside_in};
 ghost use Rattle.amqp_ser.specs.Compound.{open_state, open_as, lacking, lacks, lacks_value};
 ghost use Rattle.amqp_ser.specs.Staged.{Before, HasFields, HasRow, AwaitsDescriptor, HasEnded};
 ghost use Rattle.amqp_ser.specs.Staged.{struct_under, item_under, lacks_field, lacks_field_of};

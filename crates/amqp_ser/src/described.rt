@@ -83,8 +83,8 @@ impl<W: Sink> Serializer<W> {
         }
     }
 
-    /// Writes 00 and a descriptor (section 1.2): no whole item, since the value that it describes is
-    /// to be written next, and nothing else. It takes no memory of its own.
+    /// Writes 00 and a descriptor (section 1.2): no whole item, since the value that it describes
+    /// is to be written next, and nothing else. It takes no memory of its own.
     ///
     /// `Io(Other)`: the descriptor is longer than 4,294,967,291 bytes. `InvalidValue`: it is to
     /// stand in an array, where a value is written with its descriptor by `Described`.
@@ -132,14 +132,10 @@ impl<W: Sink> Serializer<W> {
         ensures ended { OnErr result (self.new.place.ended ≡ true) }
     {
         let setting = self.place.setting;
-        let mark = self.place.mark;
-        self.place.mark = Mark::Unmarked;
-        match self.place.descriptor(&mut self.writer, descriptor) {
+        match self.put_descriptor(descriptor) {
             Ok(()) => {}
-            Err(e) => return Err(refused(e)),
+            Err(e) => return Err(e),
         }
-        self.place.mark = mark;
-        self.place.setting = Setting::DescribedBasic;
         match value.serialize(alloc, self) {
             Ok(()) => {
                 self.place.setting = setting;

@@ -111,7 +111,7 @@ impl<W: Sink> Serializer<W> {
 
     /// Writes 00 and a descriptor where an item with its own constructor is to stand.
     #[inline(always)]
-    fn put_descriptor(&mut self, descriptor: &Descriptor) -> Result<(), Error>
+    pub(crate) fn put_descriptor(&mut self, descriptor: &Descriptor) -> Result<(), Error>
         requires answers { self.old.place.ended ≡ false }
         requires own { IsOwn (state W.Write W.FaultCount self.old).mark }
         ensures ok { OnOk result (PutsFront (state W.Write W.FaultCount self.old)
@@ -120,6 +120,7 @@ impl<W: Sink> Serializer<W> {
             Refused (state W.Write W.FaultCount self.old)
             (described (descriptor_of descriptor.now) v) e
             (state W.Write W.FaultCount self.new)) }
+        ensures ended { OnErr result (self.new.place.ended ≡ true) }
     {
         let mark = self.place.mark;
         self.place.mark = Mark::Unmarked;

@@ -187,8 +187,9 @@ impl<W: Sink> Serializer<W> {
     /// Writes the compound behind a descriptor that has these parts, and what is to stand behind
     /// both.
     fn close_behind(&mut self, front: Front, parts: Parts) -> Result<(), Error>
-        ensures { ClosesBehind front (λ pairs. open_parts pairs (state W.Write W.FaultCount self.old) parts)
-            result (state W.Write W.FaultCount self.new) }
+        ensures { ClosesBehind front
+            (λ pairs. open_parts pairs (state W.Write W.FaultCount self.old) parts) result
+            (state W.Write W.FaultCount self.new) }
     {
         match self.close(parts) {
             Ok(()) => self.close_front(front),

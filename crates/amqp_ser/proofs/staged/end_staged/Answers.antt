@@ -1,4 +1,3 @@
-use Rattle.amqp_ser.specs.State.{state}
 use Rattle.amqp_ser.proofs.Stages.{plain_wrote, plain_end_refused, behind_wrote, behind_end_refused}
 use Rattle.amqp_ser.proofs.staged.end_staged.Goals as goal
 

@@ -1,6 +1,5 @@
-use Rattle.std.proofs.Common.{refl, true, false, sym, ◌∙◌}
+use Rattle.std.proofs.Common.{refl, sym, ◌∙◌}
 use Rattle.std.proofs.lemmas.Result.{IfErr-weaker, on_ok_weaker}
-use Rattle.amqp_base.specs.Structs.{named}
 use Rattle.amqp_write.proofs.PartTexts.{true_false}
 use Rattle.amqp_ser.specs.State.{state}
 use Rattle.amqp_write.specs.State.{stand}
