@@ -13,9 +13,7 @@ use Rattle.amqp_base.specs.Wire.{Constructor, under, under_pair}
 use Rattle.amqp_base.specs.Canon.{◌>>=◌, when, limit, kind_code, descriptor_text, same_descriptor, canon}
 use Rattle.amqp_base.specs.Sizes.{Size, sizes}
 use Rattle.amqp_types.specs.declared.described.Descriptor.{Descriptor as OwnDescriptor}
-use Rattle.amqp_write.specs.declared.place.Mark.{Mark as CodeMark}
-use Rattle.amqp_write.specs.declared.place.Mark.TheVariants.{Unmarked, First, Other}
-use Rattle.amqp_ser.specs.State.{State, Planned, Mark, unmarked, first, other, mark_in}
+use Rattle.amqp_ser.specs.State.{State, Planned, Mark, unmarked, first, other}
 use Rattle.amqp_write.specs.State.{constructor_in}
 use Rattle.amqp_write.specs.declared.place.Constructor.TheVariants.{UnderPair}
 use Rattle.amqp_write.specs.Texts.{unwritten, payload_length}
@@ -26,12 +24,6 @@ use Rattle.amqp_write.proofs.Steps.{kept_two, fits_nil}
 use Rattle.amqp_write.proofs.Counting.{goes_more}
 use Rattle.amqp_write.proofs.DescribedTexts.{alone_text, first_text, first_code, first_without, alone_undescribed, first_undescribed, first_twice, other_text, why_described, why_no_descriptor}
 use Rattle.amqp_write.proofs.WhyElsewhere.{canon_why, why_name, IsName}
-
--- where an item has its own constructor, the mark of the code says all
-pub own_mark : (d e : Option OwnDescriptor) (m : CodeMark) → IsOwn (mark_in d m) → mark_in e m ≡ mark_in d m
-own_mark d e Unmarked h = refl
-own_mark d e First h = refl
-own_mark d e (Other c) h = absurd h
 
 some_not : {A : Type 0} (x : A) → Some x ≡ None → ⊥
 some_not x h = cc
