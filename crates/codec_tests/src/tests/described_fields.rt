@@ -31,6 +31,16 @@ fn puts<W: Sink>(of: &mut StructSerializer<'_, W>, alloc: Global, put: Put) -> b
     }
 }
 
+/// The steps are answered so, one behind the other.
+fn puts_each<W: Sink>(of: &mut StructSerializer<'_, W>, alloc: Global, steps: &[Put]) -> bool {
+    for put in steps {
+        if !puts(of, alloc, *put) {
+            return false;
+        }
+    }
+    true
+}
+
 /// The steps are answered so, and the end behind them.
 fn puts_all<W: Sink>(
     of: StructSerializer<'_, W>,
@@ -39,11 +49,7 @@ fn puts_all<W: Sink>(
     want: Answer,
 ) -> bool {
     let mut of = of;
-    let mut so = true;
-    for put in steps {
-        let answered = puts(&mut of, alloc, *put);
-        so = so && answered;
-    }
+    let so = puts_each(&mut of, alloc, steps);
     let ended = told(of.end());
     so && ended == want
 }
@@ -169,6 +175,20 @@ fn puts_next<W: Sink>(of: &mut TupleStructSerializer<'_, W>, alloc: Global, put:
     }
 }
 
+/// The steps are answered so, one behind the other.
+fn puts_each_next<W: Sink>(
+    of: &mut TupleStructSerializer<'_, W>,
+    alloc: Global,
+    steps: &[Put],
+) -> bool {
+    for put in steps {
+        if !puts_next(of, alloc, *put) {
+            return false;
+        }
+    }
+    true
+}
+
 /// The steps are answered so, and the end behind them.
 fn puts_row<W: Sink>(
     of: TupleStructSerializer<'_, W>,
@@ -177,11 +197,7 @@ fn puts_row<W: Sink>(
     want: Answer,
 ) -> bool {
     let mut of = of;
-    let mut so = true;
-    for put in steps {
-        let answered = puts_next(&mut of, alloc, *put);
-        so = so && answered;
-    }
+    let so = puts_each_next(&mut of, alloc, steps);
     let ended = told(of.end());
     so && ended == want
 }
