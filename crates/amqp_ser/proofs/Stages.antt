@@ -1,5 +1,5 @@
 -- The stages of a struct that is written field by field.
-use Rattle.std.proofs.Common.{◌≡◌, ℕ, Option, Some, None, Bool, true, false, List, [], ◌∷◌, ◌++◌, Result, Ok, Err, OnOk, IfErr, refl, sym, ap, subst, ◌∙◌}
+use Rattle.std.proofs.Common.{◌≡◌, ℕ, Option, Some, None, Bool, true, false, List, [], ◌∷◌, ◌++◌, Result, Ok, Err, OnOk, OnErr, IfErr, refl, sym, ap, subst, ◌∙◌}
 use Rattle.std.proofs.lemmas.Result.{IfErr-weaker}
 use Rattle.amqp_base.specs.declared.error.Error.{Error}
 use Rattle.amqp_base.specs.declared.shape.Setting.{Setting}
@@ -8,8 +8,10 @@ use Rattle.amqp_base.specs.Item.{Descriptor, Item, described}
 use Rattle.amqp_types.specs.declared.described.Descriptor.{Descriptor as OwnDescriptor}
 use Rattle.amqp_types.specs.Descriptors.{descriptor_of}
 use Rattle.amqp_ser.specs.State.{State, answering}
-use Rattle.amqp_ser.specs.Law.{Wrote, Refused}
-use Rattle.amqp_ser.specs.Compound.{Holds, HoldsFields, open_parts, is_map, BeginsWith, EndsWhole, RefusesOpen}
+use Rattle.amqp_ser.specs.Law.{Kept, Wrote, Refused}
+use Rattle.amqp_ser.specs.Compound.{Holds, HoldsFields, open_parts, is_map, BeginsWith, EndsWhole, RefusesOpen, Back, outer_of, outer_in}
+use Rattle.amqp_ser.specs.Compound.{Keeps as KeepsOpen}
+use Rattle.amqp_write.specs.declared.pass.Opened.{Opened}
 use Rattle.amqp_base.specs.Shapes.{whole, setting_inside}
 use Rattle.amqp_base.specs.Structs.{FieldItem, named, fields_parts, struct_shape, struct_item}
 use Rattle.amqp_base.specs.declared.shape.Setting.TheVariants.{Plain, DescribedMap}
@@ -18,7 +20,7 @@ use Rattle.amqp_ser.proofs.Fronts.{stands_refused}
 use Rattle.amqp_ser.proofs.FieldParts.{fields_complete, fields_lack}
 use Rattle.amqp_ser.specs.declared.compound.Parts.{Parts}
 use Rattle.amqp_ser.specs.Front.{Stands, renamed}
-use Rattle.amqp_ser.specs.Staged.{Before, plain, behind, IsListed, setting_behind, shape_behind, item_under, value_behind, HoldsBehind, HoldsValue, HoldsNone, HoldsAt, HoldsParts, HoldsStruct, HoldsRow, IsRow, IsApart, is_apart, struct_under, shape_under, AllThere, lacks_field, ClosesBehind, RefusesStart, EndRefused, RowEndRefused, Keeps, Awaits, OpensBehind}
+use Rattle.amqp_ser.specs.Staged.{Before, plain, behind, IsListed, setting_behind, shape_behind, item_under, value_behind, HoldsBehind, HoldsValue, HoldsNone, HoldsAt, HoldsParts, HoldsStruct, HoldsRow, IsRow, IsApart, is_apart, struct_under, shape_under, AllThere, lacks_field, ClosesBehind, RefusesStart, EndRefused, RowEndRefused, KeepsHeld, EndsHeld, Keeps, Awaits, OpensBehind}
 use Rattle.amqp_ser.specs.declared.front.Front.{Front}
 use Rattle.amqp_ser.specs.declared.front.Front.TheVariants as front
 use Rattle.amqp_ser.specs.declared.staged.Encoding.{Encoding}
@@ -350,3 +352,31 @@ ends_refused s t (behind x d) fs e h = λ lack. subst (λ i. Refused s i e t) (s
 pub row_ends_refused : (s t : State) (b : Before) (xs : List Item) (e : Error) → (lacks_field b xs ≡ false → Refused s (item_under b Shape.List xs) e t) → RowEndRefused s b xs e t
 row_ends_refused s t plain xs e h = h refl
 row_ends_refused s t (behind x d) xs e h = h
+
+-- ---- what is kept
+
+-- a serializer that a compound holds keeps what it is to be when the compound has ended
+outer_keeps : (a b : Opened) (o n : State) (x y : Back) → Kept (outer_of a o x) (outer_of b n y) → Kept o n
+outer_keeps Opened.Buffered Opened.Buffered o n x y h = h
+outer_keeps Opened.Buffered (Opened.Measured i j) o n x y h = record { bytes = h.bytes; faults = h.faults; grows = h.grows }
+outer_keeps Opened.Buffered (Opened.Written i j) o n x y h = record { bytes = h.bytes; faults = h.faults; grows = h.grows }
+outer_keeps (Opened.Measured k l) Opened.Buffered o n x y h = record { bytes = h.bytes; faults = h.faults; grows = h.grows }
+outer_keeps (Opened.Measured k l) (Opened.Measured i j) o n x y h = record { bytes = h.bytes; faults = h.faults; grows = h.grows }
+outer_keeps (Opened.Measured k l) (Opened.Written i j) o n x y h = record { bytes = h.bytes; faults = h.faults; grows = h.grows }
+outer_keeps (Opened.Written k l) Opened.Buffered o n x y h = record { bytes = h.bytes; faults = h.faults; grows = h.grows }
+outer_keeps (Opened.Written k l) (Opened.Measured i j) o n x y h = record { bytes = h.bytes; faults = h.faults; grows = h.grows }
+outer_keeps (Opened.Written k l) (Opened.Written i j) o n x y h = record { bytes = h.bytes; faults = h.faults; grows = h.grows }
+
+outer_ended : (a : Opened) (o : State) (x : Back) → (outer_of a o x).ended ≡ o.ended
+outer_ended Opened.Buffered o x = refl
+outer_ended (Opened.Measured i j) o x = refl
+outer_ended (Opened.Written i j) o x = refl
+
+pub parts_keep : (p r : Parts) (o n : State) → KeepsOpen (open_parts false o p) (open_parts false n r) → KeepsHeld o n
+parts_keep p r o n h = record {
+  kept = outer_keeps p.opened r.opened o n (outer_in p.outer) (outer_in r.outer) h.kept;
+  held = λ e. sym (outer_ended r.opened n (outer_in r.outer)) ∙ h.ended (outer_ended p.opened o (outer_in p.outer) ∙ e);
+}
+
+pub ends_held : {A : Type 0} (s : State) (r : Result A Error) (t : State) → Kept s t → OnErr r (s.ended ≡ true → t.ended ≡ true) → EndsHeld s r t
+ends_held s r t k h = record { kept = k; held = h }

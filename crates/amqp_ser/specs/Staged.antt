@@ -13,7 +13,7 @@ use Rattle.amqp_base.specs.Shapes.{whole}
 use Rattle.amqp_base.specs.Structs.{FieldItem, fields_parts, struct_shape, struct_item}
 use Rattle.amqp_types.specs.Descriptors.{descriptor_of}
 use Rattle.amqp_ser.specs.State.{State, state}
-use Rattle.amqp_ser.specs.Law.{Wrote, Refused, Stops}
+use Rattle.amqp_ser.specs.Law.{Kept, Wrote, Refused, Stops}
 use Rattle.amqp_ser.specs.Compound.{Open, Holds, open_parts, is_map, Complete, lacking}
 use Rattle.amqp_ser.specs.Front.{Stands}
 use Rattle.amqp_ser.specs.declared.compound.Compound.{Compound}
@@ -165,10 +165,10 @@ pub record Awaits (s : State) (x : Encoding) (o : State) (g : Staged) : Type 0 w
   pub answered : s.ended ≡ false
   pub held : o ≡ record s { ended = true }
 
--- a refusal ends the struct, and each call of an ended one is refused
-pub record EndsStage {A : Type 0} (g : Staged) (r : Result A Error) (h : Staged) : Type 0 where
+-- a refusal ends the struct, and a call of an ended one is refused and changes nothing
+pub record EndsStage {A : Type 0} (s : State) (g : Staged) (r : Result A Error) (t : State) (h : Staged) : Type 0 where
   pub err : OnErr r (h.stage ≡ at.Ended)
-  pub ended : g.stage ≡ at.Ended → r ≡ Err InvalidValue
+  pub ended : g.stage ≡ at.Ended → (r ≡ Err InvalidValue) × (t ≡ s) × (h ≡ g)
 
 -- a descriptor was put in front, and behind it a compound opened
 pub record OpensBehind (s : State) (d : Descriptor) (k : Setting) (shape : Shape) (f : Front) (q : Open) : Type 0 where
@@ -260,3 +260,13 @@ EndRefused s (behind x d) fs e t = lacks_field_of (behind x d) s.setting fs ≡ 
 abbrev pub RowEndRefused : State → Before → List Item → Error → State → Type 0
 RowEndRefused s plain xs e t = Refused s (whole Shape.List xs) e t
 RowEndRefused s (behind x d) xs e t = lacks_field (behind x d) xs ≡ false → Refused s (item_under (behind x d) Shape.List xs) e t
+
+-- what every call keeps: the writer's bytes stay in front, and a serializer that answers nothing doesn't answer again
+pub record KeepsHeld (s t : State) : Type 0 where
+  pub kept : Kept s t
+  pub held : s.ended ≡ true → t.ended ≡ true
+
+-- what an end keeps, whose success alone lets the serializer answer again
+pub record EndsHeld {A : Type 0} (s : State) (r : Result A Error) (t : State) : Type 0 where
+  pub kept : Kept s t
+  pub held : OnErr r (s.ended ≡ true → t.ended ≡ true)

@@ -16,7 +16,7 @@ ghost use Rattle.amqp_ser.specs.Compound.{part_in, outside_in};
 ghost use Rattle.amqp_ser.specs.Compound.{open_state, open_as, lacking, lacks, lacks_value};
 ghost use Rattle.amqp_ser.specs.Staged.{Before, HasFields, HasRow, AwaitsDescriptor, HasEnded};
 ghost use Rattle.amqp_ser.specs.Staged.{struct_under, item_under, lacks_field, lacks_field_of};
-ghost use Rattle.amqp_ser.specs.Staged.{EndRefused, RowEndRefused};
+ghost use Rattle.amqp_ser.specs.Staged.{EndRefused, RowEndRefused, EndsHeld};
 ghost use Rattle.amqp_base.specs.Structs.{FieldItem};
 
 use crate::staged::end_staged;
@@ -172,6 +172,8 @@ impl<'a, W: Sink> StructSerializer<'a, W> {
         ensures early { (s : State) (x : _) →
             AwaitsDescriptor W.Write W.FaultCount s x self.entry →
             result ≡ Err Error.InvalidValue }
+        ensures kept { EndsHeld (state W.Write W.FaultCount self.entry.ser.now) result
+            (state W.Write W.FaultCount self.exit.0.now) }
         ensures ended { HasEnded self.entry → result ≡ Err Error.InvalidValue }
     {
         let Compound {
@@ -204,6 +206,8 @@ impl<'a, W: Sink> TupleStructSerializer<'a, W> {
         ensures early { (s : State) (x : _) →
             AwaitsDescriptor W.Write W.FaultCount s x self.entry →
             result ≡ Err Error.InvalidValue }
+        ensures kept { EndsHeld (state W.Write W.FaultCount self.entry.ser.now) result
+            (state W.Write W.FaultCount self.exit.0.now) }
         ensures ended { HasEnded self.entry → result ≡ Err Error.InvalidValue }
     {
         let Compound {

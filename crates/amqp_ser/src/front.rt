@@ -5,7 +5,7 @@ ghost use Rattle.amqp_base.specs.Canon.{descriptor_text};
 ghost use Rattle.amqp_base.specs.Item.{Item, described};
 ghost use Rattle.amqp_types.specs.Descriptors.{descriptor_of};
 ghost use Rattle.amqp_ser.specs.State.{state};
-ghost use Rattle.amqp_ser.specs.Law.{Refused, Wrote};
+ghost use Rattle.amqp_ser.specs.Law.{Refused, Kept};
 ghost use Rattle.amqp_ser.specs.Describing.{IsOwn};
 ghost use Rattle.amqp_ser.specs.Front.{PutsFront, Stands, long_first, renamed, ClosesFront};
 
@@ -138,8 +138,11 @@ impl<W: Sink> Serializer<W> {
     ///
     /// `InvalidValue`: no value behind this descriptor can stand here.
     pub(crate) fn close_front(&mut self, front: Front) -> Result<(), Error>
-        ensures { ClosesFront front (state W.Write W.FaultCount self.old) result
+        ensures law { ClosesFront front (state W.Write W.FaultCount self.old) result
             (state W.Write W.FaultCount self.new) }
+        ensures kept { Kept (state W.Write W.FaultCount self.old)
+            (state W.Write W.FaultCount self.new) }
+        ensures ended { OnErr result ((state W.Write W.FaultCount self.new).ended ≡ true) }
     {
         match front {
             Front::Alone(setting) => {
@@ -155,7 +158,10 @@ impl<W: Sink> Serializer<W> {
                     Ok(())
                 }
                 // no compound is described itself
-                _ => Err(refused(Refusal::InvalidValue)),
+                _ => {
+                    self.place.ended = true;
+                    Err(refused(Refusal::InvalidValue))
+                }
             },
             Front::Again(outer, _) => {
                 self.restore(outer);

@@ -12,6 +12,7 @@ ghost use Rattle.amqp_ser.specs.Staged.{HoldsParts, Awaits, Before, plain, behin
 ghost use Rattle.amqp_ser.specs.Staged.{shape_behind, EndsStage, encoding_named, row_encoding};
 ghost use Rattle.amqp_ser.specs.Staged.{OpensBehind, ClosesBehind, IsApart, HoldsStruct};
 ghost use Rattle.amqp_ser.specs.Staged.{struct_under, Keeps, HoldsRow, AllThere, lacks_field};
+ghost use Rattle.amqp_ser.specs.Staged.{KeepsHeld, EndsHeld};
 ghost use Rattle.amqp_ser.specs.declared.staged.Stage.TheVariants as stage;
 ghost use Rattle.amqp_base.specs.declared.error.Error.TheVariants.{OutOfMemory};
 ghost use Rattle.amqp_base.specs.Structs.{FieldItem, named, is_descriptor_name};
@@ -187,8 +188,10 @@ impl<W: Sink> Serializer<W> {
     /// Writes the compound behind a descriptor that has these parts, and what is to stand behind
     /// both.
     fn close_behind(&mut self, front: Front, parts: Parts) -> Result<(), Error>
-        ensures { ClosesBehind front
+        ensures law { ClosesBehind front
             (λ pairs. open_parts pairs (state W.Write W.FaultCount self.old) parts) result
+            (state W.Write W.FaultCount self.new) }
+        ensures kept { EndsHeld (state W.Write W.FaultCount self.old) result
             (state W.Write W.FaultCount self.new) }
     {
         match self.close(parts) {
@@ -227,7 +230,8 @@ pub(crate) fn write_descriptor<W: Sink>(
     ensures uncalled { (s : State) (b : Before) (shape : Shape) (xs : List Item) →
         HoldsParts s b shape xs (state W.Write W.FaultCount ser.old) of.old →
         result ≡ Err Error.InvalidValue }
-    ensures stops { EndsStage of.old result of.new }
+    ensures stops { EndsStage (state W.Write W.FaultCount ser.old) of.old result
+        (state W.Write W.FaultCount ser.new) of.new }
 {
     let stage = of.stage;
     of.stage = Stage::Ended;
@@ -316,9 +320,10 @@ fn write_value<W: Sink, T: Serialize>(
     ensures early { (s : State) (x : _) →
         Awaits s x (state W.Write W.FaultCount ser.old) of.old →
         result ≡ Err Error.InvalidValue }
-    ensures kept { Kept (state W.Write W.FaultCount ser.old)
+    ensures kept { KeepsHeld (state W.Write W.FaultCount ser.old)
         (state W.Write W.FaultCount ser.new) }
-    ensures stops { EndsStage of.old result of.new }
+    ensures stops { EndsStage (state W.Write W.FaultCount ser.old) of.old result
+        (state W.Write W.FaultCount ser.new) of.new }
 {
     let stage = of.stage;
     of.stage = Stage::Ended;
@@ -364,7 +369,10 @@ pub(crate) fn write_row_field<W: Sink, T: Serialize>(
     ensures early { (s : State) (x : _) →
         Awaits s x (state W.Write W.FaultCount ser.old) of.old →
         result ≡ Err Error.InvalidValue }
-    ensures stops { EndsStage of.old result of.new }
+    ensures kept { KeepsHeld (state W.Write W.FaultCount ser.old)
+        (state W.Write W.FaultCount ser.new) }
+    ensures stops { EndsStage (state W.Write W.FaultCount ser.old) of.old result
+        (state W.Write W.FaultCount ser.new) of.new }
 {
     match of.stage {
         Stage::Plain => match write_part(ser, &mut of.parts, alloc, value) {
@@ -407,7 +415,10 @@ pub(crate) fn write_named_field<W: Sink, T: Serialize>(
     ensures early { (s : State) (x : _) →
         Awaits s x (state W.Write W.FaultCount ser.old) of.old →
         result ≡ Err Error.InvalidValue }
-    ensures stops { EndsStage of.old result of.new }
+    ensures kept { KeepsHeld (state W.Write W.FaultCount ser.old)
+        (state W.Write W.FaultCount ser.new) }
+    ensures stops { EndsStage (state W.Write W.FaultCount ser.old) of.old result
+        (state W.Write W.FaultCount ser.new) of.new }
 {
     if is_name(name, DESCRIPTOR) {
         of.stage = Stage::Ended;
@@ -447,6 +458,8 @@ pub(crate) fn end_staged<W: Sink>(ser: &mut Serializer<W>, of: Staged) -> Result
         lacks_field b xs ≡ true → result ≡ Err Error.SequenceLengthMismatch }
     ensures early { (s : State) (x : _) → Awaits s x (state W.Write W.FaultCount ser.old) of →
         result ≡ Err Error.InvalidValue }
+    ensures kept { EndsHeld (state W.Write W.FaultCount ser.old) result
+        (state W.Write W.FaultCount ser.new) }
     ensures ended { of.stage ≡ stage.Ended → result ≡ Err Error.InvalidValue }
 {
     let Staged {

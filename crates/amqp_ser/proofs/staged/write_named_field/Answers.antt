@@ -32,5 +32,6 @@ returns-in_default g c =
       err = IfErr-weaker c.write_value.result _ _ (λ e k free s b fs all h begins. apart_refused s _ _ b fs all _ (g.T.Typed.meaning.item c.args.value.now) e c.args.of.now a (λ shape xs ys. k s b shape xs ys) h begins) w.err;
       descriptor = λ is. absurd (true_false (sym is ∙ sym c.if-is_name.ensures));
       early = w.early;
+      kept = w.kept;
       stops = w.stops;
     }

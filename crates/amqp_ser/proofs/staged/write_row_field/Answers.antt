@@ -3,7 +3,7 @@ use Rattle.std.proofs.lemmas.Result.{IfErr-weaker, on_ok_weaker}
 use Rattle.amqp_base.specs.declared.shape.Shape.{Shape}
 use Rattle.amqp_ser.specs.State.{state}
 use Rattle.amqp_write.specs.State.{stand}
-use Rattle.amqp_ser.proofs.Stages.{plain_row_refused, behind_row_more, behind_row_refused}
+use Rattle.amqp_ser.proofs.Stages.{plain_row_refused, behind_row_more, behind_row_refused, parts_keep}
 use Rattle.amqp_ser.proofs.staged.write_row_field.Goals as goal
 
 pub returns-in-Err-clause-err : goal.returns-in-Err-clause-err
@@ -23,5 +23,21 @@ returns-in_default g c =
       ok = on_ok_weaker c.write_value.result (λ k s b xs h. (h.0, k s b Shape.List xs h.1)) w.ok;
       err = IfErr-weaker c.write_value.result _ _ (λ e k s b xs all h begins. k s b Shape.List xs all h.1 begins) w.err;
       early = w.early;
+      kept = w.kept;
       stops = w.stops;
     }
+
+pub returns-in-Ok-clause-kept : goal.returns-in-Ok-clause-kept
+returns-in-Ok-clause-kept g c = parts_keep c.args.of.now.parts c.write_part.new.parts _ _ (c.in-Ok.ensures.kept false)
+
+pub returns-in-Err-clause-kept : goal.returns-in-Err-clause-kept
+returns-in-Err-clause-kept g c = parts_keep c.args.of.now.parts c.write_part.new.parts _ _ (c.in-Err.ensures.kept false)
+
+pub returns-in-Ok-write_part-clause-kept : goal.returns-in-Ok-write_part-clause-kept
+returns-in-Ok-write_part-clause-kept g c = parts_keep c.args.of.now.parts c.write_part-in-Behind.new.parts _ _ (c.in-Ok-write_part.ensures.kept false)
+
+pub returns-in-Err-write_part-clause-kept : goal.returns-in-Err-write_part-clause-kept
+unfolding state stand
+returns-in-Err-write_part-clause-kept g c =
+    let k = (parts_keep c.args.of.now.parts c.write_part-in-Behind.new.parts (state g.W.Write g.W.FaultCount c.args.ser.now) (state g.W.Write g.W.FaultCount c.write_part-in-Behind.new.ser) (c.in-Err-write_part.ensures.kept false)).kept in
+    record { kept = record { bytes = k.bytes; faults = k.faults; grows = k.grows }; held = λ e. refl }
