@@ -6,6 +6,7 @@ pub mod MapPairs
 pub mod ManyParts
 pub mod NumberParts
 pub mod WholeFields
+pub mod Pairs
 pub mod Passes
 pub mod Lending
 pub mod Describing

@@ -266,6 +266,10 @@ pub record KeepsHeld (s t : State) : Type 0 where
   pub kept : Kept s t
   pub held : s.ended ≡ true → t.ended ≡ true
 
+-- the same, for callers who don't look into it
+unfoldable pub StaysHeld : State → State → Type 0
+StaysHeld s t = KeepsHeld s t
+
 -- what an end keeps, whose success alone lets the serializer answer again
 pub record EndsHeld {A : Type 0} (s : State) (r : Result A Error) (t : State) : Type 0 where
   pub kept : Kept s t

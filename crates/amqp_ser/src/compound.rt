@@ -1,7 +1,7 @@
 //! What is common to all compounds: their parts so far.
 
 ghost use Rattle.std.specs.Prelude.{◌≡◌, ◌≢◌, ◌+◌, ◌==◌, ◌%◌, ◌++◌};
-ghost use Rattle.std.specs.Prelude.{Some, None, ◌∷◌, ℕ, Bool, List, [], true, false, IfOk};
+ghost use Rattle.std.specs.Prelude.{Some, None, ◌∷◌, ℕ, Bool, List, [], length, true, false, IfOk};
 ghost use Rattle.std.specs.Prelude.{IfErr, OnOk};
 ghost use Rattle.std.specs.Prelude.{OnErr, Err};
 ghost use Rattle.amqp_base.specs.Item.{Item};
@@ -18,9 +18,11 @@ ghost use Rattle.amqp_ser.specs.Staged.{Before, HasFields, HasRow, AwaitsDescrip
 ghost use Rattle.amqp_ser.specs.Staged.{struct_under, item_under, lacks_field, lacks_field_of};
 ghost use Rattle.amqp_ser.specs.Staged.{EndRefused, RowEndRefused, EndsHeld};
 ghost use Rattle.amqp_base.specs.Structs.{FieldItem};
+ghost use Rattle.amqp_ser.specs.Variants.{HasVariant, VariantEnded, fields_item};
 
+use crate::paired::end_paired;
 use crate::staged::end_staged;
-use crate::{Serialize, Serializer, StructSerializer, TupleStructSerializer};
+use crate::{Serialize, Serializer, StructSerializer, TupleStructSerializer, VariantSerializer};
 use amqp_base::{Error, Pass, Setting, Shape, Sink};
 use amqp_types::Descriptor;
 use amqp_write::{
@@ -216,6 +218,38 @@ impl<'a, W: Sink> TupleStructSerializer<'a, W> {
             form: _,
         } = self;
         end_staged(ser, parts)
+    }
+}
+
+impl<'a, W: Sink> VariantSerializer<'a, W> {
+    /// Writes the whole: the map of the index and the list of the fields. Only then does its
+    /// serializer answer again.
+    ///
+    /// `SequenceLengthMismatch`: there is another number of fields than was announced. Then nothing
+    /// is written. `Io(Other)`: the fields or the pair have more than 4,294,967,291 bytes.
+    /// `InvalidValue`: a field was refused, or the array that the whole is to stand in has other
+    /// elements.
+    pub fn end(self) -> Result<(), Error>
+        ensures ok { OnOk result ((s : State) (index len : ℕ) (xs : List Item) →
+            HasVariant W.Write W.FaultCount s index len xs self.entry →
+            Wrote s (fields_item index len xs) (state W.Write W.FaultCount self.exit.0.now)) }
+        ensures err { IfErr result (λ e. (s : State) (index len : ℕ) (xs : List Item) →
+            HasVariant W.Write W.FaultCount s index len xs self.entry → length xs ≡ len →
+            Refused s (fields_item index len xs) e
+            (state W.Write W.FaultCount self.exit.0.now)) }
+        ensures lacking { (s : State) (index len : ℕ) (xs : List Item) →
+            HasVariant W.Write W.FaultCount s index len xs self.entry → length xs ≢ len →
+            result ≡ Err Error.SequenceLengthMismatch }
+        ensures kept { EndsHeld (state W.Write W.FaultCount self.entry.ser.now) result
+            (state W.Write W.FaultCount self.exit.0.now) }
+        ensures ended { VariantEnded self.entry → result ≡ Err Error.InvalidValue }
+    {
+        let Compound {
+            ser,
+            parts,
+            form: _,
+        } = self;
+        end_paired(ser, parts)
     }
 }
 

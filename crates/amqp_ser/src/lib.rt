@@ -1,5 +1,5 @@
 //! Writing values in the AMQP 1.0 encoding (OASIS AMQP 1.0 part 1, sections 1.2 to 1.6).
-#![tactic(auto, unfolding(crate::specs::State::state, amqp_write::specs::State::stand, crate::specs::Compound::open_as, crate::specs::Staged::HasFields, crate::specs::Staged::HasRow, crate::specs::Staged::AwaitsDescriptor))]
+#![tactic(auto, unfolding(crate::specs::State::state, amqp_write::specs::State::stand, crate::specs::Compound::open_as, crate::specs::Staged::HasFields, crate::specs::Staged::HasRow, crate::specs::Staged::AwaitsDescriptor, crate::specs::Staged::StaysHeld, crate::specs::Variants::HasVariant, crate::specs::Variants::EndsVariant))]
 
 mod blocks;
 mod compound;
@@ -17,6 +17,7 @@ mod measured;
 mod newtypes;
 mod opening;
 mod option;
+mod paired;
 mod payloads;
 mod scalars;
 mod seq;
@@ -28,6 +29,7 @@ mod structs;
 mod tuple_structs;
 mod tuples;
 mod unsigned;
+mod variants;
 
 pub use amqp_base::DESCRIBED_LIST;
 pub use amqp_write::Measure;
@@ -35,6 +37,7 @@ pub use compound::{Announced, Compound, Elements, Entries, Named, Parts, Unnamed
 pub use fields::{Struct, StructFields, Written};
 pub use map::MapSerializer;
 pub use measured::{measure, measured_size, measured_vec, write_measured};
+pub use paired::Paired;
 pub use seq::SeqSerializer;
 pub use serialize::{Numbers, Serialize};
 pub use serializer::Serializer;
@@ -42,3 +45,4 @@ pub use staged::Staged;
 pub use structs::{StructSerializer, WholeStruct};
 pub use tuple_structs::TupleStructSerializer;
 pub use tuples::{Part, TupleParts, TupleSerializer};
+pub use variants::{Variant, VariantSerializer};

@@ -42,4 +42,5 @@ mod source;
 mod structs;
 mod tuples;
 mod user_types;
+mod variants;
 mod written;

@@ -36,8 +36,8 @@ pub use amqp_read::{IoReader, Read, SliceReader, read_const_bytes};
 use amqp_ser::{measured_size, measured_vec};
 pub use amqp_ser::{
     MapSerializer, Part, SeqSerializer, Serialize, Serializer, Struct, StructFields,
-    StructSerializer, TupleParts, TupleSerializer, TupleStructSerializer, Written, write_described,
-    write_fields, write_parts,
+    StructSerializer, TupleParts, TupleSerializer, TupleStructSerializer, VariantSerializer,
+    Written, write_described, write_fields, write_parts,
 };
 pub use amqp_types::{
     Array, Binary, BinaryRef, Boolean, Byte, Char, Dec32, Dec64, Dec128, Decimal, Described,

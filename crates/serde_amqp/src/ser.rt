@@ -3,7 +3,7 @@
 pub use crate::{serialized_size, to_vec};
 pub use amqp_ser::{
     MapSerializer, SeqSerializer, Serialize, Serializer, StructSerializer, TupleSerializer,
-    TupleStructSerializer,
+    TupleStructSerializer, VariantSerializer,
 };
 
 /// Writes a struct behind a descriptor by its fields, as a map from their names:

@@ -1,0 +1,79 @@
+-- The variants of an enum, as items, and those whose fields are written one by one.
+use Rattle.std.specs.Prelude.{◌≡◌, ℕ, Bool, true, false, List, [], ◌∷◌, length, Result, Err, OnErr, IfErr}
+use Rattle.std.specs.declared.io.Write as Write
+use Rattle.std.specs.declared.vec.Vec.{Vec}
+use Rattle.std.specs.Global.{Global}
+use Rattle.amqp_base.specs.declared.fault.FaultCount as FaultCount
+use Rattle.amqp_base.specs.declared.error.Error.{Error}
+use Rattle.amqp_base.specs.declared.error.Error.TheVariants.{InvalidValue}
+use Rattle.amqp_base.specs.Item.{Item, scalar, uint}
+use Rattle.amqp_base.specs.Shapes.{whole}
+use Rattle.amqp_base.specs.declared.shape.Shape.{Shape}
+use Rattle.amqp_write.specs.declared.pass.Opened.{Opened}
+use Rattle.amqp_ser.specs.State.{State, state}
+use Rattle.amqp_ser.specs.Law.{Refused, Stops}
+use Rattle.amqp_ser.specs.Compound.{Open, Holds, EndsCompound, open_parts, the_buffer, outside_in}
+use Rattle.amqp_ser.specs.declared.compound.Compound.{Compound}
+use Rattle.amqp_ser.specs.declared.compound.Parts.{Parts}
+use Rattle.amqp_ser.specs.declared.paired.Paired.{Paired}
+use Rattle.amqp_ser.specs.declared.serializer.Serializer.{Serializer}
+
+-- a variant without fields is its index
+abbrev pub unit_item : ℕ → Item
+unit_item index = scalar (uint index)
+
+-- any other is a map of one pair, its index and what it holds
+abbrev pub variant_item : ℕ → Item → Item
+variant_item index held = whole Shape.Map (scalar (uint index) ∷ held ∷ [])
+
+-- so many fields are a list behind the index
+abbrev pub fields_item : ℕ → ℕ → List Item → Item
+fields_item index len xs = variant_item index (whole (Shape.Tuple len) xs)
+
+-- a variant of this index was opened on a serializer in the state s, and has these fields: they go to the buffer of its pair p
+pub record InBuffer (s : State) (index len : ℕ) (xs : List Item) (o : State) (p f : Parts) : Type 0 where
+  pub had : Serializer (Vec ℕ Global)
+  pub pair : Holds s Shape.Map (scalar (uint index) ∷ []) (open_parts true o (record p { buffer = had }))
+  pub fields : Holds (the_buffer had) (Shape.Tuple len) xs (open_parts false (the_buffer p.buffer) f)
+
+-- or to the serializer itself
+pub record OnItself (s : State) (index len : ℕ) (xs : List Item) (o : State) (p f : Parts) : Type 0 where
+  pub was : State
+  pub pair : Holds s Shape.Map (scalar (uint index) ∷ []) (open_parts true was p)
+  pub fields : Holds (outside_in Shape.Map was) (Shape.Tuple len) xs (open_parts false o f)
+
+abbrev pub HoldsAs : Opened → State → ℕ → ℕ → List Item → State → Parts → Parts → Type 0
+HoldsAs Opened.Buffered s index len xs o p f = InBuffer s index len xs o p f
+HoldsAs (Opened.Measured at before) s index len xs o p f = OnItself s index len xs o p f
+HoldsAs (Opened.Written size from) s index len xs o p f = OnItself s index len xs o p f
+
+abbrev pub HoldsPair : State → ℕ → ℕ → List Item → State → Paired → Type 0
+HoldsPair s index len xs o v = HoldsAs v.pair.opened s index len xs o v.pair v.fields
+
+-- the list of its fields
+abbrev pub beneath : Opened → State → Paired → State
+beneath Opened.Buffered o v = the_buffer v.pair.buffer
+beneath (Opened.Measured at before) o v = o
+beneath (Opened.Written size from) o v = o
+
+abbrev pub open_fields : State → Paired → Open
+open_fields o v = open_parts false (beneath v.pair.opened o v) v.fields
+
+-- ---- of a serializer of a variant's fields
+
+-- it was opened on a serializer in the state s for so many fields of the variant of this index, and has these
+unfoldable pub HasVariant : {W F : Type 0} → Write.Ghosts W → FaultCount.Ghosts W → State → ℕ → ℕ → List Item → Compound W F Paired → Type 0
+HasVariant w f s index len xs q = HoldsPair s index len xs (state w f q.ser.now) q.parts
+
+-- a refusal ends it, and each call of an ended one is refused
+unfoldable pub EndsVariant : {W F A : Type 0} → Write.Ghosts W → FaultCount.Ghosts W → Compound W F Paired → Result A Error → Compound W F Paired → Type 0
+EndsVariant w f q r p = EndsCompound (open_fields (state w f q.ser.now) q.parts) r (open_fields (state w f p.ser.now) p.parts)
+
+-- a call was refused
+abbrev pub VariantEnded : {W F : Type 0} → Compound W F Paired → Type 0
+VariantEnded q = q.parts.fields.buffer.place.ended ≡ true
+
+-- no variant was opened: so any of this index is refused
+pub record RefusesVariant {A : Type 0} (index len : ℕ) (s : State) (r : Result A Error) (t : State) : Type 0 where
+  pub law : IfErr r (λ e. (xs : List Item) → Refused s (fields_item index len xs) e t)
+  pub stops : Stops s r t

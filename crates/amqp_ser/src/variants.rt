@@ -1,0 +1,216 @@
+//! The variants of an enum.
+
+ghost use Rattle.std.specs.Prelude.{◌≡◌, ◌++◌, ◌∷◌, [], true, false, ℕ, List};
+ghost use Rattle.std.specs.Prelude.{IfOk, IfErr, OnOk, Err};
+ghost use Rattle.std.specs.Borrow.{sem, RestsIfErr};
+ghost use Rattle.amqp_base.specs.Item.{Item};
+ghost use Rattle.amqp_base.specs.Structs.{is_descriptor_name};
+ghost use Rattle.amqp_ser.specs.State.{State, state};
+ghost use Rattle.amqp_ser.specs.Compound.{BeginsWith};
+ghost use Rattle.amqp_ser.specs.Staged.{StaysHeld};
+ghost use Rattle.amqp_ser.specs.Law.{Wrote, Refused, Stops, Writes};
+ghost use Rattle.amqp_ser.specs.Variants.{unit_item, variant_item, fields_item, HasVariant};
+ghost use Rattle.amqp_ser.specs.Variants.{RefusesVariant, EndsVariant};
+ghost use Rattle.amqp_ser.specs.contracts.serializer.Serializer.{the_row};
+
+use crate::compound::Compound;
+use crate::paired::{Paired, write_paired};
+use crate::structs::is_name;
+use crate::{Serialize, Serializer};
+use amqp_base::{DESCRIPTOR, Error, Setting, Sink};
+use amqp_write::{Refusal, refused};
+use std::alloc::Global;
+
+/// The parts of a compound are the fields of an enum's variant.
+#[derive(Clone, Copy)]
+pub struct Variant;
+
+/// A variant with fields that is being written, field by field: a map of one pair, its index and a
+/// list of just so many fields as were announced. Until `end` succeeded its serializer answers
+/// nothing but `InvalidValue`, also where it is dropped; over a caller's writer nothing of it
+/// reaches the writer before.
+pub type VariantSerializer<'a, W> = Compound<'a, W, Variant, Paired>;
+
+impl<W: Sink> Serializer<W> {
+    /// Writes a variant without fields: its index, as a uint (section 1.6.5). Neither name is
+    /// written. It takes no memory of its own.
+    ///
+    /// `InvalidValue`: the array that it is to stand in has elements under another constructor.
+    #[inline(always)]
+    pub fn serialize_unit_variant(
+        &mut self,
+        alloc: Global,
+        name: &'static str,
+        index: u32,
+        variant: &'static str,
+    ) -> Result<(), Error>
+        ensures { Writes (state W.Write W.FaultCount self.old) (unit_item index) result
+            (state W.Write W.FaultCount self.new) }
+    {
+        let _ = name;
+        let _ = variant;
+        self.serialize_u32(alloc, index)
+    }
+
+    /// Writes a variant that holds one value: a map (section 1.6.23) of one pair, its index as a
+    /// uint and the value. Neither name is written.
+    ///
+    /// `InvalidValue`: the enum is named `DESCRIPTOR`, in whose place `serialize_descriptor`
+    /// stands, or the array that the map is to stand in has elements under another constructor;
+    /// `Io(Other)`: the pair has more than 4,294,967,291 bytes; else as the value's own `serialize`.
+    pub fn serialize_newtype_variant<T: Serialize>(
+        &mut self,
+        alloc: Global,
+        name: &'static str,
+        index: u32,
+        variant: &'static str,
+        value: &T,
+    ) -> Result<(), Error>
+        ensures ok { OnOk result (Wrote (state W.Write W.FaultCount self.old)
+            (variant_item index (T.meaning.item value.now Setting.Plain))
+            (state W.Write W.FaultCount self.new)) }
+        ensures err { is_descriptor_name name.now ≡ false →
+            IfErr result (λ e. Refused (state W.Write W.FaultCount self.old)
+            (variant_item index (T.meaning.item value.now Setting.Plain)) e
+            (state W.Write W.FaultCount self.new)) }
+        ensures descriptor { is_descriptor_name name.now ≡ true → result ≡ Err Error.InvalidValue }
+        ensures stops { Stops (state W.Write W.FaultCount self.old) result
+            (state W.Write W.FaultCount self.new) }
+    {
+        let _ = variant;
+        if self.place.ended {
+            return Err(refused(Refusal::InvalidValue));
+        }
+        if is_name(name, DESCRIPTOR) {
+            self.place.ended = true;
+            return Err(refused(Refusal::InvalidValue));
+        }
+        let mut pair = match self.serialize_map(alloc, Some(1)) {
+            Ok(pair) => pair,
+            Err(e) => return Err(e),
+        };
+        match pair.serialize_entry(alloc, &index, value) {
+            Ok(()) => pair.end(),
+            Err(e) => Err(e),
+        }
+    }
+}
+
+impl<W: Sink> Serializer<W> {
+    /// Opens a variant of `len` fields without names, which is written as a map of one pair, its
+    /// index as a uint and a list of the fields (sections 1.6.22, 1.6.23). Neither name is written.
+    ///
+    /// `OutOfMemory`: there is no memory for its buffers.
+    pub fn serialize_tuple_variant(
+        &mut self,
+        alloc: Global,
+        name: &'static str,
+        index: u32,
+        variant: &'static str,
+        len: usize,
+    ) -> Result<VariantSerializer<'_, W>, Error>
+        ensures* rests { sem 𝓛 (RestsIfErr (the_row W.row) self.entry (λ q.
+            q.ser.ghost_name) result (λ n.
+            RefusesVariant index len (state W.Write W.FaultCount self.old) result
+            (state W.Write W.FaultCount n))) }
+        ensures same_reference { IfOk result (λ q. q.ser.ghost_name ≡ self.entry.ghost_name) }
+        ensures held { IfOk result (λ q. (state W.Write W.FaultCount q.ser.now).ended ≡ true) }
+        ensures opened { IfOk result (λ q. HasVariant W.Write W.FaultCount
+            (state W.Write W.FaultCount self.old) index len [] q) }
+    {
+        let _ = name;
+        let _ = variant;
+        match self.begin_pair(alloc, index, len) {
+            Ok(parts) => Ok(Compound {
+                ser: self,
+                parts,
+                form: Variant,
+            }),
+            Err(e) => Err(e),
+        }
+    }
+
+    /// Opens a variant of `len` fields with names, as `serialize_tuple_variant` does; the names
+    /// aren't written.
+    ///
+    /// `OutOfMemory`: there is no memory for its buffers.
+    pub fn serialize_struct_variant(
+        &mut self,
+        alloc: Global,
+        name: &'static str,
+        index: u32,
+        variant: &'static str,
+        len: usize,
+    ) -> Result<VariantSerializer<'_, W>, Error>
+        ensures* rests { sem 𝓛 (RestsIfErr (the_row W.row) self.entry (λ q.
+            q.ser.ghost_name) result (λ n.
+            RefusesVariant index len (state W.Write W.FaultCount self.old) result
+            (state W.Write W.FaultCount n))) }
+        ensures same_reference { IfOk result (λ q. q.ser.ghost_name ≡ self.entry.ghost_name) }
+        ensures held { IfOk result (λ q. (state W.Write W.FaultCount q.ser.now).ended ≡ true) }
+        ensures opened { IfOk result (λ q. HasVariant W.Write W.FaultCount
+            (state W.Write W.FaultCount self.old) index len [] q) }
+    {
+        let _ = name;
+        let _ = variant;
+        match self.begin_pair(alloc, index, len) {
+            Ok(parts) => Ok(Compound {
+                ser: self,
+                parts,
+                form: Variant,
+            }),
+            Err(e) => Err(e),
+        }
+    }
+}
+
+impl<'a, W: Sink> VariantSerializer<'a, W> {
+    /// Writes one more field. It is refused as the field's own `serialize`; then the compound
+    /// answers `InvalidValue` to all that follows, `end` too. A field beyond the announced number
+    /// is refused at `end`.
+    pub fn serialize_field<T: Serialize>(&mut self, alloc: Global, value: &T) -> Result<(), Error>
+        ensures same_reference { self.new.ser.ghost_name ≡ self.old.ser.ghost_name }
+        ensures ok { OnOk result ((s : State) (index len : ℕ) (xs : List Item) →
+            HasVariant W.Write W.FaultCount s index len xs self.old →
+            HasVariant W.Write W.FaultCount s index len
+            (xs ++ T.meaning.item value.now Setting.Plain ∷ []) self.new) }
+        ensures err { IfErr result (λ e. (s : State) (index len : ℕ) (xs all : List Item) →
+            HasVariant W.Write W.FaultCount s index len xs self.old →
+            BeginsWith all (xs ++ T.meaning.item value.now Setting.Plain ∷ []) →
+            Refused s (fields_item index len all) e
+            (state W.Write W.FaultCount self.new.ser.now)) }
+        ensures kept { StaysHeld (state W.Write W.FaultCount self.old.ser.now)
+            (state W.Write W.FaultCount self.new.ser.now) }
+        ensures stops { EndsVariant W.Write W.FaultCount self.old result self.new }
+    {
+        match write_paired(&mut *self.ser, &mut self.parts, alloc, value) {
+            Ok(()) => Ok(()),
+            Err(e) => Err(e),
+        }
+    }
+
+    /// Writes one more field, as `serialize_field` does; its name isn't written.
+    pub fn serialize_field_named<T: Serialize>(
+        &mut self,
+        alloc: Global,
+        key: &'static str,
+        value: &T,
+    ) -> Result<(), Error>
+        ensures same_reference { self.new.ser.ghost_name ≡ self.old.ser.ghost_name }
+        ensures ok { OnOk result ((s : State) (index len : ℕ) (xs : List Item) →
+            HasVariant W.Write W.FaultCount s index len xs self.old →
+            HasVariant W.Write W.FaultCount s index len
+            (xs ++ T.meaning.item value.now Setting.Plain ∷ []) self.new) }
+        ensures err { IfErr result (λ e. (s : State) (index len : ℕ) (xs all : List Item) →
+            HasVariant W.Write W.FaultCount s index len xs self.old →
+            BeginsWith all (xs ++ T.meaning.item value.now Setting.Plain ∷ []) →
+            Refused s (fields_item index len all) e
+            (state W.Write W.FaultCount self.new.ser.now)) }
+        ensures kept { StaysHeld (state W.Write W.FaultCount self.old.ser.now)
+            (state W.Write W.FaultCount self.new.ser.now) }
+        ensures stops { EndsVariant W.Write W.FaultCount self.old result self.new }
+    {
+        let _ = key;
+        self.serialize_field(alloc, value)
+    }
+}
