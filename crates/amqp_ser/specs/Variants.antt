@@ -42,20 +42,23 @@ pub record OnItself (s : State) (index len : ℕ) (xs : List Item) (o : State) (
   pub pair : Holds s Shape.Map (scalar (uint index) ∷ []) (open_parts true was p)
   pub fields : Holds (outside_in Shape.Map was) (Shape.Tuple len) xs (open_parts false o f)
 
+-- as the pair was opened
 abbrev pub HoldsAs : Opened → State → ℕ → ℕ → List Item → State → Parts → Parts → Type 0
 HoldsAs Opened.Buffered s index len xs o p f = InBuffer s index len xs o p f
 HoldsAs (Opened.Measured at before) s index len xs o p f = OnItself s index len xs o p f
 HoldsAs (Opened.Written size from) s index len xs o p f = OnItself s index len xs o p f
 
+-- a variant of this index was opened in the state s, and has these fields
 abbrev pub HoldsPair : State → ℕ → ℕ → List Item → State → Paired → Type 0
 HoldsPair s index len xs o v = HoldsAs v.pair.opened s index len xs o v.pair v.fields
 
--- the list of its fields
+-- the serializer that holds the list of its fields
 abbrev pub beneath : Opened → State → Paired → State
 beneath Opened.Buffered o v = the_buffer v.pair.buffer
 beneath (Opened.Measured at before) o v = o
 beneath (Opened.Written size from) o v = o
 
+-- that list
 abbrev pub open_fields : State → Paired → Open
 open_fields o v = open_parts false (beneath v.pair.opened o v) v.fields
 
@@ -65,7 +68,7 @@ open_fields o v = open_parts false (beneath v.pair.opened o v) v.fields
 unfoldable pub HasVariant : {W F : Type 0} → Write.Ghosts W → FaultCount.Ghosts W → State → ℕ → ℕ → List Item → Compound W F Paired → Type 0
 HasVariant w f s index len xs q = HoldsPair s index len xs (state w f q.ser.now) q.parts
 
--- a refusal ends it, and each call of an ended one is refused
+-- a refusal ends it, and a call of an ended one is refused and changes nothing
 unfoldable pub EndsVariant : {W F A : Type 0} → Write.Ghosts W → FaultCount.Ghosts W → Compound W F Paired → Result A Error → Compound W F Paired → Type 0
 EndsVariant w f q r p = EndsCompound (open_fields (state w f q.ser.now) q.parts) r (open_fields (state w f p.ser.now) p.parts)
 

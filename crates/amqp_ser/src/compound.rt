@@ -1,9 +1,8 @@
 //! What is common to all compounds: their parts so far.
 
 ghost use Rattle.std.specs.Prelude.{◌≡◌, ◌≢◌, ◌+◌, ◌==◌, ◌%◌, ◌++◌};
-ghost use Rattle.std.specs.Prelude.{Some, None, ◌∷◌, ℕ, Bool, List, [], length, true, false, IfOk};
-ghost use Rattle.std.specs.Prelude.{IfErr, OnOk};
-ghost use Rattle.std.specs.Prelude.{OnErr, Err};
+ghost use Rattle.std.specs.Prelude.{Some, None, ◌∷◌, ℕ, Bool, List, [], length};
+ghost use Rattle.std.specs.Prelude.{true, false, IfOk, IfErr, OnOk, OnErr, Err};
 ghost use Rattle.amqp_base.specs.Item.{Item};
 ghost use Rattle.amqp_base.specs.Shapes.{whole, setting_inside};
 ghost use Rattle.amqp_ser.specs.State.{State, state, answering};
@@ -130,8 +129,8 @@ impl<'a, W: Sink, F: Drop> Compound<'a, W, F> {
         ensures law { (pairs : Bool) → EndsWhole (open_as pairs W.Write W.FaultCount self.entry)
             (state W.Write W.FaultCount self.entry.ser.now) result
             (state W.Write W.FaultCount self.exit.0.now) }
-        ensures lacking { (pairs : Bool) (s : State) (shape : Shape) (xs : List Item) (e : Error) →
-            Holds s shape xs (open_as pairs W.Write W.FaultCount self.entry) →
+        ensures lacking { (pairs : Bool) (s : State) (shape : Shape) (xs : List Item)
+            (e : Error) → Holds s shape xs (open_as pairs W.Write W.FaultCount self.entry) →
             lacking shape xs ≡ Some e →
             (result ≡ Err e) × (self.exit.0.now ≡ self.entry.ser.now) }
         ensures fields { EndsStruct (open_state W.Write W.FaultCount self.entry) result

@@ -1,13 +1,13 @@
 //! The pair of a variant's index and its fields, which are written one by one.
 
-ghost use Rattle.std.specs.Prelude.{ℕ, ◌≡◌, ◌≢◌, ◌++◌, ◌∷◌, [], true, false, List, Some, Err};
-ghost use Rattle.std.specs.Prelude.{IfOk, IfErr, OnOk, OnErr, length};
+ghost use Rattle.std.specs.Prelude.{ℕ, ◌≡◌, ◌≢◌, ◌++◌, ◌∷◌, [], List};
+ghost use Rattle.std.specs.Prelude.{length, true, false, Some, Err, IfOk, IfErr, OnOk, OnErr};
 ghost use Rattle.amqp_base.specs.Item.{Item};
 ghost use Rattle.amqp_base.specs.Shapes.{whole};
 ghost use Rattle.amqp_ser.specs.State.{State, state};
-ghost use Rattle.amqp_ser.specs.Law.{Wrote, Refused, Kept, Stops};
+ghost use Rattle.amqp_ser.specs.Law.{Wrote, Refused, Kept};
 ghost use Rattle.amqp_ser.specs.Compound.{open_parts, is_map, Holds, BeginsWith, EndsCompound};
-ghost use Rattle.amqp_ser.specs.Compound.{outside_in, turned, lacking, Complete};
+ghost use Rattle.amqp_ser.specs.Compound.{outside_in, turned, Complete};
 ghost use Rattle.amqp_ser.specs.Staged.{KeepsHeld, EndsHeld};
 ghost use Rattle.amqp_ser.specs.Variants.{HoldsPair, RefusesVariant, fields_item, open_fields};
 ghost use Rattle.amqp_ser.specs.Variants.{InBuffer, OnItself};

@@ -1,7 +1,7 @@
 //! Structs and tuple structs that are written field by field, plain or behind a descriptor.
 
-ghost use Rattle.std.specs.Prelude.{◌≡◌, ◌++◌, ◌∷◌, [], false, true, List, None, Some, Err};
-ghost use Rattle.std.specs.Prelude.{IfOk, IfErr, OnOk, OnErr, Ok, Bool};
+ghost use Rattle.std.specs.Prelude.{◌≡◌, ◌++◌, ◌∷◌, [], false, true, Bool, List};
+ghost use Rattle.std.specs.Prelude.{None, Some, Ok, Err, IfOk, IfErr, OnOk, OnErr};
 ghost use Rattle.amqp_base.specs.Item.{Item, described};
 ghost use Rattle.amqp_types.specs.Descriptors.{descriptor_of};
 ghost use Rattle.amqp_base.specs.Shapes.{whole};
@@ -104,7 +104,8 @@ impl<W: Sink> Serializer<W> {
         setting: Setting,
         shape: Shape,
     ) -> Result<(Front, Parts), Error>
-        ensures ok { IfOk result (λ r. OpensBehind (answering (state W.Write W.FaultCount self.old))
+        ensures ok { IfOk result (λ r.
+            OpensBehind (answering (state W.Write W.FaultCount self.old))
             (descriptor_of descriptor.now) setting shape r.0
             (open_parts (is_map shape) (state W.Write W.FaultCount self.new) r.1)) }
         ensures err { IfErr result (λ e. (xs : List Item) →
@@ -313,7 +314,8 @@ fn write_value<W: Sink, T: Serialize>(
         HoldsParts s b shape xs (state W.Write W.FaultCount ser.old) of.old →
         HoldsParts s b shape (xs ++ T.meaning.item value.now Setting.Plain ∷ [])
         (state W.Write W.FaultCount ser.new) of.new) }
-    ensures err { IfErr result (λ e. (s : State) (b : Before) (shape : Shape) (xs all : List Item) →
+    ensures err { IfErr result (λ e.
+        (s : State) (b : Before) (shape : Shape) (xs all : List Item) →
         HoldsParts s b shape xs (state W.Write W.FaultCount ser.old) of.old →
         BeginsWith all (xs ++ T.meaning.item value.now Setting.Plain ∷ []) →
         Refused s (item_under b shape all) e (state W.Write W.FaultCount ser.new)) }
@@ -411,7 +413,8 @@ pub(crate) fn write_named_field<W: Sink, T: Serialize>(
         HoldsStruct s b fs (state W.Write W.FaultCount ser.old) of.old →
         BeginsWith all (fs ++ named name.now (T.meaning.item value.now) ∷ []) →
         Refused s (struct_under b s.setting all) e (state W.Write W.FaultCount ser.new)) }
-    ensures descriptor { is_descriptor_name name.now ≡ true → result ≡ Err Error.InvalidValue }
+    ensures descriptor { is_descriptor_name name.now ≡ true →
+        result ≡ Err Error.InvalidValue }
     ensures early { (s : State) (x : _) →
         Awaits s x (state W.Write W.FaultCount ser.old) of.old →
         result ≡ Err Error.InvalidValue }

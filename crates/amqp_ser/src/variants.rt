@@ -57,7 +57,8 @@ impl<W: Sink> Serializer<W> {
     ///
     /// `InvalidValue`: the enum is named `DESCRIPTOR`, in whose place `serialize_descriptor`
     /// stands, or the array that the map is to stand in has elements under another constructor;
-    /// `Io(Other)`: the pair has more than 4,294,967,291 bytes; else as the value's own `serialize`.
+    /// `Io(Other)`: the pair has more than 4,294,967,291 bytes. Else it is refused as the value's
+    /// own `serialize`.
     pub fn serialize_newtype_variant<T: Serialize>(
         &mut self,
         alloc: Global,
@@ -73,7 +74,8 @@ impl<W: Sink> Serializer<W> {
             IfErr result (λ e. Refused (state W.Write W.FaultCount self.old)
             (variant_item index (T.meaning.item value.now Setting.Plain)) e
             (state W.Write W.FaultCount self.new)) }
-        ensures descriptor { is_descriptor_name name.now ≡ true → result ≡ Err Error.InvalidValue }
+        ensures descriptor { is_descriptor_name name.now ≡ true →
+            result ≡ Err Error.InvalidValue }
         ensures stops { Stops (state W.Write W.FaultCount self.old) result
             (state W.Write W.FaultCount self.new) }
     {
@@ -151,16 +153,7 @@ impl<W: Sink> Serializer<W> {
         ensures opened { IfOk result (λ q. HasVariant W.Write W.FaultCount
             (state W.Write W.FaultCount self.old) index len [] q) }
     {
-        let _ = name;
-        let _ = variant;
-        match self.begin_pair(alloc, index, len) {
-            Ok(parts) => Ok(Compound {
-                ser: self,
-                parts,
-                form: Variant,
-            }),
-            Err(e) => Err(e),
-        }
+        self.serialize_tuple_variant(alloc, name, index, variant, len)
     }
 }
 
