@@ -54,7 +54,7 @@ pub fixed_bad : {grows buffers : Bool} (k : Kind) (b : ℕ) (e : EncodingCodes) 
 fixed_bad k b e w x old new c h f l p d t = rejects_after (behind_byte (data_at k) b) old new x (bad_payload (row e).kind) t d (λ s. behind_code (data_at k) b e (x ++ s) c ∙ bad_data k e w x s h f l p)
 
 -- a byte of no code, or of a code of another kind
-other_kind : (k : Kind) (e : EncodingCodes) (s : List ℕ) → ((row e).kind ≡ k → ⊥) → data_at k e s ≡ Err InvalidFormatCode
+pub other_kind : (k : Kind) (e : EncodingCodes) (s : List ℕ) → ((row e).kind ≡ k → ⊥) → data_at k e s ≡ Err InvalidFormatCode
 unfolding data_at
 other_kind k e s n = tell (same_kind (row e).kind k) refl
   where

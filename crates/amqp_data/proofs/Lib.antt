@@ -4,6 +4,7 @@ pub mod Data
 pub mod FixedWidth
 pub mod KindCodes
 pub mod Sized
+pub mod LentData
 pub mod ByteNumbers
 pub mod OnlyCode
 pub mod Headers

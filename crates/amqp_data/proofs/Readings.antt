@@ -1,6 +1,6 @@
 -- Steps of a reader, one after the other.
 use Rattle.std.proofs.Common.{◌≡◌, ℕ, ◌+◌, ◌^◌, ◌≤◌, ◌<◌, Bool, List, [], ◌∷◌, ◌++◌, length, Option, Some, None, refl, sym, ap, ◌∙◌, arith, append_assoc, IsTrue, ◌⊎◌, inl, inr, Err}
-use Rattle.std.proofs.lemmas.List.{length-append}
+use Rattle.std.proofs.lemmas.List.{length-append, take_all}
 use Rattle.std.specs.Io.KnownBytes.{Consumes, Keeps}
 use Rattle.std.specs.declared.io.ErrorKind.TheVariants.{UnexpectedEof, Other}
 use Rattle.amqp_base.specs.declared.error.Error.{Error}
@@ -19,6 +19,13 @@ steady_same r = record { honest = refl; origin = refl; faults = omega arith; tak
 
 pub steady_then : (a b c : Reading) → Steady a b → Steady b c → Steady a c
 steady_then a b c p q = record { honest = q.honest ∙ p.honest; origin = q.origin ∙ p.origin; faults = omega (arith, p.faults, q.faults); taken = omega (arith, p.taken, q.taken) }
+
+keeps_same : (k : Option (List ℕ)) → Keeps k k
+keeps_same None = tt
+keeps_same (Some s) = refl
+
+pub stays_same : (r : Reading) → Stays r r
+stays_same r = record { to_come = keeps_same r.to_come; taken = refl; received = take_all (length r.received) r.received (omega arith); steady = steady_same r }
 
 consumes_nothing : (k : Option (List ℕ)) → Consumes k k []
 consumes_nothing None = tt

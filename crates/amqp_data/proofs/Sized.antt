@@ -31,7 +31,7 @@ pub payload_ok : {V : Type 0} (items : V → List ℕ) (w n : ℕ) (old mid new 
 payload_ok items w n old mid new (Ok v) d t = record { digits = d.digits; len = d.len; value = d.value ∙ sym t.0; step = takes_then old mid new d.digits (items v) d.step t.1 }
 payload_ok items w n old mid new (Err e) d t = tt
 
-payload_refused : (buffers : Bool) (w n : ℕ) (old mid new : Reading) (e : Error) → Number w n old mid → Stays mid new → NotTaken true buffers n mid new e → Rejects true buffers (sized_at w) old new e
+pub payload_refused : {grows : Bool} (buffers : Bool) (w n : ℕ) (old mid new : Reading) (e : Error) → Number w n old mid → Stays mid new → NotTaken grows buffers n mid new e → Rejects grows buffers (sized_at w) old new e
 payload_refused buffers w n old mid new e d s u =
     rejects_then (sized_at w) (bytes_at n) old mid new d.digits e d.step (λ t h. length_there w d.digits t d.len ∙ ap (λ (m : ℕ). bytes_at m t) d.value ∙ h)
     (unread_rejects (bytes_at n) n mid new e (bytes_short n) (record { stays = s; why = u }))
@@ -53,7 +53,7 @@ bad_text w l b s h n u = rw (append_assoc l b s, length_there w l (b ++ s) h, n,
 no_device : IsCause InvalidUtf8Encoding → ⊥
 no_device d = d
 
-pub text_refused : (buffers : Bool) (w : ℕ) (b : List ℕ) (old new : Reading) → Payload w b old new → (IsUtf8 b → ⊥) → Rejects true buffers (text_at w) old new InvalidUtf8Encoding
+pub text_refused : {grows : Bool} (buffers : Bool) (w : ℕ) (b : List ℕ) (old new : Reading) → Payload w b old new → (IsUtf8 b → ⊥) → Rejects grows buffers (text_at w) old new InvalidUtf8Encoding
 text_refused buffers w b old new p n = rejects_after (text_at w) old new (p.digits ++ b) InvalidUtf8Encoding p.step no_device (λ s. bad_text w p.digits b s p.len p.value (not_utf8 b n))
 
 pub text_of : (w : ℕ) (b t : List ℕ) (old new : Reading) → Payload w b old new → t ≡ b → IsUtf8 t → Text w t old new
@@ -80,26 +80,26 @@ text_ok view con x e w (Ok v) old new c k p t = sized_is x e w (view v) (con (vi
 text_ok view con x e w (Err f) old new c k p t = tt
 
 -- a code's data are refused as this parse refuses them
-refused_data : {V A : Type 0} (k : Kind) (buffers : Bool) (x : ℕ) (e : EncodingCodes) (parse : List ℕ → Parsed A) (r : Result V Error) (old new : Reading) → code_of x ≡ Some e
-    → ((s : List ℕ) (err : Error) → parse s ≡ Err err → data_at k e s ≡ Err err)
-    → IfErr r (λ err. Rejects true buffers parse old new err) → IfErr r (λ err. Rejects true buffers (behind_byte (data_at k) x) old new err)
-refused_data k buffers x e parse (Ok v) old new c h t = tt
-refused_data k buffers x e parse (Err err) old new c h t = record { why = λ s at f. tell s (t.why s at f); steady = t.steady; device = t.device; memory = t.memory }
+pub refused_data : {V A B : Type 0} (target : EncodingCodes → List ℕ → Parsed B) (grows buffers : Bool) (x : ℕ) (e : EncodingCodes) (parse : List ℕ → Parsed A) (r : Result V Error) (old new : Reading) → code_of x ≡ Some e
+    → ((s : List ℕ) (err : Error) → parse s ≡ Err err → target e s ≡ Err err)
+    → IfErr r (λ err. Rejects grows buffers parse old new err) → IfErr r (λ err. Rejects grows buffers (behind_byte target x) old new err)
+refused_data target grows buffers x e parse (Ok v) old new c h t = tt
+refused_data target grows buffers x e parse (Err err) old new c h t = record { why = λ s at f. tell s (t.why s at f); steady = t.steady; device = t.device; memory = t.memory }
   where
-    tell : (s : List ℕ) → (parse s ≡ Err err) ⊎ Excused true buffers old new err → (behind_byte (data_at k) x s ≡ Err err) ⊎ Excused true buffers old new err
-    tell s (inl p) = inl (behind_code (data_at k) x e s c ∙ h s err p)
+    tell : (s : List ℕ) → (parse s ≡ Err err) ⊎ Excused grows buffers old new err → (behind_byte target x s ≡ Err err) ⊎ Excused grows buffers old new err
+    tell s (inl p) = inl (behind_code target x e s c ∙ h s err p)
     tell s (inr y) = inr y
 
-passed_on : {A B : Type 0} (p : Parsed A) (f : A × List ℕ → Parsed B) (err : Error) → p ≡ Err err → (p >>= f) ≡ Err err
+pub passed_on : {A B : Type 0} (p : Parsed A) (f : A × List ℕ → Parsed B) (err : Error) → p ≡ Err err → (p >>= f) ≡ Err err
 passed_on p f err h = rw h refl
 
 sized_data : (k : Kind) (e : EncodingCodes) (w : ℕ) → (row e).kind ≡ k → (row e).category ≡ Variable w → (s : List ℕ) (err : Error) → sized_at w s ≡ Err err → data_at k e s ≡ Err err
 unfolding data_at
 sized_data k e w h c s err p = rw (kind_same (row e).kind k h, c) (passed_on (sized_at w s) (valued e) err p)
 
-pub sized_err : {V : Type 0} (k : Kind) (buffers : Bool) (x : ℕ) (e : EncodingCodes) (w : ℕ) (r : Result V Error) (old new : Reading) → code_of x ≡ Some e → (row e).kind ≡ k → (row e).category ≡ Variable w
-    → IfErr r (λ err. Rejects true buffers (sized_at w) old new err) → IfErr r (λ err. Rejects true buffers (behind_byte (data_at k) x) old new err)
-sized_err k buffers x e w r old new c h l t = refused_data k buffers x e (sized_at w) r old new c (sized_data k e w h l) t
+pub sized_err : {V : Type 0} (k : Kind) (grows buffers : Bool) (x : ℕ) (e : EncodingCodes) (w : ℕ) (r : Result V Error) (old new : Reading) → code_of x ≡ Some e → (row e).kind ≡ k → (row e).category ≡ Variable w
+    → IfErr r (λ err. Rejects grows buffers (sized_at w) old new err) → IfErr r (λ err. Rejects grows buffers (behind_byte (data_at k) x) old new err)
+sized_err k grows buffers x e w r old new c h l t = refused_data (data_at k) grows buffers x e (sized_at w) r old new c (sized_data k e w h l) t
 
 -- what is refused as a text is refused as the code's data
 refused_as : (err : Error) (b : List ℕ × List ℕ) → (if false then Ok b else Err InvalidUtf8Encoding) ≡ Err err → InvalidUtf8Encoding ≡ err
@@ -114,15 +114,15 @@ refused_parse : (e : EncodingCodes) (con : List ℕ → Scalar) (p : Parsed (Lis
 refused_parse e con (Ok b) err n f h = rw n (refused_text con (is_utf8 b.0) err b (payload e b.0) (f b.0) h)
 refused_parse e con (Err x) err n f h = let q : x ≡ err = cc in ap Err q
 
-text_data : (k : Kind) (e : EncodingCodes) (con : List ℕ → Scalar) (w : ℕ) → (row e).kind ≡ k → (row e).category ≡ Variable w → bad_payload (row e).kind ≡ InvalidUtf8Encoding → ((b : List ℕ) → payload e b ≡ (if is_utf8 b then Some (con b) else None))
+pub text_data_refused : (k : Kind) (e : EncodingCodes) (con : List ℕ → Scalar) (w : ℕ) → (row e).kind ≡ k → (row e).category ≡ Variable w → bad_payload (row e).kind ≡ InvalidUtf8Encoding → ((b : List ℕ) → payload e b ≡ (if is_utf8 b then Some (con b) else None))
     → (s : List ℕ) (err : Error) → text_at w s ≡ Err err → data_at k e s ≡ Err err
 unfolding data_at
-text_data k e con w h c n f s err p = rw (kind_same (row e).kind k h, c) (refused_parse e con (sized_at w s) err n f p)
+text_data_refused k e con w h c n f s err p = rw (kind_same (row e).kind k h, c) (refused_parse e con (sized_at w s) err n f p)
 
-pub text_err : {V : Type 0} (k : Kind) (con : List ℕ → Scalar) (buffers : Bool) (x : ℕ) (e : EncodingCodes) (w : ℕ) (r : Result V Error) (old new : Reading) → code_of x ≡ Some e → (row e).kind ≡ k → (row e).category ≡ Variable w
+pub text_err : {V : Type 0} (k : Kind) (con : List ℕ → Scalar) (grows buffers : Bool) (x : ℕ) (e : EncodingCodes) (w : ℕ) (r : Result V Error) (old new : Reading) → code_of x ≡ Some e → (row e).kind ≡ k → (row e).category ≡ Variable w
     → bad_payload (row e).kind ≡ InvalidUtf8Encoding → ((b : List ℕ) → payload e b ≡ (if is_utf8 b then Some (con b) else None))
-    → IfErr r (λ err. Rejects true buffers (text_at w) old new err) → IfErr r (λ err. Rejects true buffers (behind_byte (data_at k) x) old new err)
-text_err k con buffers x e w r old new c h l n f t = refused_data k buffers x e (text_at w) r old new c (text_data k e con w h l n f) t
+    → IfErr r (λ err. Rejects grows buffers (text_at w) old new err) → IfErr r (λ err. Rejects grows buffers (behind_byte (data_at k) x) old new err)
+text_err k con grows buffers x e w r old new c h l n f t = refused_data (data_at k) grows buffers x e (text_at w) r old new c (text_data_refused k e con w h l n f) t
 
 -- ---- memory is asked for only where the payload is there
 

@@ -5,3 +5,4 @@ pub mod Parts
 pub mod OneCode
 pub mod Decimals
 pub mod Arrays
+pub mod LentTexts

@@ -12,11 +12,11 @@ use Rattle.amqp_base.specs.Typing.{is_of}
 use Rattle.amqp_base.proofs.KindPlaces.{same_kind_is}
 use Rattle.amqp_read.specs.Reading.{Reading}
 use Rattle.amqp_de.specs.Decoding.{Decoding, stands_under}
-use Rattle.amqp_base.specs.Refusing.{scalar_refusal}
+use Rattle.amqp_base.specs.Refusing.{Refusing, scalar_refusal}
 use Rattle.amqp_de.specs.Law.{Found, Missed, Named, Spent, free, refused_free}
 use Rattle.amqp_data.specs.Excuses.{Excused, Advances}
 use Rattle.amqp_base.specs.Parse.{Parsed, byte_under, behind_byte, item_at, data_at}
-use Rattle.amqp_de.specs.Steps.{Begins, BeginsNot, Exact, IsDescribed}
+use Rattle.amqp_de.specs.Steps.{Begins, BeginsNot, Exact, IsDescribed, Stops}
 use Rattle.amqp_data.specs.Steps.{IsData, Rejects, BytesFirst}
 use Rattle.amqp_data.proofs.Readings.{advances_then, onward, takes_then, behind, excused_before, excused_more}
 use Rattle.amqp_data.proofs.Data.{understands, behind_code}
@@ -69,10 +69,14 @@ or_right : (a b : Bool) → IsTrue b → IsTrue (a || b)
 or_right true b h = refl
 or_right false b h = h
 
--- what a call takes has no parts, and its data parse
-pub record Reads (takes : Item → Bool) (parse : EncodingCodes → List ℕ → Parsed Scalar) : Type 0 where
+-- what a call takes has no parts, and its data parse as what is shown of it
+pub record ReadsAs {A : Type 0} (takes : Item → Bool) (shown : Scalar → A) (parse : EncodingCodes → List ℕ → Parsed A) : Type 0 where
   pub scalars : (i : Item) → IsTrue (takes i) → (v : Scalar) × (i ≡ scalar v)
-  pub understands : (e : EncodingCodes) (t rest : List ℕ) (v : Scalar) → IsTrue (takes (scalar v)) → Wire lenient (under e) t (scalar v) → parse e (t ++ rest) ≡ Ok (v, rest)
+  pub understands : (e : EncodingCodes) (t rest : List ℕ) (v : Scalar) → IsTrue (takes (scalar v)) → Wire lenient (under e) t (scalar v) → parse e (t ++ rest) ≡ Ok (shown v, rest)
+
+-- as the item itself
+abbrev pub Reads : (Item → Bool) → (EncodingCodes → List ℕ → Parsed Scalar) → Type 0
+Reads takes parse = ReadsAs takes (λ v. v) parse
 
 pub reads_kind : (k : Kind) → Reads (is_of k) (data_at k)
 reads_kind k = record {
@@ -102,7 +106,7 @@ found takes v old mid r x h b d = record {
 }
 
 -- no byte
-pub missed_byte : {takes : Item → Bool} {parse : EncodingCodes → List ℕ → Parsed Scalar} (grows buffers : Bool) (old new : Decoding) (e : Error) → Reads takes parse → BeginsNot buffers old new e → Missed takes (grows || buffers) buffers old new e
+pub missed_byte : {A : Type 0} {takes : Item → Bool} {shown : Scalar → A} {parse : EncodingCodes → List ℕ → Parsed A} (grows buffers : Bool) (old new : Decoding) (e : Error) → ReadsAs takes shown parse → BeginsNot buffers old new e → Missed takes (grows || buffers) buffers old new e
 missed_byte grows buffers old new e g n = record {
   why = λ a i t rest w q at h.
       let p = g.scalars i q in
@@ -115,7 +119,7 @@ missed_byte grows buffers old new e g n = record {
 }
 
 -- no data
-pub missed_data : {takes : Item → Bool} (parse : EncodingCodes → List ℕ → Parsed Scalar) (grows buffers : Bool) (old mid : Decoding) (r : Reading) (b : ℕ) (e : Error) → Reads takes parse → Begins old mid b → Rejects grows buffers (behind_byte parse b) mid.reading r e
+pub missed_data : {A : Type 0} {takes : Item → Bool} {shown : Scalar → A} (parse : EncodingCodes → List ℕ → Parsed A) (grows buffers : Bool) (old mid : Decoding) (r : Reading) (b : ℕ) (e : Error) → ReadsAs takes shown parse → Begins old mid b → Rejects grows buffers (behind_byte parse b) mid.reading r e
     → Missed takes grows buffers old (refused mid r) e
 missed_data {takes = takes} parse grows buffers old mid r x e g b n = record {
   why = λ a i t rest w q at h.
@@ -132,17 +136,21 @@ missed_data {takes = takes} parse grows buffers old mid r x e g b n = record {
 }
 
 -- the exact answers
-parsed_item : (parse : EncodingCodes → List ℕ → Parsed Scalar) (c : Constructor) (s : List ℕ) (b : ℕ) (rest : List ℕ) (z : Parsed Scalar) → byte_under c s ≡ Ok (b, rest) → behind_byte parse b rest ≡ z → item_at parse c s ≡ z
+parsed_item : {A : Type 0} (parse : EncodingCodes → List ℕ → Parsed A) (c : Constructor) (s : List ℕ) (b : ℕ) (rest : List ℕ) (z : Parsed A) → byte_under c s ≡ Ok (b, rest) → behind_byte parse b rest ≡ z → item_at parse c s ≡ z
 parsed_item parse c s b rest z p q = rw p q
 
-pub exact_data : {V : Type 0} {takes : Item → Bool} (view : V → Scalar) (parse : EncodingCodes → List ℕ → Parsed Scalar) (grows buffers : Bool) (u : V) (old mid : Decoding) (r : Reading) (b : ℕ) → Reads takes parse → IsTrue (takes (scalar (view u))) → Begins old mid b
-    → IsData b (scalar (view u)) mid.reading r → Exact view grows buffers (item_at parse (stands_under old)) old.reading (Ok u) r
-exact_data view parse grows buffers u old mid r x g h b d = record {
+pub exact_shown : {V A : Type 0} {takes : Item → Bool} {shown : Scalar → A} (view : V → A) (parse : EncodingCodes → List ℕ → Parsed A) (grows buffers : Bool) (u : V) (v : Scalar) (old mid : Decoding) (r : Reading) (b : ℕ) → ReadsAs takes shown parse → IsTrue (takes (scalar v))
+    → shown v ≡ view u → Begins old mid b → IsData b (scalar v) mid.reading r → Exact view grows buffers (item_at parse (stands_under old)) old.reading (Ok u) r
+exact_shown {A = A} view parse grows buffers u v old mid r x g h q b d = record {
   answer = λ s at honest.
       let o = b.exact s at in
       let p = behind mid.reading r o.0 d.text d.step o.1 in
-      (p.0, p.1, parsed_item parse (stands_under old) s x o.0 _ o.2 (behind_code parse x d.code o.0 d.code_is ∙ ap (parse d.code) p.2 ∙ g.understands d.code d.text p.0 (view u) h d.spelled));
+      (p.0, p.1, parsed_item parse (stands_under old) s x o.0 _ o.2 (behind_code parse x d.code o.0 d.code_is ∙ (ap (parse d.code) p.2 ∙ (g.understands d.code d.text p.0 v h d.spelled ∙ ap (λ (a : A). Ok (a, p.0)) q))));
 }
+
+pub exact_data : {V : Type 0} {takes : Item → Bool} (view : V → Scalar) (parse : EncodingCodes → List ℕ → Parsed Scalar) (grows buffers : Bool) (u : V) (old mid : Decoding) (r : Reading) (b : ℕ) → Reads takes parse → IsTrue (takes (scalar (view u))) → Begins old mid b
+    → IsData b (scalar (view u)) mid.reading r → Exact view grows buffers (item_at parse (stands_under old)) old.reading (Ok u) r
+exact_data view parse grows buffers u old mid r x g h b d = exact_shown view parse grows buffers u (view u) old mid r x g h refl b d
 
 -- ---- memory is asked for only where no bytes are missing
 
@@ -161,22 +169,46 @@ item_first parse buffers old mid x e b f = record { there = λ m. tell (f.there 
 unread_item : {A : Type 0} (parse : EncodingCodes → List ℕ → Parsed A) (c : Constructor) (s : List ℕ) (e : Error) → byte_under c s ≡ Err e → item_at parse c s ≡ Err e
 unread_item parse c s e p = rw p refl
 
-pub byte_named : (k : Kind) (grows buffers : Bool) (old new : Decoding) (e : Error) → BeginsNot buffers old new e → Named (scalar_refusal k) (grows || buffers) buffers old new e
-unfolding scalar_refusal
-byte_named k grows buffers old new e n = record { why = λ a s at h. tell s (n.rejects.why s at h) }
+-- an item is refused by its parse
+abbrev pub parse_refusal : {A : Type 0} → (EncodingCodes → List ℕ → Parsed A) → Refusing
+parse_refusal parse c s e = item_at parse c s ≡ Err e
+
+pub byte_refused : {A : Type 0} (parse : EncodingCodes → List ℕ → Parsed A) (grows buffers : Bool) (old new : Decoding) (e : Error) → BeginsNot buffers old new e → Named (parse_refusal parse) (grows || buffers) buffers old new e
+byte_refused parse grows buffers old new e n = record { why = λ a s at h. tell s (n.rejects.why s at h) }
   where
-    tell : (s : List ℕ) → (byte_under (stands_under old) s ≡ Err e) ⊎ Excused buffers buffers old.reading new.reading e → (item_at (data_at k) (stands_under old) s ≡ Err e) ⊎ Excused (grows || buffers) buffers old.reading new.reading e
-    tell s (inl p) = inl (unread_item (data_at k) (stands_under old) s e p)
+    tell : (s : List ℕ) → (byte_under (stands_under old) s ≡ Err e) ⊎ Excused buffers buffers old.reading new.reading e → (item_at parse (stands_under old) s ≡ Err e) ⊎ Excused (grows || buffers) buffers old.reading new.reading e
+    tell s (inl p) = inl (unread_item parse (stands_under old) s e p)
     tell s (inr y) = inr (excused_more old.reading new.reading e (or_right grows buffers) y)
 
-pub data_named : (k : Kind) (grows buffers : Bool) (old mid : Decoding) (r : Reading) (x : ℕ) (e : Error) → Begins old mid x → Rejects grows buffers (behind_byte (data_at k) x) mid.reading r e → Named (scalar_refusal k) grows buffers old (refused mid r) e
-unfolding scalar_refusal
-data_named k grows buffers old mid r x e b n = record {
+pub data_refused : {A : Type 0} (parse : EncodingCodes → List ℕ → Parsed A) (grows buffers : Bool) (old mid : Decoding) (r : Reading) (x : ℕ) (e : Error) → Begins old mid x → Rejects grows buffers (behind_byte parse x) mid.reading r e → Named (parse_refusal parse) grows buffers old (refused mid r) e
+data_refused parse grows buffers old mid r x e b n = record {
   why = λ a s at h.
       let o = b.exact s at in
       tell s o.0 o.2 (n.why o.0 o.1 (b.step.steady.honest ∙ h));
 }
   where
-    tell : (s rest : List ℕ) → byte_under (stands_under old) s ≡ Ok (x, rest) → (behind_byte (data_at k) x rest ≡ Err e) ⊎ Excused grows buffers mid.reading r e → (item_at (data_at k) (stands_under old) s ≡ Err e) ⊎ Excused grows buffers old.reading r e
-    tell s rest u (inl p) = inl (parsed_item (data_at k) (stands_under old) s x rest _ u p)
+    tell : (s rest : List ℕ) → byte_under (stands_under old) s ≡ Ok (x, rest) → (behind_byte parse x rest ≡ Err e) ⊎ Excused grows buffers mid.reading r e → (item_at parse (stands_under old) s ≡ Err e) ⊎ Excused grows buffers old.reading r e
+    tell s rest u (inl p) = inl (parsed_item parse (stands_under old) s x rest _ u p)
     tell s rest u (inr y) = inr (excused_before old.reading mid.reading r b.text e b.step y)
+
+-- so the answer is what the bytes call for
+pub refused_exactly : {V A : Type 0} {shows : V → A} (parse : EncodingCodes → List ℕ → Parsed A) (grows buffers : Bool) (old new : Decoding) (e : Error) → old.ended ≡ false → Named (parse_refusal parse) grows buffers old new e
+    → Exact shows grows buffers (item_at parse (stands_under old)) old.reading (Err e) new.reading
+refused_exactly parse grows buffers old new e a n = record { answer = λ s at h. n.why a s at h }
+
+-- of a kind
+pub byte_named : (k : Kind) (grows buffers : Bool) (old new : Decoding) (e : Error) → BeginsNot buffers old new e → Named (scalar_refusal k) (grows || buffers) buffers old new e
+unfolding scalar_refusal
+byte_named k grows buffers old new e n = byte_refused (data_at k) grows buffers old new e n
+
+pub data_named : (k : Kind) (grows buffers : Bool) (old mid : Decoding) (r : Reading) (x : ℕ) (e : Error) → Begins old mid x → Rejects grows buffers (behind_byte (data_at k) x) mid.reading r e → Named (scalar_refusal k) grows buffers old (refused mid r) e
+unfolding scalar_refusal
+data_named k grows buffers old mid r x e b n = data_refused (data_at k) grows buffers old mid r x e b n
+
+-- ---- a call of the deserializer's own, which isn't ended
+
+pub goes_on : {A : Type 0} (old new : Decoding) (v : A) → old.ended ≡ false → Stops old (Ok v) new
+goes_on old new v n = record { err = tt; if_ended = λ h. absurd cc (n, h) }
+
+pub stops_there : {A : Type 0} (old new : Decoding) (e : Error) → old.ended ≡ false → IsTrue new.ended → Stops {A = A} old (Err e) new
+stops_there old new e n h = record { err = h; if_ended = λ g. absurd cc (n, g) }

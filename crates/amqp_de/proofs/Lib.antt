@@ -2,6 +2,7 @@ pub mod Weaker
 pub mod Begun
 pub mod ChosenRead
 pub mod Answered
+pub mod TextRead
 pub mod Opening
 pub mod PartsRead
 pub mod Sequence

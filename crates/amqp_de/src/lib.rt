@@ -17,6 +17,7 @@ mod fields;
 mod floats;
 mod leading;
 mod leaf;
+mod lent;
 mod list;
 mod map;
 mod maps;

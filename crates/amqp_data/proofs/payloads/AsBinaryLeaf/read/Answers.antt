@@ -1,4 +1,4 @@
-use Rattle.std.proofs.Common.{refl, arith}
+use Rattle.std.proofs.Common.{true, refl, arith}
 use Rattle.amqp_base.specs.Codes.{Kind, row, code_of}
 use Rattle.amqp_base.specs.SameKind.{same_kind, place}
 use Rattle.amqp_base.specs.Item.{binary}
@@ -15,7 +15,7 @@ returns-in-160-clause-ok g c = sized_ok (λ v. v.items) binary c.args.code Vbin8
 
 pub returns-in-160-clause-err : goal.returns-in-160-clause-err
 unfolding row code_of
-returns-in-160-clause-err g c = sized_err Kind.binary g.R.Read.buffers c.args.code Vbin8 1 c.payload.result _ _ (rw c.in-160.is refl) refl refl c.payload.ensures.err
+returns-in-160-clause-err g c = sized_err Kind.binary true g.R.Read.buffers c.args.code Vbin8 1 c.payload.result _ _ (rw c.in-160.is refl) refl refl c.payload.ensures.err
 
 pub returns-in-176-clause-ok : goal.returns-in-176-clause-ok
 unfolding row code_of payload read
@@ -23,7 +23,7 @@ returns-in-176-clause-ok g c = sized_ok (λ v. v.items) binary c.args.code Vbin3
 
 pub returns-in-176-clause-err : goal.returns-in-176-clause-err
 unfolding row code_of
-returns-in-176-clause-err g c = sized_err Kind.binary g.R.Read.buffers c.args.code Vbin32 4 c.payload-in-176.result _ _ (rw c.in-176.is refl) refl refl c.payload-in-176.ensures.err
+returns-in-176-clause-err g c = sized_err Kind.binary true g.R.Read.buffers c.args.code Vbin32 4 c.payload-in-176.result _ _ (rw c.in-176.is refl) refl refl c.payload-in-176.ensures.err
 
 pub returns-in_default-clause-err : goal.returns-in_default-clause-err
 unfolding row same_kind place
