@@ -17,9 +17,9 @@ impl<'s> Deserializer<SliceReader<'s>> {
     /// A string or a symbol (part 1, sections 1.6.20 and 1.6.21), with a length of 1 or of 4 bytes,
     /// lent by the slice. Any UTF-8 is taken.
     ///
-    /// `Io(UnexpectedEof)` where bytes are missing, `InvalidFormatCode` where another item stands, a
-    /// binary too, `InvalidUtf8Encoding` where all bytes are there and aren't UTF-8. A refusal ends
-    /// the deserializer.
+    /// `Io(UnexpectedEof)` where bytes are missing, `InvalidFormatCode` where another item stands,
+    /// a binary too, `InvalidUtf8Encoding` where all bytes are there and aren't UTF-8. A refusal
+    /// ends the deserializer.
     #[inline(always)]
     pub fn deserialize_str(&mut self) -> Result<&'s str, Error>
         ensures { ReadsText (λ t. t.now) self.old result self.new }

@@ -4,7 +4,7 @@ ghost use Rattle.serde_amqp.specs.Headline.{KeptAs};
 
 use crate::{
     Celsius, Colour, Data, Delivery, Foo, Measurement, Note, Offer, Open, Pair, Priority, Reply,
-    Sensor, Shipment, Station, Tags,
+    SaslInit, Sensor, Shipment, Station, Tags,
 };
 use serde_amqp::{Error, Typed, from_slice, laws};
 use std::alloc::Global;
@@ -134,5 +134,14 @@ pub fn shipment_is_kept(alloc: Global, bytes: &[u8]) -> Result<Shipment, Error>
     ensures { KeptAs ⟦<Shipment as Typed>⟧.meaning bytes.now result }
 {
     laws::kept::<Shipment>();
+    from_slice(alloc, bytes)
+}
+
+/// What `to_vec` wrote for a client's choice is read as the same one, whose mechanism and response
+/// stand in these bytes, or memory was wanting.
+pub fn sasl_init_is_kept<'s>(alloc: Global, bytes: &'s [u8]) -> Result<SaslInit<'s>, Error>
+    ensures { KeptAs ⟦<SaslInit<'s> as Typed>⟧.meaning bytes.now result }
+{
+    laws::kept::<SaslInit<'s>>();
     from_slice(alloc, bytes)
 }
