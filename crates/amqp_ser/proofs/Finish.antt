@@ -38,7 +38,7 @@ begins_self : (l : List Size) → begins l l ≡ true
 begins_self [] = refl
 begins_self (x ∷ l) = rw (eq-eqb x.length x.length refl, eq-eqb x.count x.count refl, begins_self l) refl
 
-plain_text : (s : State) (f : Setting → Item) (b : Option (List ℕ)) → s.setting ≡ Plain → s.mark ≡ unmarked → marked s.mark (f s.setting) ≡ b → canon (f Plain) ≡ b
+pub plain_text : (s : State) (f : Setting → Item) (b : Option (List ℕ)) → s.setting ≡ Plain → s.mark ≡ unmarked → marked s.mark (f s.setting) ≡ b → canon (f Plain) ≡ b
 plain_text s f b plain mark text = subst (λ x. canon (f x) ≡ b) plain (sym (marked_canon (f s.setting)) ∙ subst (λ m. marked m (f s.setting) ≡ b) mark text)
 
 measure_is : (p : Option Measured) (l : List Size) (n : ℕ) (m : Measured) → p ≡ Some (record { length = 0; sizes = [] }) → Some m ≡ measure_after p l n → (m.length ≡ min n 18446744073709551615) × (m.sizes ≡ l)
@@ -60,7 +60,7 @@ vec_ok s f t p l plain mark answers start end w =
     let e : p ≡ record { bytes = took.bytes; sizes = drop (length (sizes (f s.setting))) l } = cc in
     plain_text s f (Some p.bytes) plain mark (took.text ∙ ap Some (sym (ap (λ (x : Planned). x.bytes) e)))
 
-next_text : (s : State) (i : Item) → is_next s.plan (sizes i) ≡ true → text_for s i ≡ None → marked s.mark i ≡ None
+pub next_text : (s : State) (i : Item) → is_next s.plan (sizes i) ≡ true → text_for s i ≡ None → marked s.mark i ≡ None
 unfolding text_for fits
 next_text s i h k = go (marked s.mark i) (is_next s.plan (sizes i)) h k
   where
@@ -73,7 +73,7 @@ pub pass_err : (s : State) (f : Setting → Item) (e : Error) (t : State) → s.
 pass_err s f e t plain mark next answers faults r =
     elim (r.cause answers) [ inl m ↦ inl m | inr d ↦ elim d [ inl io ↦ absurd (omega (arith, faults, io.1)) | inr w ↦ inr (plain_text s f None plain mark (next_text s (f s.setting) next w.none)) ] ]
 
-no_plan_next : (p : Option Planned) (l : List Size) → p ≡ None → is_next p l ≡ true
+pub no_plan_next : (p : Option Planned) (l : List Size) → p ≡ None → is_next p l ≡ true
 no_plan_next p l h = rw h refl
 
 pub measure_err : (s : State) (f : Setting → Item) (e : Error) (t : State) → s.setting ≡ Plain → s.mark ≡ unmarked → s.plan ≡ None → s.ended ≡ false → t.faults ≡ s.faults → Refused s (f s.setting) e t → (e ≡ OutOfMemory) ⊎ HasNoText (f Plain) e

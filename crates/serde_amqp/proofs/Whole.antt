@@ -17,7 +17,8 @@ use Rattle.amqp_base.specs.Typing.{OneValue}
 use Rattle.amqp_base.specs.Meaning.{Meaning}
 use Rattle.serde_amqp.specs.Headline.{ReadFrom, ReadsAll, Answered, SameAgain, NamedFrom}
 
-consumed : (k l : Option (List ℕ)) (s x : List ℕ) → k ≡ Some s → Consumes k l x → (rest : List ℕ) × (s ≡ x ++ rest)
+-- what was consumed of known bytes stood in front of the others
+pub consumed : (k l : Option (List ℕ)) (s x : List ℕ) → k ≡ Some s → Consumes k l x → (rest : List ℕ) × (s ≡ x ++ rest)
 consumed None l s x e c = absurd cc
 consumed (Some t) None s x e c = absurd c
 consumed (Some t) (Some u) s x e c = (u, sym (same_Some t s e) ∙ c)
@@ -98,3 +99,10 @@ named_from m s old new (Err x) e n =
     tell : m.refuses bare s x ⊎ Excused (m.grows || false) false (fresh s).reading new.reading x → NamedFrom m s x
     tell (inl p) = inl p
     tell (inr y) = inr (excused m.grows (fresh s).reading new.reading x y)
+
+-- a value that is handed on with the bytes behind it
+pub with_rest : {T U : Type 0} (takes : Item → Bool) (means : Item → T → Type 0) (grows : Bool) (s : List ℕ) (v : T) (rest : U) → ReadsAll takes means grows s (Ok v) → ReadsAll {T = T × U} takes (λ i p. means i p.0) grows s (Ok (v, rest))
+with_rest takes means grows s v rest h = record { answer = λ i n f t. h.answer i n f t }
+
+pub without_rest : {T U : Type 0} (takes : Item → Bool) (means : Item → T → Type 0) (grows : Bool) (s : List ℕ) (e : Error) → ReadsAll {T = T} takes means grows s (Err e) → ReadsAll {T = T × U} takes (λ i p. means i p.0) grows s (Err e)
+without_rest takes means grows s e h = record { answer = λ i n f t. h.answer i n f t }

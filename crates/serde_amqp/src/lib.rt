@@ -1,5 +1,14 @@
 //! AMQP 1.0 values to bytes and back, proved: the canonical text of a value is written, and every
 //! text that the grammar allows is read.
+//!
+//! A refusal has a name and no place. Who wants the place reads by a deserializer, which hands back
+//! its reader behind a refusal, too; what the reader has consumed then stands in front of the place:
+//!
+//! ```
+//! let mut de = Deserializer::new(SliceReader::new(bytes));
+//! let answer = Vec::<i32>::deserialize(alloc, &mut de);
+//! let place = de.into_reader().bytes_consumed();
+//! ```
 #![tactic(auto)]
 
 ghost use Rattle.std.specs.Prelude.{◌≡◌, ◌⊎◌, Some, IfOk, IfErr, IsTrue};
@@ -18,7 +27,9 @@ pub mod format_code;
 pub mod laws;
 pub mod primitives;
 pub mod read;
+mod rest;
 pub mod ser;
+mod streams;
 
 pub use amqp_base::{
     Category, Counted, DECIMAL32_WIDTH, DECIMAL64_WIDTH, DECIMAL128_WIDTH, DESCRIBED_BASIC,
@@ -44,7 +55,9 @@ pub use amqp_types::{
     Descriptor, Double, Float, Int, List, Long, OrderedMap, Short, Symbol, SymbolRef, Timestamp,
     Ubyte, Uint, Ulong, Ushort, Uuid,
 };
+pub use rest::from_slice_with_rest;
 use std::alloc::Global;
+pub use streams::{from_reader, to_writer};
 
 /// The canonical text of a value. Where its item has none, the first part that has none is refused:
 /// as `Io(Other)`, where a payload or a body is above 4,294,967,291 bytes, else as `InvalidValue`,

@@ -1,6 +1,6 @@
 //! Writing.
 
-pub use crate::{serialized_size, to_vec};
+pub use crate::{serialized_size, to_vec, to_writer};
 pub use amqp_ser::{
     MapSerializer, SeqSerializer, Serialize, Serializer, StructSerializer, TupleSerializer,
     TupleStructSerializer, VariantSerializer,
