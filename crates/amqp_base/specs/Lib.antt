@@ -27,6 +27,8 @@ pub mod Refusing
 pub mod Meaning
 pub mod Leading
 pub mod Describing
+pub mod Identifiers
+pub mod Variants
 pub mod Sorts
 pub mod Chosen
 pub mod Faults

@@ -53,7 +53,7 @@ ulong_refused custom x old new err (inl h) n = kind_refused custom Kind.ulong x 
 ulong_refused custom x old new err (inr (inl h)) n = kind_refused custom Kind.ulong x SmallUlong old new err (rw h refl) refl refl n
 ulong_refused custom x old new err (inr (inr h)) n = kind_refused custom Kind.ulong x Ulong0 old new err (rw h refl) refl refl n
 
-other_descriptor : (custom : Error) (e : EncodingCodes) (s : List ℕ) → (e ≡ Sym8 → ⊥) → (e ≡ Sym32 → ⊥) → (e ≡ Ulong → ⊥) → (e ≡ SmallUlong → ⊥) → (e ≡ Ulong0 → ⊥) → descriptor_data custom e s ≡ Err custom
+pub other_descriptor : (custom : Error) (e : EncodingCodes) (s : List ℕ) → (e ≡ Sym8 → ⊥) → (e ≡ Sym32 → ⊥) → (e ≡ Ulong → ⊥) → (e ≡ SmallUlong → ⊥) → (e ≡ Ulong0 → ⊥) → descriptor_data custom e s ≡ Err custom
 unfolding descriptor_data row same_kind place
 other_descriptor custom Sym8 s a b c d f = absurd (a refl)
 other_descriptor custom Sym32 s a b c d f = absurd (b refl)
@@ -62,7 +62,7 @@ other_descriptor custom SmallUlong s a b c d f = absurd (d refl)
 other_descriptor custom Ulong0 s a b c d f = absurd (f refl)
 other_descriptor custom _ s a b c d f = refl
 
-byte_not : (x n : ℕ) (e f : EncodingCodes) → (row e).byte ≡ x → (row f).byte ≡ n → (x ≡ n → ⊥) → e ≡ f → ⊥
+pub byte_not : (x n : ℕ) (e f : EncodingCodes) → (row e).byte ≡ x → (row f).byte ≡ n → (x ≡ n → ⊥) → e ≡ f → ⊥
 byte_not x n e f p q d h = d (sym p ∙ ap (λ (z : EncodingCodes). (row z).byte) h ∙ q)
 
 -- a code of another kind

@@ -13,3 +13,5 @@ pub mod Descriptors
 pub mod ArrayData
 pub mod CodeBytes
 pub mod DecimalData
+pub mod KeyData
+pub mod LooksAhead

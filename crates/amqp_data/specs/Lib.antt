@@ -6,3 +6,5 @@ pub mod OneCode
 pub mod Decimals
 pub mod Arrays
 pub mod LentTexts
+pub mod Keys
+pub mod Ahead

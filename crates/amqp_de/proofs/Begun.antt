@@ -32,7 +32,7 @@ no_described_data (of_map z k b lz lk nk h f) q m n = absurd cc
 no_described_data (of_array z k m b lz lk nk g h f) q o n = absurd cc
 no_described_data (empty_array z k b lz lk nk f) q m n = absurd cc
 
-under_described : (b : List ℕ) (i : Item) → Wire lenient (under DescribedType) b i → ⊥
+pub under_described : (b : List ℕ) (i : Item) → Wire lenient (under DescribedType) b i → ⊥
 unfolding row
 under_described b i (of_data h) = no_described_data h refl refl refl
 

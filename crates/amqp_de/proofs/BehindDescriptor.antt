@@ -64,7 +64,7 @@ wire_described : (t : List ℕ) (e : Descriptor) (v : Item) → Wire lenient bar
 wire_described t e v (of_code p h) = absurd (under_plain h tt)
 wire_described t e v (of_described a b g h) = (a, b, refl, g, h)
 
-front_parses : (custom : Error) (a rest : List ℕ) (d : Descriptor) → DescriptorText a d → describing_at custom bare (0 ∷ (a ++ rest)) ≡ Ok (record { descriptor = d; stands = bare }, rest)
+pub front_parses : (custom : Error) (a rest : List ℕ) (d : Descriptor) → DescriptorText a d → describing_at custom bare (0 ∷ (a ++ rest)) ≡ Ok (record { descriptor = d; stands = bare }, rest)
 unfolding describing_at
 front_parses custom a rest d g = rw (descriptor_parses custom a rest d g) refl
 
@@ -112,7 +112,7 @@ behind_shared old = record { reading = old.reading; ended = false; inherited = o
 wire_pair : (t : List ℕ) (d e : Descriptor) (f : EncodingCodes) (v : Item) → Wire lenient (under_pair d f) t (described e v) → (e ≡ d) × Wire lenient (under f) t v
 wire_pair t d e f v (of_pair h) = (refl, h)
 
-pair_parses : (custom : Error) (d : Descriptor) (f : EncodingCodes) (s : List ℕ) → describing_at custom (under_pair d f) s ≡ Ok (record { descriptor = d; stands = under f }, s)
+pub pair_parses : (custom : Error) (d : Descriptor) (f : EncodingCodes) (s : List ℕ) → describing_at custom (under_pair d f) s ≡ Ok (record { descriptor = d; stands = under f }, s)
 unfolding describing_at
 pair_parses custom d f s = refl
 
@@ -177,7 +177,7 @@ no_descriptor buffers old new e few r = record {
 pub none_at_front : (buffers : Bool) (old new : Decoding) (e : Error) → old.inherited ≡ bare → new.begun ≡ old.begun + 1 → RejectsFor (λ custom. describing_at custom bare) buffers old.reading new.reading e → NoDescriptor buffers old new e
 none_at_front buffers old new e c few r = no_descriptor buffers old new e few (λ custom s. rw (bare_is old.inherited old.described c) (r custom s))
 
-no_pair : (custom : Error) (f : EncodingCodes) (s : List ℕ) → describing_at custom (under f) s ≡ Err InvalidFormatCode
+pub no_pair : (custom : Error) (f : EncodingCodes) (s : List ℕ) → describing_at custom (under f) s ≡ Err InvalidFormatCode
 unfolding describing_at
 no_pair custom f s = refl
 

@@ -37,3 +37,4 @@ pub mod StructsBehind
 pub mod NullApart
 pub mod DescribedAhead
 pub mod DescribedEntries
+pub mod Identified

@@ -20,7 +20,7 @@ use Rattle.amqp_de.proofs.Answered.{of_kind_is, not_refused}
 use Rattle.amqp_de.proofs.Looking.{own_byte, code_stands}
 use Rattle.amqp_data.proofs.FixedWidth.{custom_device}
 
-keeps_overfull : (n : ℕ) (k l : Option (List ℕ)) → Keeps k l → Overfull n l → Overfull n k
+pub keeps_overfull : (n : ℕ) (k l : Option (List ℕ)) → Keeps k l → Overfull n l → Overfull n k
 keeps_overfull n None l h o = tt
 keeps_overfull n (Some t) None h o = absurd h
 keeps_overfull n (Some t) (Some u) h o = rw h at o

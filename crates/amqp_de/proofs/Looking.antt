@@ -66,7 +66,7 @@ under_kind e t i (of_data h) = data_item_kind h refl
 abbrev given : EncodingCodes × List ℕ → Parsed EncodingCodes
 given x = Ok x
 
-same_ok : (e f : EncodingCodes) (s t : List ℕ) (p : Parsed EncodingCodes) → p ≡ Ok (e, s) → p ≡ Ok (f, t) → e ≡ f
+pub same_ok : (e f : EncodingCodes) (s t : List ℕ) (p : Parsed EncodingCodes) → p ≡ Ok (e, s) → p ≡ Ok (f, t) → e ≡ f
 same_ok e f s t p g h = ap (λ (z : EncodingCodes × List ℕ). z.0) (pair_is (e, s) (f, t) (sym g ∙ h))
   where
     pair_is : (x y : EncodingCodes × List ℕ) → given x ≡ given y → x ≡ y
@@ -89,7 +89,7 @@ looks_kind bare e _ rest r _ (of_described a b g w) h = rw (← at_byte 0 Descri
 looks_kind (under f) e t rest r i w h = rw (← at_byte (row f).byte f e (t ++ rest) r (any_again f) h) (under_kind f t i w)
 looks_kind (under_pair d f) e t rest r _ (of_pair w) h = rw (← at_byte 0 DescribedType e (t ++ rest) r zero_any h) described_row
 
-stays_same : (r : Reading) → Looked 0 r r
+pub stays_same : (r : Reading) → Looked 0 r r
 stays_same r = record { stays = record { to_come = keeps r.to_come; taken = refl; received = take_all (length r.received) r.received (omega arith); steady = steady_same r }; received = omega arith }
   where
     keeps : (k : Option (List ℕ)) → Keeps k k
@@ -130,7 +130,7 @@ looks_ahead old r e a c p = record {
 }
 
 -- a code that is inherited
-inherited_code : (f : EncodingCodes) (s : List ℕ) → code_at (under f) s ≡ Ok (f, s)
+pub inherited_code : (f : EncodingCodes) (s : List ℕ) → code_at (under f) s ≡ Ok (f, s)
 inherited_code f s = rw (any_again f) refl
 
 pub looks_under : (old : Decoding) (f : EncodingCodes) → old.ended ≡ false → stands_under old ≡ under f → Looks old old f

@@ -3,6 +3,7 @@ pub mod Law
 pub mod Steps
 pub mod Scalars
 pub mod Look
+pub mod Identifies
 pub mod Access
 pub mod Seq
 pub mod Many

@@ -18,6 +18,7 @@ mod empty_arrays;
 mod error;
 mod fixed;
 mod format_code;
+mod identifiers;
 mod io_reader;
 mod lent;
 mod lists;

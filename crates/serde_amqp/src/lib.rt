@@ -40,7 +40,7 @@ pub use amqp_base::{
 };
 pub use amqp_de::{
     ArrayAccess, Chosen, DescribedAccess, Deserialize, Deserializer, Ended, Field, Fields,
-    ListAccess, MapAccess, SeqAccess, StructAccess, read_described, read_described_map,
+    Identifier, ListAccess, MapAccess, SeqAccess, StructAccess, read_described, read_described_map,
     read_fields, read_parts,
 };
 pub use amqp_read::{IoReader, Read, SliceReader, read_const_bytes};

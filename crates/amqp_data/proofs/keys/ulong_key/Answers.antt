@@ -1,0 +1,5 @@
+use Rattle.amqp_data.proofs.KeyData.{ulong_refused}
+use Rattle.amqp_data.proofs.keys.ulong_key.Goals as goal
+
+pub returns-in-Err-clause-err : goal.returns-in-Err-clause-err
+returns-in-Err-clause-err g c = ulong_refused c.args.code _ _ _ c.requires c.in-Err.ensures.err
