@@ -1,6 +1,6 @@
 //! Allocations: both sides' are counted, by a heap of each side's own that counts and hands on to the process's.
 
-use crate::Case;
+use crate::{Case, PIECE};
 use std::alloc::{GlobalAlloc, Layout, System};
 use std::cell::Cell;
 
@@ -122,5 +122,7 @@ pub fn run(cases: &[Case]) {
         };
         print("encode", one(|times| case.ours_encode(times, &mut [])), one(|times| case.plain_encode(times, &mut [])));
         print("decode", one(|times| case.ours_decode(times)), one(|times| case.plain_decode(times)));
+        print("source", one(|times| case.ours_stream(times, 0)), one(|times| case.ours_decode(times)));
+        print("pieces", one(|times| case.ours_stream(times, PIECE)), one(|times| case.ours_decode(times)));
     }
 }

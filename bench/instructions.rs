@@ -1,6 +1,6 @@
 //! Instructions: each call once, between requests to valgrind's callgrind, which writes a file for each.
 
-use crate::Case;
+use crate::{Case, PIECE};
 use std::hint::black_box;
 
 const ZERO: usize = 0x4354_0001;
@@ -38,5 +38,7 @@ pub fn run(cases: &[Case]) {
     for case in cases {
         pair(&case.key("encode"), |times| case.ours_encode(times, &mut []), |times| case.plain_encode(times, &mut []));
         pair(&case.key("decode"), |times| case.ours_decode(times), |times| case.plain_decode(times));
+        pair(&case.key("source"), |times| case.ours_stream(times, 0), |times| case.ours_decode(times));
+        pair(&case.key("pieces"), |times| case.ours_stream(times, PIECE), |times| case.ours_decode(times));
     }
 }

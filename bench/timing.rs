@@ -1,6 +1,6 @@
 //! Times: the least of many runs, ours and the plain codec's in turn.
 
-use crate::Case;
+use crate::{Case, PIECE};
 use std::time::Instant;
 
 const ROUNDS: usize = 300;
@@ -55,5 +55,7 @@ pub fn run(cases: &[Case], all: &str) {
         };
         print("encode", pair(|times| case.ours_encode(times, &mut []), |times| case.plain_encode(times, &mut [])));
         print("decode", pair(|times| case.ours_decode(times), |times| case.plain_decode(times)));
+        print("source", pair(|times| case.ours_stream(times, 0), |times| case.ours_decode(times)));
+        print("pieces", pair(|times| case.ours_stream(times, PIECE), |times| case.ours_decode(times)));
     }
 }
