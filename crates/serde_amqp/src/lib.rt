@@ -19,6 +19,12 @@ ghost use Rattle.amqp_ser.specs.Passes.{HasLength, NoSize};
 ghost use Rattle.serde_amqp.specs.Headline.{ReadFrom, ReadsAll, NamedFrom};
 ghost use Rattle.amqp_base.specs.declared.shape.Setting.{Setting};
 
+pub use amqp_types::{
+    Array, Binary, BinaryRef, Boolean, Byte, Char, Dec32, Dec64, Dec128, Decimal, Described,
+    Descriptor, Double, Float, Int, List, Long, OrderedMap, Short, Symbol, SymbolRef, Timestamp,
+    Ubyte, Uint, Ulong, Ushort, Uuid,
+};
+
 pub mod de;
 pub mod described;
 pub mod descriptor;
@@ -49,11 +55,6 @@ pub use amqp_ser::{
     MapSerializer, Part, SeqSerializer, Serialize, Serializer, Struct, StructFields,
     StructSerializer, TupleParts, TupleSerializer, TupleStructSerializer, VariantSerializer,
     Written, write_described, write_fields, write_parts,
-};
-pub use amqp_types::{
-    Array, Binary, BinaryRef, Boolean, Byte, Char, Dec32, Dec64, Dec128, Decimal, Described,
-    Descriptor, Double, Float, Int, List, Long, OrderedMap, Short, Symbol, SymbolRef, Timestamp,
-    Ubyte, Uint, Ulong, Ushort, Uuid,
 };
 pub use rest::from_slice_with_rest;
 use std::alloc::Global;
