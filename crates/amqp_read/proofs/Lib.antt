@@ -1,1 +1,3 @@
 mod Streams
+pub mod Measured
+pub mod RawData

@@ -1,3 +1,4 @@
+pub mod Raw
 pub mod Reading
 pub mod Steps
 pub mod Streaming

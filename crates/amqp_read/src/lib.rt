@@ -4,6 +4,7 @@
 mod buffer;
 mod greatest;
 mod io_reader;
+mod raw;
 mod read;
 mod slice_reader;
 

@@ -1,17 +1,22 @@
 //! What every reader does.
 
-ghost use Rattle.std.specs.Prelude.{◌≡◌, ◌≢◌, ◌⊎◌, ◌+◌, ◌<◌, ◌≤◌};
+ghost use Rattle.std.specs.Prelude.{◌≡◌, ◌≢◌, ◌⊎◌, ◌+◌, ◌^◌, ◌<◌, ◌≤◌};
 ghost use Rattle.std.specs.Prelude.{ℕ, Bool, true, false, IsTrue, List, [], ◌∷◌, length};
 ghost use Rattle.std.specs.Prelude.{take, OnOk, OnErr, IfOk, IfErr, MatchOption, string_bytes};
 ghost use Rattle.amqp_read.specs.Reading.{Reading, Stays, Takes};
 ghost use Rattle.amqp_read.specs.Steps.{Shows, MayCome, Ended, IsShort, Fails, NotTaken};
 ghost use Rattle.amqp_read.specs.Steps.{PassesCount, Holds, Looked, AtHand, ShowsBehind, NotSeen};
 ghost use Rattle.amqp_read.specs.Steps.{Passes, PassesSome};
+ghost use Rattle.amqp_read.specs.Raw.{TakesValue, TakesStrict, NoValue, HasValue};
+ghost use Rattle.amqp_read.specs.Raw.{ValuePassesCount, MeasuresValue, Measures, NoScalar};
+ghost use Rattle.amqp_read.specs.Raw.{SeesNumber, Sees};
 ghost use Rattle.amqp_read.specs.Texts.{NoText, NotText};
 ghost use Rattle.amqp_base.specs.declared.error.Error.TheVariants.{OutOfMemory};
 
+use crate::raw::{Data, data_of};
 use amqp_base::Error;
 use std::alloc::Global;
+use std::io::ErrorKind;
 
 pub(crate) mod sealed {
     /// Only this crate's readers are readers.
@@ -115,6 +120,30 @@ pub trait Read: sealed::Sealed + Drop {
         ensures bytes_first { IfErr result (λ e.
             (e ≡ OutOfMemory) → (IsTrue buffers ⊎ Holds n (reading self.old).to_come)) };
 
+    /// Consumes the next value and gives its bytes, measured by its code and its size alone: what
+    /// stands in it isn't looked at, and may be no form of any item. Behind 0x00 these are a
+    /// descriptor and a value, neither of them described (part 1, section 1.2).
+    ///
+    /// `InvalidFormatCode`: a constructor, of the descriptor or of the value, is no code, or is
+    /// 0x00. `Io(UnexpectedEof)`: fewer bytes are to come. `OutOfMemory`: the vector finds no
+    /// memory, which is asked for only after the bytes are there.
+    fn forward_read_byte_buf(&mut self, alloc: Global) -> Result<Vec<u8>, Error>
+        ensures ok { IfOk result (λ v.
+            TakesValue (reading self.old) (reading self.new) v.items) }
+        ensures strict { IfOk result (λ v. TakesStrict (reading self.old) v.items) }
+        ensures err { OnErr result (Stays (reading self.old) (reading self.new)) }
+        ensures why { IfErr result (λ e. NoValue (reading self.old) e
+            ⊎ (Fails true buffers (reading self.old) (reading self.new) e
+            ⊎ ValuePassesCount buffers (reading self.old) e)) }
+        ensures bytes_first { IfErr result (λ e.
+            (e ≡ OutOfMemory) → (IsTrue buffers ⊎ HasValue (reading self.old).to_come)) }
+    {
+        match self.peek_value() {
+            Ok(length) => self.read_bytes(alloc, length),
+            Err(e) => Err(e),
+        }
+    }
+
     /// The byte behind the next `i`. All of them stay; `None` where no more than `i` are to come.
     #[doc(hidden)]
     fn peek_at(&mut self, i: usize) -> Result<Option<u8>, Error>
@@ -161,6 +190,95 @@ pub trait Read: sealed::Sealed + Drop {
         ensures err { OnErr result (PassesSome n (reading self.old) (reading self.new)) }
         ensures why { IfErr result (λ e.
             NotTaken buffers buffers n (reading self.old) (reading self.new) e) };
+
+    /// How many bytes the next value has. All of them stay.
+    #[doc(hidden)]
+    fn peek_value(&mut self) -> Result<usize, Error>
+        ensures ok { IfOk result (λ n.
+            MeasuresValue n (reading self.old) (reading self.new)) }
+        ensures looked { IfOk result (λ n. Looked n (reading self.old) (reading self.new)) }
+        ensures err { OnErr result (Stays (reading self.old) (reading self.new)) }
+        ensures why { IfErr result (λ e. NoValue (reading self.old) e
+            ⊎ Fails buffers buffers (reading self.old) (reading self.new) e) }
+    {
+        match self.peek_byte(0) {
+            Ok(0) => {}
+            Ok(_) => return self.peek_scalar(0),
+            Err(e) => return Err(e),
+        }
+        let descriptor = match self.peek_scalar(1) {
+            Ok(length) => length,
+            Err(e) => return Err(e),
+        };
+        match self.peek_scalar(1 + descriptor) {
+            Ok(value) => Ok(1 + descriptor + value),
+            Err(e) => Err(e),
+        }
+    }
+
+    /// How many bytes the value behind the next `from` has, whose constructor is one code. All of
+    /// them stay.
+    #[doc(hidden)]
+    fn peek_scalar(&mut self, from: usize) -> Result<usize, Error>
+        requires { from < 2 ^ 48 }
+        ensures ok { IfOk result (λ n.
+            Measures from n (reading self.old) (reading self.new)) }
+        ensures looked { IfOk result (λ n. Looked (from + n) (reading self.old)
+            (reading self.new)) }
+        ensures err { OnErr result (Stays (reading self.old) (reading self.new)) }
+        ensures why { IfErr result (λ e. NoScalar from (reading self.old) e
+            ⊎ Fails buffers buffers (reading self.old) (reading self.new) e) }
+    {
+        let code = match self.peek_byte(from) {
+            Ok(code) => code,
+            Err(e) => return Err(e),
+        };
+        match data_of(code) {
+            Ok(Data::Fixed(width)) => Ok(1 + width),
+            Ok(Data::Size8) => match self.peek_byte(from + 1) {
+                Ok(size) => Ok(2 + size as usize),
+                Err(e) => Err(e),
+            },
+            Ok(Data::Size32) => match self.peek_size(from + 1) {
+                Ok(size) => Ok(5 + size as usize),
+                Err(e) => Err(e),
+            },
+            Err(e) => Err(e),
+        }
+    }
+
+    /// The number in the four bytes behind the next `from`. All of them stay.
+    #[doc(hidden)]
+    fn peek_size(&mut self, from: usize) -> Result<u32, Error>
+        requires { from < 2 ^ 49 }
+        ensures ok { IfOk result (λ n.
+            SeesNumber from 4 n (reading self.old) (reading self.new)) }
+        ensures looked { Looked (from + 4) (reading self.old) (reading self.new) }
+        ensures why { IfErr result (λ e.
+            NotSeen buffers buffers (from + 4) (reading self.old) (reading self.new) e) }
+    {
+        let a = self.peek_byte(from)?;
+        let b = self.peek_byte(from + 1)?;
+        let c = self.peek_byte(from + 2)?;
+        let d = self.peek_byte(from + 3)?;
+        Ok(u32::from_be_bytes([a, b, c, d]))
+    }
+
+    /// The byte behind the next `i`, which stays; `Io(UnexpectedEof)` where there is none.
+    #[doc(hidden)]
+    fn peek_byte(&mut self, i: usize) -> Result<u8, Error>
+        ensures ok { IfOk result (λ b.
+            Sees i (b ∷ []) (reading self.old) (reading self.new)) }
+        ensures looked { Looked (i + 1) (reading self.old) (reading self.new) }
+        ensures why { IfErr result (λ e.
+            NotSeen buffers buffers (i + 1) (reading self.old) (reading self.new) e) }
+    {
+        match self.peek_at(i) {
+            Ok(Some(b)) => Ok(b),
+            Ok(None) => Err(Error::Io(ErrorKind::UnexpectedEof)),
+            Err(e) => Err(e),
+        }
+    }
 }
 
 /// A copy of the bytes, as a text.
