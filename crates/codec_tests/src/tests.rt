@@ -1,5 +1,5 @@
 //! A file a family of types or calls, written and read; `answer`, `asked`, `bytes`, `calls`,
-//! `made`, `printed`, `puts` and `written` hold what the tests of all families call. A row of
+//! `made`, `pieces`, `printed`, `puts` and `written` hold what the tests of all families call. A row of
 //! `calls` or `puts` is one call of the codec, which stands there once: its contract is dear in
 //! each function that calls it.
 
@@ -32,15 +32,19 @@ mod numbers;
 mod options;
 mod ordered_map;
 mod payloads;
+mod pieces;
 mod primitive_types;
 mod printed;
 mod puts;
+mod raw;
 mod scalars;
 mod sections;
 mod serializer;
 mod sink;
 mod slice_reader;
 mod source;
+mod streamed;
+mod streams;
 mod structs;
 mod tuples;
 mod user_types;

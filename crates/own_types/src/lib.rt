@@ -1,6 +1,7 @@
 //! Types of one's own, written and read by the public contracts alone.
 #![tactic(auto)]
 
+pub mod alike;
 mod colour;
 mod data;
 mod delivery;
