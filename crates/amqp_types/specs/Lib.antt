@@ -3,3 +3,4 @@ pub mod Arrays
 pub mod Texts
 pub mod OrderedMaps
 pub mod Descriptors
+pub mod Printed
