@@ -283,11 +283,11 @@ unfolding row code_of payload read
 symbol_missing {buffers} x w old new e (inl p) r =
     let q : Rejects true buffers (text_at 1) (past 2 old) (past 2 new) e = rw p.1 at r.rejects in
     rejects_ahead 2 2 (behind_byte (descriptor_data InvalidFormatCode) x) old new e r.stays
-    (symbol_refused InvalidFormatCode x (past 2 old) (past 2 new) e (inl p.0) (text_err {V = ℕ} Kind.symbol symbol true buffers x Sym8 1 (Err e) (past 2 old) (past 2 new) (rw p.0 refl) refl refl refl (λ b. refl) q))
+    (symbol_refused InvalidFormatCode x (past 2 old) (past 2 new) e (inl p.0) (text_err {V = ℕ} Kind.symbol symbol buffers x Sym8 1 (Err e) (past 2 old) (past 2 new) (rw p.0 refl) refl refl refl (λ b. refl) q))
 symbol_missing {buffers} x w old new e (inr p) r =
     let q : Rejects true buffers (text_at 4) (past 2 old) (past 2 new) e = rw p.1 at r.rejects in
     rejects_ahead 2 2 (behind_byte (descriptor_data InvalidFormatCode) x) old new e r.stays
-    (symbol_refused InvalidFormatCode x (past 2 old) (past 2 new) e (inr p.0) (text_err {V = ℕ} Kind.symbol symbol true buffers x Sym32 4 (Err e) (past 2 old) (past 2 new) (rw p.0 refl) refl refl refl (λ b. refl) q))
+    (symbol_refused InvalidFormatCode x (past 2 old) (past 2 new) e (inr p.0) (text_err {V = ℕ} Kind.symbol symbol buffers x Sym32 4 (Err e) (past 2 old) (past 2 new) (rw p.0 refl) refl refl refl (λ b. refl) q))
 
 -- a code of another kind, or none
 pub other_there : {buffers : Bool} (x : ℕ) (r : Reading) → (x ≡ 0xa3 → ⊥) → (x ≡ 0xb3 → ⊥) → (x ≡ 0x80 → ⊥) → (x ≡ 0x53 → ⊥) → (x ≡ 0x44 → ⊥) → RejectsAhead 2 buffers (behind_byte (descriptor_data InvalidFormatCode) x) r r InvalidFormatCode

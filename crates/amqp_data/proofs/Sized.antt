@@ -119,10 +119,10 @@ pub text_data_refused : (k : Kind) (e : EncodingCodes) (con : List ℕ → Scala
 unfolding data_at
 text_data_refused k e con w h c n f s err p = rw (kind_same (row e).kind k h, c) (refused_parse e con (sized_at w s) err n f p)
 
-pub text_err : {V : Type 0} (k : Kind) (con : List ℕ → Scalar) (grows buffers : Bool) (x : ℕ) (e : EncodingCodes) (w : ℕ) (r : Result V Error) (old new : Reading) → code_of x ≡ Some e → (row e).kind ≡ k → (row e).category ≡ Variable w
+pub text_err : {V : Type 0} (k : Kind) (con : List ℕ → Scalar) (buffers : Bool) (x : ℕ) (e : EncodingCodes) (w : ℕ) (r : Result V Error) (old new : Reading) → code_of x ≡ Some e → (row e).kind ≡ k → (row e).category ≡ Variable w
     → bad_payload (row e).kind ≡ InvalidUtf8Encoding → ((b : List ℕ) → payload e b ≡ (if is_utf8 b then Some (con b) else None))
-    → IfErr r (λ err. Rejects grows buffers (text_at w) old new err) → IfErr r (λ err. Rejects grows buffers (behind_byte (data_at k) x) old new err)
-text_err k con grows buffers x e w r old new c h l n f t = refused_data (data_at k) grows buffers x e (text_at w) r old new c (text_data_refused k e con w h l n f) t
+    → IfErr r (λ err. Rejects true buffers (text_at w) old new err) → IfErr r (λ err. Rejects true buffers (behind_byte (data_at k) x) old new err)
+text_err k con buffers x e w r old new c h l n f t = refused_data (data_at k) true buffers x e (text_at w) r old new c (text_data_refused k e con w h l n f) t
 
 -- ---- memory is asked for only where the payload is there
 

@@ -1,10 +1,10 @@
 pub mod Excuses
 pub mod Steps
+pub mod LentTexts
 pub mod Places
 pub mod Parts
 pub mod OneCode
 pub mod Decimals
 pub mod Arrays
-pub mod LentTexts
 pub mod Keys
 pub mod Ahead

@@ -1,4 +1,4 @@
-use Rattle.std.proofs.Common.{true, refl, arith, string_bytes}
+use Rattle.std.proofs.Common.{refl, arith, string_bytes}
 use Rattle.amqp_base.specs.Codes.{Kind, row, code_of}
 use Rattle.amqp_base.specs.SameKind.{same_kind, place}
 use Rattle.amqp_base.specs.Item.{string}
@@ -15,7 +15,7 @@ returns-in-161-clause-ok g c = text_ok string_bytes string c.args.code Str8 1 c.
 
 pub returns-in-161-clause-err : goal.returns-in-161-clause-err
 unfolding row code_of payload read
-returns-in-161-clause-err g c = text_err Kind.string string true g.R.Read.buffers c.args.code Str8 1 c.text.result _ _ (rw c.in-161.is refl) refl refl refl (λ b. refl) c.text.ensures.err
+returns-in-161-clause-err g c = text_err Kind.string string g.R.Read.buffers c.args.code Str8 1 c.text.result _ _ (rw c.in-161.is refl) refl refl refl (λ b. refl) c.text.ensures.err
 
 pub returns-in-177-clause-ok : goal.returns-in-177-clause-ok
 unfolding row code_of payload read
@@ -23,7 +23,7 @@ returns-in-177-clause-ok g c = text_ok string_bytes string c.args.code Str32 4 c
 
 pub returns-in-177-clause-err : goal.returns-in-177-clause-err
 unfolding row code_of payload read
-returns-in-177-clause-err g c = text_err Kind.string string true g.R.Read.buffers c.args.code Str32 4 c.text-in-177.result _ _ (rw c.in-177.is refl) refl refl refl (λ b. refl) c.text-in-177.ensures.err
+returns-in-177-clause-err g c = text_err Kind.string string g.R.Read.buffers c.args.code Str32 4 c.text-in-177.result _ _ (rw c.in-177.is refl) refl refl refl (λ b. refl) c.text-in-177.ensures.err
 
 pub returns-in_default-clause-err : goal.returns-in_default-clause-err
 unfolding row same_kind place

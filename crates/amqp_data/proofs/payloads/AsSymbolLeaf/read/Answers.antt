@@ -1,4 +1,4 @@
-use Rattle.std.proofs.Common.{true, refl, arith, string_bytes}
+use Rattle.std.proofs.Common.{refl, arith, string_bytes}
 use Rattle.amqp_base.specs.Codes.{Kind, row, code_of}
 use Rattle.amqp_base.specs.SameKind.{same_kind, place}
 use Rattle.amqp_base.specs.Item.{symbol}
@@ -15,7 +15,7 @@ returns-in-163-clause-ok g c = text_ok string_bytes symbol c.args.code Sym8 1 c.
 
 pub returns-in-163-clause-err : goal.returns-in-163-clause-err
 unfolding row code_of payload read
-returns-in-163-clause-err g c = text_err Kind.symbol symbol true g.R.Read.buffers c.args.code Sym8 1 c.text.result _ _ (rw c.in-163.is refl) refl refl refl (λ b. refl) c.text.ensures.err
+returns-in-163-clause-err g c = text_err Kind.symbol symbol g.R.Read.buffers c.args.code Sym8 1 c.text.result _ _ (rw c.in-163.is refl) refl refl refl (λ b. refl) c.text.ensures.err
 
 pub returns-in-179-clause-ok : goal.returns-in-179-clause-ok
 unfolding row code_of payload read
@@ -23,7 +23,7 @@ returns-in-179-clause-ok g c = text_ok string_bytes symbol c.args.code Sym32 4 c
 
 pub returns-in-179-clause-err : goal.returns-in-179-clause-err
 unfolding row code_of payload read
-returns-in-179-clause-err g c = text_err Kind.symbol symbol true g.R.Read.buffers c.args.code Sym32 4 c.text-in-179.result _ _ (rw c.in-179.is refl) refl refl refl (λ b. refl) c.text-in-179.ensures.err
+returns-in-179-clause-err g c = text_err Kind.symbol symbol g.R.Read.buffers c.args.code Sym32 4 c.text-in-179.result _ _ (rw c.in-179.is refl) refl refl refl (λ b. refl) c.text-in-179.ensures.err
 
 pub returns-in_default-clause-err : goal.returns-in_default-clause-err
 unfolding row same_kind place
