@@ -8,10 +8,7 @@ use std::alloc::Global;
 
 /// A foo from the slice, and from a source of its bytes: the same one, or both are refused, but one
 /// of them may want memory.
-pub fn foo_is_read_alike(
-    alloc: Global,
-    bytes: &[u8],
-) -> (Result<Foo, Error>, Result<Foo, Error>)
+pub fn foo_is_read_alike(alloc: Global, bytes: &[u8]) -> (Result<Foo, Error>, Result<Foo, Error>)
     ensures { SameAnswer ⟦<Foo as Typed>⟧.meaning result.0 result.1 }
 {
     laws::readers_agree::<Foo>();
