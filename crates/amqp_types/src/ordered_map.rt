@@ -4,19 +4,21 @@ ghost use Rattle.amqp_base.specs.Meaning.{map_of};
 ghost use Rattle.amqp_base.specs.ReadBack.{both};
 ghost use Rattle.std.specs.Cmp.{IsEquivalence};
 ghost use Rattle.std.specs.Prelude.{◌≡◌, ◌==◌, ◌&&◌, ℕ, List, [], length};
-ghost use Rattle.std.specs.Prelude.{option_copied, IfOk, OnOk, IfErr, OnErr, true, refl};
-ghost use Rattle.std.specs.Cmp.{on_per, and_per};
-ghost use Rattle.std.specs.Cmp.Lexicographic.{pointwise, lists_per};
+ghost use Rattle.std.specs.Prelude.{option_copied, is_some, IfOk, OnOk, IfErr, OnErr, true, refl};
+ghost use Rattle.std.specs.Cmp.{on_per, and_per, on_equiv, and_equiv};
+ghost use Rattle.std.specs.Cmp.Lexicographic.{pointwise, lists_per, lists_equiv};
 ghost use Rattle.std.specs.List.{IsDistinct};
-ghost use Rattle.std.specs.Map.{lookup, keys_of};
-ghost use Rattle.indexmap.specs.IndexMap.{insert_entry};
+ghost use Rattle.std.specs.Map.{lookup, lookup_key, keys_of, values_of};
+ghost use Rattle.std.specs.Option.{option_map};
+ghost use Rattle.indexmap.specs.IndexMap.{insert_entry, swap_remove_entry, shift_remove_entry};
+ghost use Rattle.amqp_base.specs.declared.error.Error.TheVariants.{OutOfMemory};
 ghost use Rattle.amqp_base.specs.Laws.{SameEntries};
 ghost use Rattle.amqp_types.specs.OrderedMaps.{SameAreEqual, distinct_again};
 
-use amqp_base::{NeverNull, RoundTrip, Typed};
+use amqp_base::{Error, NeverNull, RoundTrip, Typed};
 use indexmap::IndexMap;
-use indexmap::map::Iter;
-use std::alloc::Global;
+use indexmap::map::{IntoIter, IntoKeys, IntoValues, Iter, Keys, Values};
+use std::alloc::{AllocError, Global};
 use std::hash::Hash;
 use std::marker::Model;
 
@@ -46,6 +48,18 @@ impl<K: Eq + Hash, V> OrderedMap<K, V> {
     {
         OrderedMap {
             pairs: IndexMap::new(alloc),
+        }
+    }
+
+    /// A map without pairs that has room for `capacity` of them; `OutOfMemory` where there is none.
+    pub fn with_capacity(alloc: Global, capacity: usize) -> Result<OrderedMap<K, V>, Error>
+        ensures empty { IfOk result (λ m. m ≡ []) }
+        ensures keys_differ { IfOk result (λ m. IsDistinct K.eq (keys_of m)) }
+        ensures err { IfErr result (λ e. e ≡ OutOfMemory) }
+    {
+        match IndexMap::with_capacity(alloc, capacity) {
+            Ok(pairs) => Ok(OrderedMap { pairs }),
+            Err(AllocError) => Err(Error::OutOfMemory),
         }
     }
 
@@ -90,6 +104,117 @@ impl<K: Eq + Hash, V> OrderedMap<K, V> {
         self.pairs.get(key)
     }
 
+    /// Whether a key is there.
+    pub fn contains_key(&self, key: &K) -> bool
+        ensures { result ≡ is_some (lookup (K.eq key.now) self.now) }
+    {
+        self.pairs.contains_key(key)
+    }
+
+    /// Takes out the pair of a key, and gives its value. The last pair takes its place.
+    pub fn swap_remove(&mut self, key: &K) -> Option<V>
+    where
+        K: Drop,
+        ensures value { result ≡ lookup (K.eq key.now) self.old }
+        ensures pairs { self.new ≡ swap_remove_entry (K.eq key.now) self.old }
+        ensures keys_differ { IsDistinct K.eq (keys_of self.new) }
+    {
+        self.pairs.swap_remove(key)
+    }
+
+    /// Takes out the pair of a key, and gives it. The last pair takes its place.
+    pub fn swap_remove_entry(&mut self, key: &K) -> Option<(K, V)>
+        ensures key { option_map (λ p. p.0) result ≡ lookup_key (K.eq key.now) self.old }
+        ensures value { option_map (λ p. p.1) result ≡ lookup (K.eq key.now) self.old }
+        ensures pairs { self.new ≡ swap_remove_entry (K.eq key.now) self.old }
+        ensures keys_differ { IsDistinct K.eq (keys_of self.new) }
+    {
+        self.pairs.swap_remove_entry(key)
+    }
+
+    /// Takes out the pair of a key, and gives its value. The pairs behind it move up.
+    pub fn shift_remove(&mut self, key: &K) -> Option<V>
+    where
+        K: Drop,
+        ensures value { result ≡ lookup (K.eq key.now) self.old }
+        ensures pairs { self.new ≡ shift_remove_entry (K.eq key.now) self.old }
+        ensures keys_differ { IsDistinct K.eq (keys_of self.new) }
+    {
+        self.pairs.shift_remove(key)
+    }
+
+    /// Takes out the pair of a key, and gives it. The pairs behind it move up.
+    pub fn shift_remove_entry(&mut self, key: &K) -> Option<(K, V)>
+        ensures key { option_map (λ p. p.0) result ≡ lookup_key (K.eq key.now) self.old }
+        ensures value { option_map (λ p. p.1) result ≡ lookup (K.eq key.now) self.old }
+        ensures pairs { self.new ≡ shift_remove_entry (K.eq key.now) self.old }
+        ensures keys_differ { IsDistinct K.eq (keys_of self.new) }
+    {
+        self.pairs.shift_remove_entry(key)
+    }
+
+    /// Takes out all pairs, and keeps the memory.
+    pub fn clear(&mut self)
+    where
+        K: Drop,
+        V: Drop,
+        ensures { self.new ≡ [] }
+    {
+        self.pairs.clear();
+    }
+
+    /// Gives back the memory that the pairs don't need.
+    pub fn shrink_to_fit(&mut self)
+        ensures { self.new ≡ self.old }
+    {
+        self.pairs.shrink_to_fit();
+    }
+
+    /// The keys, in order.
+    pub fn keys(&self) -> Keys<'_, K, V>
+        ensures keys { result ≡ keys_of self.now }
+        ensures keys_differ { IsDistinct K.eq (keys_of self.now) }
+    {
+        self.pairs.keys()
+    }
+
+    /// The values, in the order of their keys.
+    pub fn values(&self) -> Values<'_, K, V>
+        ensures { result ≡ values_of self.now }
+    {
+        self.pairs.values()
+    }
+
+    /// The keys by value, in order.
+    pub fn into_keys(self) -> IntoKeys<K, V>
+        ensures keys { result ≡ keys_of self }
+        ensures keys_differ { IsDistinct K.eq (keys_of self) }
+    {
+        self.into_inner().into_keys()
+    }
+
+    /// The values by value, in the order of their keys.
+    pub fn into_values(self) -> IntoValues<K, V>
+        ensures { result ≡ values_of self }
+    {
+        self.into_inner().into_values()
+    }
+
+    /// The map that keeps the pairs, lent.
+    pub fn as_inner(&self) -> &IndexMap<K, V>
+        ensures { result.now.entries ≡ self.now }
+    {
+        &self.pairs
+    }
+
+    /// The map that keeps the pairs.
+    pub fn into_inner(self) -> IndexMap<K, V>
+        ensures { result.entries ≡ self }
+    {
+        let OrderedMap { pairs } = self;
+        pairs
+    }
+
     /// The pairs, in order.
     pub fn iter(&self) -> Iter<'_, K, V>
         ensures pairs { result ≡ self.now }
@@ -109,6 +234,38 @@ impl<K: Eq + Hash, V> OrderedMap<K, V> {
     {}
 }
 
+impl<K: Eq + Hash, V> From<IndexMap<K, V>> for OrderedMap<K, V> {
+    ghost from_gives = { λ pairs m. m ≡ pairs.entries };
+
+    fn from(pairs: IndexMap<K, V>) -> OrderedMap<K, V> {
+        OrderedMap { pairs }
+    }
+}
+
+impl<K: Eq + Hash + Drop, V: Drop> IntoIterator for OrderedMap<K, V> {
+    type Item = (K, V);
+
+    type IntoIter = IntoIter<K, V>;
+
+    ghost into_iter_gives = { λ m pairs. pairs ≡ m };
+
+    fn into_iter(self) -> IntoIter<K, V> {
+        self.into_inner().into_iter()
+    }
+}
+
+impl<'a, K: Eq + Hash, V> IntoIterator for &'a OrderedMap<K, V> {
+    type Item = (&'a K, &'a V);
+
+    type IntoIter = Iter<'a, K, V>;
+
+    ghost into_iter_gives = { λ m pairs. pairs ≡ m.now };
+
+    fn into_iter(self) -> Iter<'a, K, V> {
+        self.iter()
+    }
+}
+
 impl<K: Eq + Hash, V: PartialEq> PartialEq for OrderedMap<K, V> {
     ghost eq = { pointwise (λ p q. K.eq p.0 q.0 && V.eq p.1 q.1) };
 
@@ -119,6 +276,11 @@ impl<K: Eq + Hash, V: PartialEq> PartialEq for OrderedMap<K, V> {
     fn eq(&self, other: &OrderedMap<K, V>) -> bool {
         self.pairs.as_slice() == other.pairs.as_slice()
     }
+}
+
+impl<K: Eq + Hash, V: Eq> Eq for OrderedMap<K, V> {
+    ghost laws = { lists_equiv (and_equiv (on_equiv (λ p. p.0) K.Eq.laws)
+        (on_equiv (λ p. p.1) V.Eq.laws)) };
 }
 
 impl<K: Typed + Eq + Hash, V: Typed> Typed for OrderedMap<K, V> {

@@ -17,9 +17,9 @@ pub fn kept<T: RoundTrip>()
 {}
 
 /// `from_slice` and `from_reader` answer the same of the same bytes: the same value, or both are
-/// refused; but one of them may be `OutOfMemory`. The source is in memory: it tells its bytes, which
-/// can be counted, gives at least one of them a read until its end, and answers no fault. What it
-/// has left behind a value is what `from_slice_with_rest` lends (`behind`).
+/// refused; but one of them may be `OutOfMemory`. The source is in memory: it tells its bytes,
+/// which can be counted, gives at least one of them a read until its end, and answers no fault.
+/// Behind a value it has left what `from_slice_with_rest` lends (`behind`).
 pub fn readers_agree<T: Typed>()
     ensures answers { Agree T.meaning }
     ensures behind { AgreeBehind T.meaning }

@@ -2,7 +2,7 @@
 //! text that the grammar allows is read.
 //!
 //! A refusal has a name and no place. Who wants the place reads by a deserializer, which hands back
-//! its reader behind a refusal, too; what the reader has consumed then stands in front of the place:
+//! its reader, behind a refusal too; what the reader has consumed stands in front of the place:
 //!
 //! ```
 //! let mut de = Deserializer::new(SliceReader::new(bytes));

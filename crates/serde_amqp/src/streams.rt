@@ -13,10 +13,10 @@ use std::alloc::Global;
 /// them: those behind it are still in the source, so that the next call reads the next value.
 ///
 /// Refused where no item stands there that the type takes, as `from_slice` refuses it. Beside that
-/// it may be `OutOfMemory`, a fault of the source by its kind, where the source has counted one, and
-/// `Io(Other)` where a source of 2^64 bytes or more can't be counted. A fault isn't asked again,
-/// `Interrupted` neither. A refusal takes a front of the bytes to come, those that were received are
-/// gone; who wants them back reads by a `Deserializer` over an `IoReader`.
+/// it may be `OutOfMemory`; a fault of the source, by its kind, where the source has counted one;
+/// and `Io(Other)` where a source has 2^64 bytes or more, which can't be counted. After a fault, of
+/// kind `Interrupted` too, the source isn't asked again. The bytes that were received before a
+/// refusal are gone; who wants them back reads by a `Deserializer` over an `IoReader`.
 pub fn from_reader<S: Source, T: Deserialize<IoReader<S>>>(
     alloc: Global,
     source: &mut S,
@@ -59,14 +59,14 @@ fn read_one<S: Source, T: Deserialize<IoReader<S>>>(
     (result, de.into_reader().into_inner())
 }
 
-/// Appends the canonical text of the value to `sink`. What stands in `sink` before stays in front of
-/// what it holds, whatever is answered.
+/// Appends the canonical text of the value to `sink`. What stood in `sink` stays in front of what
+/// it holds, whatever is answered.
 ///
-/// Refused as `to_vec` refuses it where the value's item has no text, by the sink's own fault, by
-/// its kind, where the sink has counted one, and as `OutOfMemory`: the parts of a list, a map or an
-/// array are kept until their size is known. A refusal may have appended a part of the text; who
-/// wants none of it writes into a vector first, by `to_vec`. A fault isn't asked again,
-/// `Interrupted` neither.
+/// Refused where the value's item has no text, as `to_vec` refuses it. Beside that it may be a
+/// fault of the sink, by its kind, where the sink has counted one, and `OutOfMemory`: the parts of
+/// a list, a map or an array are kept until their size is known. After a fault, of kind
+/// `Interrupted` too, the sink isn't asked again. A refusal may have appended a part of the text;
+/// who wants none of it writes into a vector first, by `to_vec`.
 pub fn to_writer<T: Serialize, W: Sink>(alloc: Global, value: &T, sink: &mut W) -> Result<(), Error>
     ensures ok { OnOk result (HasText (T.meaning.item value.now Setting.Plain)
         (W.contents sink.old) (W.contents sink.new)) }

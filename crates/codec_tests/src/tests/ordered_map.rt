@@ -4,7 +4,12 @@ use amqp_types::OrderedMap;
 use std::alloc::Global;
 
 /// The value is taken under the key, in the place of that other one or of none.
-fn inserts(map: &mut OrderedMap<u32, u32>, key: u32, value: u32, had: Option<u32>) -> bool {
+pub(crate) fn inserts(
+    map: &mut OrderedMap<u32, u32>,
+    key: u32,
+    value: u32,
+    had: Option<u32>,
+) -> bool {
     match map.insert(key, value) {
         Ok(found) => found == had,
         Err(_) => false,

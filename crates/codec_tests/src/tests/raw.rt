@@ -10,8 +10,8 @@ use std::alloc::Global;
 /// Bytes, and how many of them are the next value, or why none is.
 type Row = (&'static [u8], Result<usize, Answer>);
 
-/// What is a value whatever stands in it, and what isn't. Only a code and a size are looked at, of a
-/// descriptor and of the value behind it too.
+/// What is a value, whatever stands in it, and what isn't. Only a code and a size are looked at, of
+/// a descriptor and of the value behind it too.
 const ROWS: [Row; 20] = [
     (b"\x00\x53\x13\xc0\x04\x02\x41\x54\x03\xff", Ok(9)),
     (

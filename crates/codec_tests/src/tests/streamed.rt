@@ -1,5 +1,5 @@
-//! Values of each type that owns its bytes, out of sources that give 1, 2 or 7 bytes a read. A value
-//! is told by its canonical text, which no other item has.
+//! Values of each type that owns its bytes, out of sources that give 1, 2 or 7 bytes a read. A
+//! value is told by its canonical text, which no other item has.
 
 use super::answer::{Answer, UNEXPECTED_EOF, name_of};
 use super::pieces::cut;
