@@ -8,7 +8,7 @@ use Rattle.amqp_base.specs.declared.format_code.EncodingCodes.{EncodingCodes}
 use Rattle.amqp_base.specs.declared.format_code.EncodingCodes.TheVariants.{List8, List32, Map8, Map32}
 use Rattle.amqp_base.specs.Codes.{Kind, row}
 use Rattle.amqp_base.specs.SameKind.{same_kind}
-use Rattle.amqp_base.specs.Describing.{describing_at}
+use Rattle.amqp_base.specs.Describing.{describing_at, is_described}
 use Rattle.amqp_base.specs.Identifiers.{Identifier, by_index, by_name, by_descriptor, by_code, IsKey, is_key, is_key_kind, key_data, key_at, identifier_at}
 use Rattle.amqp_base.specs.Item.{Item, scalar, list, map, array, described, Items, none, more, Pairs, no_pairs, pair}
 use Rattle.amqp_base.specs.Parse.{Parsed, ◌>>=◌, byte_at, item_at, code_at, is_descriptor_kind, list_data, map_data}
@@ -53,12 +53,16 @@ is_pair i = false
 abbrev pub of_two : ℕ → List ℕ → Parsed ℕ
 of_two n s = if n == 2 then Ok (n, s) else Err InvalidLength
 
--- the data of one up to its key, of any two items
+-- the same data, of two items
+abbrev pub two_of : (EncodingCodes → List ℕ → Parsed ℕ) → EncodingCodes → List ℕ → Parsed ℕ
+two_of parse e s = parse e s >>= λ n. of_two n.0 n.1
+
+-- the data of a pair up to its key, whatever its two items are
 unfoldable pub pair_data : EncodingCodes → List ℕ → Parsed ℕ
-pair_data List8 s = list_data List8 s >>= λ n. of_two n.0 n.1
-pair_data List32 s = list_data List32 s >>= λ n. of_two n.0 n.1
-pair_data Map8 s = map_data Map8 s >>= λ n. of_two n.0 n.1
-pair_data Map32 s = map_data Map32 s >>= λ n. of_two n.0 n.1
+pair_data List8 s = two_of list_data List8 s
+pair_data List32 s = two_of list_data List32 s
+pair_data Map8 s = two_of map_data Map8 s
+pair_data Map32 s = two_of map_data Map32 s
 pair_data e s = Err InvalidFormatCode
 
 -- a pair up to its value
@@ -105,3 +109,10 @@ variant_at tagged custom c s = tagged_at c s
 variant_at untagged custom c s = untagged_at c s
 variant_at of_value custom c s = value_at c s
 variant_at of_descriptor custom c s = own_descriptor_at custom c s
+
+-- which items have a variant, by what their bytes say alone
+abbrev pub has_variant : Tagging → Item → Bool
+has_variant tagged i = is_key i || (is_pair i || is_described i)
+has_variant untagged i = true
+has_variant of_value i = true
+has_variant of_descriptor i = false

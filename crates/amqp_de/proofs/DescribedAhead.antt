@@ -18,7 +18,7 @@ use Rattle.amqp_de.proofs.FormsOpened.{item_none}
 use Rattle.amqp_de.proofs.LookedFirst.{missed_unseen}
 use Rattle.amqp_de.proofs.Naming.{by_code}
 
-described_code : (x : EncodingCodes) → (row x).kind ≡ Kind.described → x ≡ DescribedType
+pub described_code : (x : EncodingCodes) → (row x).kind ≡ Kind.described → x ≡ DescribedType
 unfolding row
 described_code DescribedType h = refl
 described_code _ h = absurd cc

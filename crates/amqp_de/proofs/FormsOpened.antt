@@ -45,7 +45,7 @@ byte_data : {A : Type 0} (F : EncodingCodes → List ℕ → Parsed A) (p : Pars
 byte_data F (Err x) e r h = absurd cc
 byte_data F (Ok x) e r h = code_data F x.1 (any_code x.0) e r h
 
-item_data : {A : Type 0} (F : EncodingCodes → List ℕ → Parsed A) (c : Constructor) (s : List ℕ) (e : EncodingCodes) (r : List ℕ) → code_at c s ≡ Ok (e, r) → item_at F c s ≡ F e r
+pub item_data : {A : Type 0} (F : EncodingCodes → List ℕ → Parsed A) (c : Constructor) (s : List ℕ) (e : EncodingCodes) (r : List ℕ) → code_at c s ≡ Ok (e, r) → item_at F c s ≡ F e r
 item_data F c s e r h = byte_data F (byte_under c s) e r h
 
 code_none : {A : Type 0} (F : EncodingCodes → List ℕ → Parsed A) (s : List ℕ) (q : Result EncodingCodes Error) (x : Error) → (with_rest s q >>= λ e. given e.0 e.1) ≡ Err x → (with_rest s q >>= λ e. F e.0 e.1) ≡ Err x

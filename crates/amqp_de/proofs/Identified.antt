@@ -1,19 +1,18 @@
 -- What says which variant of an enum stands next.
-use Rattle.std.proofs.Common.{◌≡◌, ℕ, suc, ◌+◌, ◌^◌, ◌<◌, ◌≤◌, max, Bool, true, false, IsTrue, List, [], ◌∷◌, ◌++◌, length, take, drop, Option, Some, None, Result, Ok, Err, refl, sym, ap, subst, ◌∙◌, arith, inl, inr, ◌⊎◌, append_assoc}
+use Rattle.std.proofs.Common.{◌≡◌, ℕ, ◌+◌, ◌^◌, ◌<◌, ◌≤◌, max, Bool, true, false, IsTrue, List, ◌∷◌, ◌++◌, length, take, drop, Option, Some, Ok, Err, refl, sym, ap, subst, ◌∙◌, arith, inl, inr, ◌⊎◌, append_assoc}
 use Rattle.std.proofs.lemmas.List.{length-append, length-drop, take-append-drop}
 use Rattle.amqp_base.specs.declared.error.Error.{Error}
 use Rattle.amqp_base.specs.declared.error.Error.TheVariants.{InvalidFormatCode, OutOfMemory}
 use Rattle.amqp_base.specs.declared.format_code.EncodingCodes.{EncodingCodes}
 use Rattle.amqp_base.specs.declared.format_code.EncodingCodes.TheVariants.{DescribedType, Uint, SmallUint, Uint0, Ulong, SmallUlong, Ulong0, Str8, Str32, Sym8, Sym32}
-use Rattle.amqp_base.specs.Canon.{kind_of}
-use Rattle.amqp_base.specs.Codes.{Kind, row, code_of}
+use Rattle.amqp_base.specs.Codes.{Kind, row}
 use Rattle.amqp_base.specs.Describing.{BehindDescriptor, describing_at}
 use Rattle.amqp_base.specs.Refusals.{IsDevice}
 use Rattle.amqp_base.specs.Identifiers.{Identifier, by_index, by_name, by_descriptor, by_code, is_key, IsKey, is_key_kind, key_data, key_of, ignored_at, identifier_at}
 use Rattle.amqp_base.specs.Item.{Scalar, uint, ulong, string, symbol, Item, scalar, list, map, array, described, Descriptor}
 use Rattle.amqp_base.specs.Parse.{Parsed, code_at, item_at, descriptor_at}
 use Rattle.amqp_base.specs.SameKind.{same_kind, place}
-use Rattle.amqp_base.specs.Wire.{Constructor, bare, under, under_pair, Wire, lenient, of_code, of_described, of_data, of_pair, DescriptorText}
+use Rattle.amqp_base.specs.Wire.{Constructor, bare, under, under_pair, Wire, lenient, of_code, of_described, DescriptorText}
 use Rattle.amqp_base.proofs.Lists.{cons_parts}
 use Rattle.amqp_base.proofs.OneFront.{no_code, same_descriptor_text}
 use Rattle.amqp_read.specs.Reading.{Reading, Stays}
@@ -22,16 +21,15 @@ use Rattle.amqp_data.specs.Excuses.{Excused, Overfull, no_memory, faulted, uncou
 use Rattle.amqp_data.specs.Keys.{key_scalar}
 use Rattle.amqp_data.specs.declared.keys.Key.{Key}
 use Rattle.amqp_data.proofs.Data.{by_category_is, kind_under, scalar_under}
-use Rattle.amqp_data.proofs.KindCodes.{code_byte}
 use Rattle.amqp_data.proofs.LooksAhead.{stays_then, looked_then}
 use Rattle.amqp_data.proofs.Readings.{stayed, excused_more}
 use Rattle.amqp_data.proofs.Received.{keeps_known, shown_known}
 use Rattle.amqp_de.specs.declared.identifiers.Identifier.{Identifier as OwnIdentifier}
 use Rattle.amqp_de.specs.Decoding.{Decoding, stands_under}
 use Rattle.amqp_de.specs.Identifies.{identifier_of, any_item, SeenUnder, UnseenUnder, DescriptorSeen, DescriptorUnseen, ShowsDescribed, Identifies, Ignores}
-use Rattle.amqp_de.specs.Law.{Found, Missed, refused_free}
+use Rattle.amqp_de.specs.Law.{Found, Missed}
 use Rattle.amqp_de.specs.Look.{item_kind, looked_at, ByteShown, Looks, LooksNot}
-use Rattle.amqp_de.specs.Steps.{Exact, ExactAt}
+use Rattle.amqp_de.specs.Steps.{Exact}
 use Rattle.amqp_de.proofs.Answered.{Reads, not_refused}
 use Rattle.amqp_de.proofs.Begun.{under_described}
 use Rattle.amqp_de.proofs.BehindDescriptor.{front_parses, pair_parses, no_pair}
@@ -243,6 +241,10 @@ exact_unseen view buffers old mid new e l n =
     tell s r q (inl p) = inl (ignored_unseen (stands_under old) s r e q p)
     tell s r q (inr y) = inr y
 
+pub unseen_here : (buffers : Bool) (old mid new : Decoding) (e : Error) → Looks old mid DescribedType → DescriptorUnseen buffers mid new e → (s : List ℕ) → old.reading.to_come ≡ Some s → IsTrue old.reading.honest
+    → (describing_at InvalidFormatCode (stands_under old) s ≡ Err e) ⊎ Excused true buffers old.reading new.reading e
+unseen_here buffers old mid new e l n s at h = unseen_answer (stands_under old) old mid new e refl l (rw (same_place old mid DescribedType l) at n.unseen) s at h
+
 -- a described item has a descriptor
 described_stands : (c : Constructor) (t rest r : List ℕ) (i : Item) → Wire lenient c t i → code_at c (t ++ rest) ≡ Ok (DescribedType, r) → (c ≡ bare → (u : List ℕ) × (t ++ rest ≡ 0 ∷ u)) → (x : BehindDescriptor × List ℕ) × (describing_at InvalidFormatCode c (t ++ rest) ≡ Ok x)
 described_stands bare t rest r i w h z =
@@ -387,7 +389,7 @@ exact_no_other buffers old mid new x e q l n = record {
     tell s r c (inl p) = inl (identified_other (stands_under old) s r x (Err e) q c p)
     tell s r c (inr y) = inr (excused_kept old.reading mid.reading new e l.looked.stays y)
 
-of_key_kind : (x : EncodingCodes) (i : Item) → is_key_kind (row x).kind ≡ true → (row x).kind ≡ item_kind i → IsTrue (is_key i)
+pub of_key_kind : (x : EncodingCodes) (i : Item) → is_key_kind (row x).kind ≡ true → (row x).kind ≡ item_kind i → IsTrue (is_key i)
 unfolding same_kind place
 of_key_kind x (scalar v) q h = ap is_key_kind (sym h) ∙ q
 of_key_kind x (list is) q h = let p : is_key_kind Kind.list ≡ true = ap is_key_kind (sym h) ∙ q in absurd cc

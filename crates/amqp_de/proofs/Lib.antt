@@ -38,3 +38,6 @@ pub mod NullApart
 pub mod DescribedAhead
 pub mod DescribedEntries
 pub mod Identified
+pub mod VariantsOpened
+pub mod VariantsNamed
+pub mod VariantsTold

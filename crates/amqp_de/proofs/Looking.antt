@@ -72,14 +72,14 @@ same_ok e f s t p g h = ap (λ (z : EncodingCodes × List ℕ). z.0) (pair_is (e
     pair_is : (x y : EncodingCodes × List ℕ) → given x ≡ given y → x ≡ y
     pair_is x y h = cc
 
-at_byte : (b : ℕ) (e f : EncodingCodes) (s t : List ℕ) → any_code b ≡ Ok e → behind_byte (λ e t. Ok (e, t)) b s ≡ Ok (f, t) → e ≡ f
+pub at_byte : (b : ℕ) (e f : EncodingCodes) (s t : List ℕ) → any_code b ≡ Ok e → behind_byte (λ e t. Ok (e, t)) b s ≡ Ok (f, t) → e ≡ f
 at_byte b e f s t p h = same_ok e f s t (behind_byte (λ e t. Ok (e, t)) b s) (rw p refl) h
 
 described_row : (row DescribedType).kind ≡ Kind.described
 unfolding row
 described_row = refl
 
-zero_any : any_code 0 ≡ Ok DescribedType
+pub zero_any : any_code 0 ≡ Ok DescribedType
 unfolding any_code
 zero_any = refl
 
@@ -145,7 +145,7 @@ looks_under old f a c = record {
   kind = λ i t w m. under_kind f t i (rw c at w);
 }
 
-pair_code : (d : Descriptor) (f : EncodingCodes) (s : List ℕ) → code_at (under_pair d f) s ≡ Ok (DescribedType, s)
+pub pair_code : (d : Descriptor) (f : EncodingCodes) (s : List ℕ) → code_at (under_pair d f) s ≡ Ok (DescribedType, s)
 pair_code d f s = rw zero_any refl
 
 pub looks_pair : (old : Decoding) (d : Descriptor) (f : EncodingCodes) → old.ended ≡ false → stands_under old ≡ under_pair d f → Looks old old DescribedType

@@ -2,9 +2,9 @@
 use Rattle.std.specs.Prelude.{◌≡◌, ℕ, max, ◌≤◌, Bool, true, false, IsTrue, List, ◌++◌, length, Some, Ok, string_bytes}
 use Rattle.amqp_base.specs.declared.error.Error.{Error}
 use Rattle.amqp_base.specs.declared.error.Error.TheVariants.{InvalidFormatCode, OutOfMemory}
-use Rattle.amqp_base.specs.Describing.{BehindDescriptor, describing_at}
+use Rattle.amqp_base.specs.Describing.{describing_at}
 use Rattle.amqp_base.specs.Identifiers.{Identifier, by_index, by_name, by_descriptor, by_code, is_key, IsKey}
-use Rattle.amqp_base.specs.Item.{Descriptor, name, code, Item, scalar, list, map, array, described}
+use Rattle.amqp_base.specs.Item.{Descriptor, name, code, Item}
 use Rattle.amqp_base.specs.Parse.{descriptor_at}
 use Rattle.amqp_base.specs.Wire.{Constructor, bare, under, under_pair, Wire, lenient}
 use Rattle.amqp_read.specs.Reading.{Reading, Stays}

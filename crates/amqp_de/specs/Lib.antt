@@ -4,6 +4,8 @@ pub mod Steps
 pub mod Scalars
 pub mod Look
 pub mod Identifies
+pub mod VariantsRead
+pub mod VariantsHeld
 pub mod Access
 pub mod Seq
 pub mod Many

@@ -38,7 +38,7 @@ pub enum Identifier {
 
 /// Whether a code is that of an index or a name.
 #[inline(always)]
-fn is_key(code: EncodingCodes) -> bool
+pub(crate) fn is_key(code: EncodingCodes) -> bool
     ensures yes { IsTrue result → IsTrue (is_key_kind (row code).kind) }
     ensures no { result ≡ false → is_key_kind (row code).kind ≡ false }
 {
@@ -72,7 +72,7 @@ pub(crate) fn named_by(key: Key) -> Identifier
 
 /// What a descriptor says.
 #[inline(always)]
-fn described_by(descriptor: Descriptor) -> Identifier
+pub(crate) fn described_by(descriptor: Descriptor) -> Identifier
     ensures { identifier_of result ≡ by_descriptor (descriptor_of descriptor) }
 {
     match descriptor {
@@ -107,7 +107,7 @@ impl<R: Read> Deserializer<R> {
     }
 
     /// The descriptor of the described item that was looked at. All of it stays.
-    fn look_descriptor(&mut self, alloc: Global) -> Result<Descriptor, Error>
+    pub(crate) fn look_descriptor(&mut self, alloc: Global) -> Result<Descriptor, Error>
         ensures ok { IfOk result (λ d. DescriptorSeen (descriptor_of d) self.old self.new) }
         ensures err { IfErr result (λ e. DescriptorUnseen R.buffers self.old self.new e) }
     {

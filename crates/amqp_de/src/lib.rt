@@ -34,6 +34,8 @@ mod structs;
 mod tuple_structs;
 mod tuples;
 mod unsigned;
+mod variant_access;
+mod variants;
 
 pub use chosen::Chosen;
 pub use described_structs::DescribedAccess;
@@ -44,3 +46,4 @@ pub use identifiers::Identifier;
 pub use list::{Access, Ended, ListAccess, MapAccess};
 pub use seq::{ArrayAccess, SeqAccess};
 pub use structs::StructAccess;
+pub use variants::VariantAccess;

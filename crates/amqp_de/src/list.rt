@@ -14,8 +14,13 @@ ghost use Rattle.amqp_de.specs.ReadPairs.{ended_access};
 ghost use Rattle.amqp_de.specs.Seq.{listing, at_open};
 ghost use Rattle.amqp_de.specs.contracts.deserializer.Deserializer.{the_row};
 ghost use Rattle.amqp_de.specs.Calls.{NextElement, ElementNamed};
+ghost use Rattle.amqp_de.specs.Forms.{struct_lender};
+ghost use Rattle.amqp_de.specs.VariantsHeld.{UnitEnds, ValueEnds, ValueNamed};
+ghost use Rattle.amqp_de.specs.VariantsHeld.{FieldsOpened, NoFields, HeldStruct};
+ghost use Rattle.amqp_de.specs.VariantsRead.{variant_stage};
 
-use crate::{Deserialize, Deserializer};
+use crate::variants::Choice;
+use crate::{Deserialize, Deserializer, StructAccess};
 use amqp_base::Error;
 use amqp_data::{Constructor, Limit, list_count};
 use amqp_read::Read;
@@ -169,6 +174,66 @@ impl<'a, R: Read, F: Copy> Access<'a, R, F> {
     {
         let Access { de, inner, form: _ } = self;
         de.close(inner)
+    }
+}
+
+// Here alone an access is taken apart.
+impl<'a, R: Read> Access<'a, R, Choice> {
+    /// Ends a variant that holds nothing: its deserializer reads on behind it. Nothing is consumed.
+    ///
+    /// `SequenceLengthMismatch` where it holds something, `InvalidValue` before `variant` and after
+    /// a refusal; the deserializer is ended then.
+    pub fn unit_variant(self) -> Result<(), Error>
+        ensures { UnitEnds (variant_stage self.entry) (listing self.entry) result
+            self.exit.0.now }
+    {
+        let Access { de, inner, form } = self;
+        de.end_unit(form, inner)
+    }
+
+    /// The value that the variant holds: the second item of a pair, or the item itself.
+    ///
+    /// `InvalidFormatCode` where it holds nothing, `InvalidValue` before `variant` and after a
+    /// refusal, else the refusals of `T`. Each of them ends the deserializer.
+    pub fn newtype_variant<T: Deserialize<R>>(self, alloc: Global) -> Result<T, Error>
+        ensures ends { ValueEnds T.meaning R.buffers (variant_stage self.entry)
+            (listing self.entry) result self.exit.0.now }
+        ensures named { IfErr result (λ e. ValueNamed T.meaning R.buffers
+            (variant_stage self.entry) (listing self.entry) self.exit.0.now e) }
+    {
+        let Access { de, inner, form } = self;
+        de.end_value(alloc, form, inner)
+    }
+
+    /// The fields that the variant holds, a list (part 1, section 1.6.22) of `len` elements: the
+    /// second item of a pair, or the item itself. The end of the list ends the variant.
+    ///
+    /// `InvalidFormatCode` where it holds nothing, `InvalidValue` before `variant` and after a
+    /// refusal, else the refusals of `deserialize_tuple`. Each of them ends the deserializer.
+    pub fn tuple_variant(self, len: usize) -> Result<ListAccess<'a, R>, Error>
+        ensures* refused { sem 𝓛 (RestsIfErr (the_row R.row R.Read) self.entry.de (λ a.
+            a.de.ghost_name) result (λ last. IfErr result (λ e.
+            NoFields len R.buffers (variant_stage self.entry) (listing self.entry) last e))) }
+        ensures same_reference { IfOk result (λ a. a.de.ghost_name ≡ self.entry.de.ghost_name) }
+        ensures opened { IfOk result (λ a.
+            FieldsOpened len (variant_stage self.entry) (listing self.entry) (open_list a)) }
+    {
+        let Access { de, inner, form } = self;
+        de.held_list(form, inner, len)
+    }
+
+    /// The fields that the variant holds, as `tuple_variant` opens them.
+    pub fn struct_variant(self, len: usize) -> Result<StructAccess<'a, R>, Error>
+        ensures* refused { sem 𝓛 (RestsIfErr (the_row R.row R.Read) self.entry.de (λ a.
+            (struct_lender a).ghost_name) result (λ last. IfErr result (λ e.
+            NoFields len R.buffers (variant_stage self.entry) (listing self.entry) last e))) }
+        ensures same_reference { IfOk result (λ a.
+            (struct_lender a).ghost_name ≡ self.entry.de.ghost_name) }
+        ensures opened { IfOk result (λ a.
+            HeldStruct len (variant_stage self.entry) (listing self.entry) a) }
+    {
+        let Access { de, inner, form } = self;
+        de.held_struct(form, inner, len)
     }
 }
 

@@ -50,4 +50,5 @@ mod structs;
 mod tuples;
 mod user_types;
 mod variants;
+mod variants_read;
 mod written;

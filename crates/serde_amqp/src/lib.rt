@@ -46,8 +46,8 @@ pub use amqp_base::{
 };
 pub use amqp_de::{
     ArrayAccess, Chosen, DescribedAccess, Deserialize, Deserializer, Ended, Field, Fields,
-    Identifier, ListAccess, MapAccess, SeqAccess, StructAccess, read_described, read_described_map,
-    read_fields, read_parts,
+    Identifier, ListAccess, MapAccess, SeqAccess, StructAccess, VariantAccess, read_described,
+    read_described_map, read_fields, read_parts,
 };
 pub use amqp_read::{IoReader, Read, SliceReader, read_const_bytes};
 use amqp_ser::{measured_size, measured_vec};

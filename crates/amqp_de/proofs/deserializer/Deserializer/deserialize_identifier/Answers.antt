@@ -1,6 +1,5 @@
 use Rattle.amqp_data.specs.Keys.{key_scalar}
 use Rattle.amqp_de.specs.Identifies.{identifier_of}
-use Rattle.amqp_de.proofs.FormsOpened.{answered}
 use Rattle.amqp_de.proofs.Identified.{key_behind, exact_key, exact_no_key, missed_key, identifies_behind, exact_other, exact_no_other, missed_other, identified_unlooked, missed_unlooked}
 use Rattle.amqp_de.proofs.deserializer.Deserializer.deserialize_identifier.Goals as goal
 

@@ -1,7 +1,6 @@
-use Rattle.std.proofs.Common.{refl, sym, rules}
+use Rattle.std.proofs.Common.{refl, rules}
 use Rattle.amqp_types.specs.Descriptors.{descriptor_of}
 use Rattle.amqp_de.specs.Identifies.{identifier_of}
-use Rattle.amqp_de.proofs.FormsOpened.{answered}
 use Rattle.amqp_de.proofs.Identified.{shows_described, exact_described, exact_unseen, missed_unseen_descriptor, exact_code, ignored_unlooked, missed_unlooked}
 use Rattle.amqp_de.proofs.deserializer.Deserializer.deserialize_ignored_any.Goals as goal
 
