@@ -25,6 +25,8 @@ pub mod MapsReadBack
 pub mod Parse
 pub mod Refusing
 pub mod Meaning
+pub mod VariantItems
+pub mod Enums
 pub mod Leading
 pub mod Describing
 pub mod Identifiers

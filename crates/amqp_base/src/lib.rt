@@ -8,6 +8,7 @@ mod error;
 mod fault;
 mod format_code;
 pub mod laws;
+mod one_of;
 mod shape;
 mod typed;
 
@@ -23,5 +24,6 @@ pub use error::Error;
 pub use fault::{Pass, Size};
 pub use fault::{Counted, FaultCount, Sink, Source};
 pub use format_code::{Category, EncodingCodes, IsDescribed};
+pub use one_of::{NoVariant, OneOf};
 pub use shape::{Setting, Shape};
 pub use typed::{NeverNull, RoundTrip, Typed};

@@ -19,6 +19,8 @@ pub mod JustSoMany
 pub mod NamedRows
 pub mod Looking
 pub mod LookedFirst
+pub mod KeysRead
+pub mod VariantsRead
 pub mod Slots
 pub mod StructRead
 pub mod NamedFields

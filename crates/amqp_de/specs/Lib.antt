@@ -12,6 +12,8 @@ pub mod Many
 pub mod ReadParts
 pub mod ReadPairs
 pub mod Calls
+pub mod VariantKeys
+pub mod ReadVariants
 pub mod ReadFields
 pub mod Decimals
 pub mod Openings

@@ -27,6 +27,7 @@ mod not_null;
 mod option;
 mod payloads;
 mod read_fields;
+mod read_variants;
 mod scalars;
 mod seq;
 mod signed;
@@ -36,7 +37,11 @@ mod tuples;
 mod unsigned;
 mod variant_access;
 mod variants;
+mod variant_key;
+mod variant_row;
 
+#[doc(hidden)]
+pub use amqp_base::{NoVariant, OneOf};
 pub use chosen::Chosen;
 pub use described_structs::DescribedAccess;
 pub use deserialize::Deserialize;
@@ -47,3 +52,5 @@ pub use list::{Access, Ended, ListAccess, MapAccess};
 pub use seq::{ArrayAccess, SeqAccess};
 pub use structs::StructAccess;
 pub use variants::VariantAccess;
+pub use variant_key::VariantKey;
+pub use variant_row::{EnumVariant, FromVariant, Newtype, Payload, Unit, Variants};

@@ -1,5 +1,5 @@
 -- The pair of a variant's index and its fields.
-use Rattle.std.proofs.Common.{◌≡◌, ℕ, ◌+◌, Bool, true, false, List, [], ◌∷◌, ◌++◌, Result, Ok, Err, OnOk, IfErr, refl, sym, ap, subst, ◌∙◌}
+use Rattle.std.proofs.Common.{◌≡◌, ℕ, ◌+◌, true, false, List, [], ◌∷◌, Result, refl, sym, ap, subst, ◌∙◌}
 use Rattle.std.specs.declared.vec.Vec.{Vec}
 use Rattle.std.specs.Global.{Global}
 use Rattle.amqp_base.specs.declared.error.Error.{Error}
@@ -8,12 +8,12 @@ use Rattle.amqp_base.specs.Item.{Item, scalar, uint}
 use Rattle.amqp_base.specs.Shapes.{whole}
 use Rattle.amqp_write.specs.declared.pass.Opened.{Opened}
 use Rattle.amqp_ser.specs.State.{State}
-use Rattle.amqp_ser.specs.Law.{Kept, Wrote, Refused}
+use Rattle.amqp_ser.specs.Law.{Wrote, Refused}
 use Rattle.amqp_ser.specs.Compound.{Back, Holds, EndsCompound, open_parts, the_buffer, inner_of, outer_of, outer_in, outside_in, part_in, turned}
 use Rattle.amqp_ser.specs.declared.compound.Parts.{Parts}
 use Rattle.amqp_ser.specs.declared.serializer.Serializer.{Serializer}
 use Rattle.amqp_ser.specs.declared.paired.Paired.{Paired}
-use Rattle.amqp_ser.specs.Variants.{fields_item, variant_item, InBuffer, OnItself, HoldsAs, beneath}
+use Rattle.amqp_ser.specs.Variants.{fields_item, InBuffer, OnItself, HoldsAs, beneath}
 use Rattle.amqp_ser.proofs.Compounds.{Lives, element_more, element_refused, direct_more, direct_refused, inner_lives, inner_answers}
 
 inner_buffered : (k : Opened) (o : State) (b : Serializer (Vec ℕ Global)) → k ≡ Opened.Buffered → inner_of k o b ≡ the_buffer b

@@ -1,13 +1,12 @@
--- The variants of an enum, as items, and those whose fields are written one by one.
-use Rattle.std.specs.Prelude.{◌≡◌, ℕ, Bool, true, false, List, [], ◌∷◌, length, Result, Err, OnErr, IfErr}
+-- The variants of an enum whose fields are written one by one.
+use Rattle.std.specs.Prelude.{◌≡◌, ℕ, true, false, List, [], ◌∷◌, Result, IfErr}
 use Rattle.std.specs.declared.io.Write as Write
 use Rattle.std.specs.declared.vec.Vec.{Vec}
 use Rattle.std.specs.Global.{Global}
 use Rattle.amqp_base.specs.declared.fault.FaultCount as FaultCount
 use Rattle.amqp_base.specs.declared.error.Error.{Error}
-use Rattle.amqp_base.specs.declared.error.Error.TheVariants.{InvalidValue}
 use Rattle.amqp_base.specs.Item.{Item, scalar, uint}
-use Rattle.amqp_base.specs.Shapes.{whole}
+pub use Rattle.amqp_base.specs.VariantItems.{unit_item, variant_item, fields_item}
 use Rattle.amqp_base.specs.declared.shape.Shape.{Shape}
 use Rattle.amqp_write.specs.declared.pass.Opened.{Opened}
 use Rattle.amqp_ser.specs.State.{State, state}
@@ -17,18 +16,6 @@ use Rattle.amqp_ser.specs.declared.compound.Compound.{Compound}
 use Rattle.amqp_ser.specs.declared.compound.Parts.{Parts}
 use Rattle.amqp_ser.specs.declared.paired.Paired.{Paired}
 use Rattle.amqp_ser.specs.declared.serializer.Serializer.{Serializer}
-
--- a variant without fields is its index
-abbrev pub unit_item : ℕ → Item
-unit_item index = scalar (uint index)
-
--- any other is a map of one pair, its index and what it holds
-abbrev pub variant_item : ℕ → Item → Item
-variant_item index held = whole Shape.Map (scalar (uint index) ∷ held ∷ [])
-
--- so many fields are a list behind the index
-abbrev pub fields_item : ℕ → ℕ → List Item → Item
-fields_item index len xs = variant_item index (whole (Shape.Tuple len) xs)
 
 -- a variant of this index was opened on a serializer in the state s, and has these fields: they go to the buffer of its pair p
 pub record InBuffer (s : State) (index len : ℕ) (xs : List Item) (o : State) (p f : Parts) : Type 0 where

@@ -9,10 +9,11 @@ ghost use Rattle.amqp_ser.specs.State.{State, state};
 ghost use Rattle.amqp_ser.specs.Law.{Wrote, Refused, Kept};
 ghost use Rattle.amqp_ser.specs.Compound.{open_state, parts_text, RefusesOpen, Holds, Keeps};
 ghost use Rattle.amqp_ser.specs.Compound.{BeginsWith, WritesEach};
+ghost use Rattle.amqp_ser.specs.Variants.{HasVariant, fields_item};
 ghost use Rattle.amqp_ser.specs.contracts.serializer.Serializer.{the_row};
 
 use crate::compound::{Announced, Compound, write_part};
-use crate::{Serialize, Serializer};
+use crate::{Serialize, Serializer, VariantSerializer};
 use amqp_base::{Error, Setting, Shape, Sink};
 use amqp_write::{Refusal, refused};
 use std::alloc::Global;
@@ -86,6 +87,22 @@ pub trait TupleParts: Drop {
             Holds s shape xs (open_state W.Write W.FaultCount out.old) →
             BeginsWith all (xs ++ items self.now) →
             Refused s (whole shape all) e (state W.Write W.FaultCount out.new.ser.now)) };
+
+    /// Writes them, in order, as the fields of an enum's variant.
+    fn write_fields<W: Sink>(
+        &self,
+        alloc: Global,
+        out: &mut VariantSerializer<'_, W>,
+    ) -> Result<(), Error>
+        ensures same_reference { out.new.ser.ghost_name ≡ out.old.ser.ghost_name }
+        ensures ok { OnOk result ((s : State) (index len : ℕ) (xs : List Item) →
+            HasVariant W.Write W.FaultCount s index len xs out.old →
+            HasVariant W.Write W.FaultCount s index len (xs ++ items self.now) out.new) }
+        ensures err { IfErr result (λ e. (s : State) (index len : ℕ) (xs all : List Item) →
+            HasVariant W.Write W.FaultCount s index len xs out.old →
+            BeginsWith all (xs ++ items self.now) →
+            Refused s (fields_item index len all) e
+            (state W.Write W.FaultCount out.new.ser.now)) };
 }
 
 impl TupleParts for () {
@@ -95,6 +112,16 @@ impl TupleParts for () {
     fn write<W: Sink>(&self, alloc: Global, out: &mut TupleSerializer<'_, W>) -> Result<(), Error> {
         let _ = alloc;
         let _ = out;
+        Ok(())
+    }
+
+    #[inline(always)]
+    fn write_fields<W: Sink>(
+        &self,
+        alloc: Global,
+        out: &mut VariantSerializer<'_, W>,
+    ) -> Result<(), Error> {
+        let (_, _) = (alloc, out);
         Ok(())
     }
 }
@@ -117,6 +144,21 @@ impl<T: Serialize, Rest: TupleParts> TupleParts for Part<'_, T, Rest> {
     fn write<W: Sink>(&self, alloc: Global, out: &mut TupleSerializer<'_, W>) -> Result<(), Error> {
         match out.serialize_element(alloc, self.value) {
             Ok(()) => match self.rest.write(alloc, out) {
+                Ok(()) => Ok(()),
+                Err(e) => Err(e),
+            },
+            Err(e) => Err(e),
+        }
+    }
+
+    #[inline(always)]
+    fn write_fields<W: Sink>(
+        &self,
+        alloc: Global,
+        out: &mut VariantSerializer<'_, W>,
+    ) -> Result<(), Error> {
+        match out.serialize_field(alloc, self.value) {
+            Ok(()) => match self.rest.write_fields(alloc, out) {
                 Ok(()) => Ok(()),
                 Err(e) => Err(e),
             },

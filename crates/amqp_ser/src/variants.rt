@@ -1,6 +1,6 @@
 //! The variants of an enum.
 
-ghost use Rattle.std.specs.Prelude.{◌≡◌, ◌++◌, ◌∷◌, [], true, false, ℕ, List};
+ghost use Rattle.std.specs.Prelude.{◌≡◌, ◌++◌, ◌∷◌, [], true, false, ℕ, List, length};
 ghost use Rattle.std.specs.Prelude.{IfOk, IfErr, OnOk, Err};
 ghost use Rattle.std.specs.Borrow.{sem, RestsIfErr};
 ghost use Rattle.amqp_base.specs.Item.{Item};
@@ -16,7 +16,7 @@ ghost use Rattle.amqp_ser.specs.contracts.serializer.Serializer.{the_row};
 use crate::compound::Compound;
 use crate::paired::{Paired, write_paired};
 use crate::structs::is_name;
-use crate::{Serialize, Serializer};
+use crate::{Serialize, Serializer, TupleParts};
 use amqp_base::{DESCRIPTOR, Error, Setting, Sink};
 use amqp_write::{Refusal, refused};
 use std::alloc::Global;
@@ -155,6 +155,105 @@ impl<W: Sink> Serializer<W> {
     {
         self.serialize_tuple_variant(alloc, name, index, variant, len)
     }
+}
+
+impl<W: Sink> Serializer<W> {
+    /// Writes a variant with fields, all of them at once: a map of one pair, its index as a uint
+    /// and a list of just so many fields as are announced (sections 1.6.22, 1.6.23).
+    ///
+    /// `SequenceLengthMismatch`: they are another number. Else it is refused as the fields' own
+    /// `serialize`, and as `VariantSerializer::end`.
+    #[inline(always)]
+    pub fn serialize_variant_parts<P: TupleParts>(
+        &mut self,
+        alloc: Global,
+        index: u32,
+        len: usize,
+        parts: &P,
+    ) -> Result<(), Error>
+        ensures ok { OnOk result (Wrote (state W.Write W.FaultCount self.old)
+            (fields_item index len (P.items parts.now)) (state W.Write W.FaultCount self.new)) }
+        ensures err { length (P.items parts.now) ≡ len →
+            IfErr result (λ e. Refused (state W.Write W.FaultCount self.old)
+            (fields_item index len (P.items parts.now)) e
+            (state W.Write W.FaultCount self.new)) }
+    {
+        let mut out = match self.serialize_tuple_variant(alloc, "", index, "", len) {
+            Ok(out) => out,
+            Err(e) => return Err(e),
+        };
+        match parts.write_fields(alloc, &mut out) {
+            Ok(()) => out.end(),
+            Err(e) => Err(e),
+        }
+    }
+}
+
+/// Writes an enum: `write_variants!(ser, alloc, self, Shape { Point, Circle(radius), Rectangle {
+/// width, height } })` names all its variants in their order, which gives their indexes, with the
+/// values that they hold. A variant without values is written by
+/// `Serializer::serialize_unit_variant`, one with a single value in parentheses by
+/// `serialize_newtype_variant`, any other by `serialize_variant_parts`.
+#[macro_export]
+macro_rules! write_variants {
+    ($ser:expr, $alloc:expr, $of:expr, $name:ident { $($variants:tt)+ }) => {
+        $crate::write_variants!(@arms $ser; $alloc; $of; $name; 0; []; $($variants)+,)
+    };
+    (@arms $ser:expr; $alloc:expr; $of:expr; $name:ident; $index:expr; [$($arms:tt)*]; $(,)?) => {
+        match $of { $($arms)* }
+    };
+    (@arms $ser:expr; $alloc:expr; $of:expr; $name:ident; $index:expr; [$($arms:tt)*];
+        $variant:ident, $($rest:tt)*) => {
+        $crate::write_variants!(@arms $ser; $alloc; $of; $name; $index + 1; [$($arms)*
+            $name::$variant => $ser.serialize_unit_variant(
+                $alloc,
+                stringify!($name),
+                $index,
+                stringify!($variant),
+            ),
+        ]; $($rest)*)
+    };
+    (@arms $ser:expr; $alloc:expr; $of:expr; $name:ident; $index:expr; [$($arms:tt)*];
+        $variant:ident($value:ident), $($rest:tt)*) => {
+        $crate::write_variants!(@arms $ser; $alloc; $of; $name; $index + 1; [$($arms)*
+            $name::$variant($value) => $ser.serialize_newtype_variant(
+                $alloc,
+                stringify!($name),
+                $index,
+                stringify!($variant),
+                $value,
+            ),
+        ]; $($rest)*)
+    };
+    (@arms $ser:expr; $alloc:expr; $of:expr; $name:ident; $index:expr; [$($arms:tt)*];
+        $variant:ident($($value:ident),+ $(,)?), $($rest:tt)*) => {
+        $crate::write_variants!(@arms $ser; $alloc; $of; $name; $index + 1; [$($arms)*
+            $name::$variant($($value),+) => $ser.serialize_variant_parts(
+                $alloc,
+                $index,
+                $crate::write_parts!(@count $($value),+),
+                &$crate::write_variants!(@parts $($value),+),
+            ),
+        ]; $($rest)*)
+    };
+    (@arms $ser:expr; $alloc:expr; $of:expr; $name:ident; $index:expr; [$($arms:tt)*];
+        $variant:ident { $($value:ident),+ $(,)? }, $($rest:tt)*) => {
+        $crate::write_variants!(@arms $ser; $alloc; $of; $name; $index + 1; [$($arms)*
+            $name::$variant { $($value),+ } => $ser.serialize_variant_parts(
+                $alloc,
+                $index,
+                $crate::write_parts!(@count $($value),+),
+                &$crate::write_variants!(@parts $($value),+),
+            ),
+        ]; $($rest)*)
+    };
+    (@parts) => { () };
+    (@parts $value:ident $(, $rest:ident)*) => {
+        $crate::Part {
+            value: $value,
+            rest: $crate::write_variants!(@parts $($rest),*),
+        }
+    };
 }
 
 impl<'a, W: Sink> VariantSerializer<'a, W> {

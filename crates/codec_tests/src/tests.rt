@@ -48,6 +48,7 @@ mod streamed;
 mod streams;
 mod structs;
 mod tuples;
+mod user_enums;
 mod user_types;
 mod variants;
 mod variants_read;

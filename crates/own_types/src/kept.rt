@@ -3,8 +3,8 @@
 ghost use Rattle.serde_amqp.specs.Headline.{KeptAs};
 
 use crate::{
-    Celsius, Colour, Data, Delivery, Foo, Measurement, Note, Offer, Open, Pair, Priority, Reply,
-    SaslInit, Sensor, Shipment, Station, Tags,
+    Celsius, Colour, Data, Delivery, Enumeration, Foo, Measurement, Note, Offer, Open, Pair,
+    Priority, Reply, SaslInit, Sensor, Shipment, Station, Switch, Tags,
 };
 use serde_amqp::{Error, Typed, from_slice, laws};
 use std::alloc::Global;
@@ -143,5 +143,21 @@ pub fn sasl_init_is_kept<'s>(alloc: Global, bytes: &'s [u8]) -> Result<SaslInit<
     ensures { KeptAs ⟦<SaslInit<'s> as Typed>⟧.meaning bytes.now result }
 {
     laws::kept::<SaslInit<'s>>();
+    from_slice(alloc, bytes)
+}
+
+/// What `to_vec` wrote for an enum is read as the same one, or memory was wanting.
+pub fn enumeration_is_kept(alloc: Global, bytes: &[u8]) -> Result<Enumeration, Error>
+    ensures { KeptAs ⟦<Enumeration as Typed>⟧.meaning bytes.now result }
+{
+    laws::kept::<Enumeration>();
+    from_slice(alloc, bytes)
+}
+
+/// What `to_vec` wrote for a switch is read as the same one, or memory was wanting.
+pub fn switch_is_kept(alloc: Global, bytes: &[u8]) -> Result<Switch, Error>
+    ensures { KeptAs ⟦<Switch as Typed>⟧.meaning bytes.now result }
+{
+    laws::kept::<Switch>();
     from_slice(alloc, bytes)
 }

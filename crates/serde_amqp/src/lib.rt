@@ -47,14 +47,14 @@ pub use amqp_base::{
 pub use amqp_de::{
     ArrayAccess, Chosen, DescribedAccess, Deserialize, Deserializer, Ended, Field, Fields,
     Identifier, ListAccess, MapAccess, SeqAccess, StructAccess, VariantAccess, read_described,
-    read_described_map, read_fields, read_parts,
+    read_described_map, read_fields, read_parts, read_variants, variant_of,
 };
 pub use amqp_read::{IoReader, Read, SliceReader, read_const_bytes};
 use amqp_ser::{measured_size, measured_vec};
 pub use amqp_ser::{
     MapSerializer, Part, SeqSerializer, Serialize, Serializer, Struct, StructFields,
     StructSerializer, TupleParts, TupleSerializer, TupleStructSerializer, VariantSerializer,
-    Written, write_described, write_fields, write_parts,
+    Written, write_described, write_fields, write_parts, write_variants,
 };
 pub use rest::from_slice_with_rest;
 use std::alloc::Global;

@@ -1,8 +1,6 @@
-use Rattle.std.proofs.Common.{true, false, refl}
+use Rattle.std.proofs.Common.{true, refl}
 use Rattle.std.proofs.lemmas.Result.{on_ok_weaker, IfErr-weaker}
 use Rattle.amqp_base.specs.declared.shape.Shape.{Shape}
-use Rattle.amqp_ser.specs.State.{state}
-use Rattle.amqp_write.specs.State.{stand}
 use Rattle.amqp_ser.proofs.Pairs.{itself_more, itself_refused}
 use Rattle.amqp_ser.proofs.paired.end_on_itself.Goals as goal
 

@@ -1,6 +1,6 @@
-use Rattle.std.proofs.Common.{rules, ◌≡◌, true, false, refl, sym, ◌∙◌, IfErr, OnOk, [], ◌∷◌}
+use Rattle.std.proofs.Common.{rules, true, refl, sym, ◌∙◌, IfErr, OnOk, [], ◌∷◌}
 use Rattle.std.proofs.lemmas.Result.{on_ok_weaker, IfErr-weaker, on_err_weaker}
-use Rattle.amqp_base.specs.Item.{Item, scalar, uint}
+use Rattle.amqp_base.specs.Item.{scalar, uint}
 use Rattle.amqp_base.specs.declared.shape.Setting.TheVariants.{Plain}
 use Rattle.amqp_base.specs.declared.shape.Shape.{Shape}
 use Rattle.amqp_ser.specs.State.{state}
