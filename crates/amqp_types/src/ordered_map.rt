@@ -10,10 +10,11 @@ ghost use Rattle.std.specs.Cmp.Lexicographic.{pointwise, lists_per, lists_equiv}
 ghost use Rattle.std.specs.List.{IsDistinct};
 ghost use Rattle.std.specs.Map.{lookup, lookup_key, keys_of, values_of};
 ghost use Rattle.std.specs.Option.{option_map};
-ghost use Rattle.indexmap.specs.IndexMap.{insert_entry, swap_remove_entry, shift_remove_entry};
+ghost use Rattle.indexmap.specs.IndexMap.{insert_entry, insert_all, swap_remove_entry, shift_remove_entry};
 ghost use Rattle.amqp_base.specs.declared.error.Error.TheVariants.{OutOfMemory};
 ghost use Rattle.amqp_base.specs.Laws.{SameEntries};
 ghost use Rattle.amqp_types.specs.OrderedMaps.{SameAreEqual, distinct_again};
+ghost use Rattle.std.specs.Iterator.{Drains, IsFinite};
 
 use amqp_base::{Error, NeverNull, RoundTrip, Typed};
 use indexmap::IndexMap;
@@ -61,6 +62,27 @@ impl<K: Eq + Hash, V> OrderedMap<K, V> {
             Ok(pairs) => Ok(OrderedMap { pairs }),
             Err(AllocError) => Err(Error::OutOfMemory),
         }
+    }
+
+    /// A map of the pairs that an iterator gives, each put at its key in turn; `OutOfMemory` where one
+    /// finds no memory.
+    pub fn from_iter<I: IntoIterator<Item = (K, V)>>(
+        alloc: Global,
+        iter: I,
+    ) -> Result<OrderedMap<K, V>, Error>
+    where
+        K: Drop,
+        V: Drop,
+        requires ends { (it : I.IntoIter) → I.into_iter_gives iter it →
+            I.IntoIter.can_next it × IsFinite (I.IntoIter.remaining it) }
+        ensures ok { IfOk result (λ m. (it : I.IntoIter) × I.into_iter_gives iter it ×
+            (given : List (K × V)) × Drains I.IntoIter.next_gives it given ×
+            (m ≡ insert_all K.eq [] given)) }
+        ensures err { IfErr result (λ e. e ≡ OutOfMemory) }
+    {
+        Ok(OrderedMap {
+            pairs: IndexMap::from_iter(alloc, iter)?,
+        })
     }
 
     /// How many pairs it has.

@@ -62,6 +62,14 @@ fn is_made_with_room(alloc: Global) -> bool {
     }
 }
 
+/// Of pairs that are given in turn the first place of a key and its last value stay.
+fn is_of_what_is_given(alloc: Global) -> bool {
+    match OrderedMap::from_iter(alloc, [(2, 20), (1, 10), (2, 22)]) {
+        Ok(map) => are_pairs(&map, &[(2, 22), (1, 10)]),
+        Err(_) => false,
+    }
+}
+
 #[test]
 fn pairs_are_taken_out_of_an_ordered_map(rt: HostRuntime) {
     let alloc = rt.alloc();
@@ -71,6 +79,7 @@ fn pairs_are_taken_out_of_an_ordered_map(rt: HostRuntime) {
     assert!(rt; shift_removes_a_pair(alloc));
     assert!(rt; has_keys_until_cleared(alloc));
     assert!(rt; is_made_with_room(alloc));
+    assert!(rt; is_of_what_is_given(alloc));
 }
 
 /// The number stands there.
