@@ -36,9 +36,9 @@ mod tuple_structs;
 mod tuples;
 mod unsigned;
 mod variant_access;
-mod variants;
 mod variant_key;
 mod variant_row;
+mod variants;
 
 #[doc(hidden)]
 pub use amqp_base::{NoVariant, OneOf};
@@ -51,6 +51,6 @@ pub use identifiers::Identifier;
 pub use list::{Access, Ended, ListAccess, MapAccess};
 pub use seq::{ArrayAccess, SeqAccess};
 pub use structs::StructAccess;
-pub use variants::VariantAccess;
 pub use variant_key::VariantKey;
 pub use variant_row::{EnumVariant, FromVariant, Newtype, Payload, Unit, Variants};
+pub use variants::VariantAccess;

@@ -1,6 +1,7 @@
 //! The variants of an enum, by their keys.
 
-ghost use Rattle.std.specs.Prelude.{◌≡◌, IfOk, IfErr};
+ghost use Rattle.std.specs.Prelude.{◌≡◌, IfOk, IfErr, codes};
+ghost use Rattle.amqp_base.specs.Refusals.{IsCustom};
 ghost use Rattle.amqp_base.specs.Enums.{variant, no_variant, nothing, value_of};
 ghost use Rattle.amqp_de.specs.ReadVariants.{Alone, NotAlone, HeldRead, HeldRefused, HeldNamed};
 ghost use Rattle.amqp_de.specs.ReadVariants.{AloneHere, NotAloneHere, PayloadRead};
@@ -121,6 +122,13 @@ pub trait Variants<R: Read>: Drop {
             de.old de.new e) };
 }
 
+/// No variant has the key.
+fn unknown(alloc: Global) -> Error
+    ensures { IsCustom (codes "unknown variant") result }
+{
+    Error::custom(alloc, "unknown variant")
+}
+
 impl<R: Read> Variants<R> for () {
     type Value = NoVariant;
 
@@ -128,7 +136,7 @@ impl<R: Read> Variants<R> for () {
 
     fn alone(&self, alloc: Global, key: VariantKey) -> Result<NoVariant, Error> {
         let _ = key;
-        Err(Error::custom(alloc, "unknown variant"))
+        Err(unknown(alloc))
     }
 
     fn held(
@@ -139,7 +147,7 @@ impl<R: Read> Variants<R> for () {
     ) -> Result<NoVariant, Error> {
         let _ = key;
         let _ = &de;
-        Err(Error::custom(alloc, "unknown variant"))
+        Err(unknown(alloc))
     }
 }
 

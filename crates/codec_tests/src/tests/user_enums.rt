@@ -71,7 +71,7 @@ fn variant_of(value: Enumeration) -> Found {
 }
 
 /// What the bytes are read as.
-fn found(alloc: Global, bytes: &[u8]) -> Found {
+fn read_as(alloc: Global, bytes: &[u8]) -> Found {
     match kept::enumeration_is_kept(alloc, bytes) {
         Ok(value) => variant_of(value),
         Err(e) => Found::None(told::<()>(Err(e))),
@@ -94,19 +94,28 @@ const FORMS: &[(&[u8], Found)] = &[
     (b"\xa3\x0bUnitVariant", Found::Unit),
     (NEWTYPE, Found::Newtype(13)),
     (b"\xc0\x05\x02\x52\x01\x52\x0d", Found::Newtype(13)),
-    (b"\xd1\0\0\0\x08\0\0\0\x02\x53\x01\x52\x0d", Found::Newtype(13)),
+    (
+        b"\xd1\0\0\0\x08\0\0\0\x02\x53\x01\x52\x0d",
+        Found::Newtype(13),
+    ),
     (b"\xd0\0\0\0\x07\0\0\0\x02\x52\x01\x43", Found::Newtype(0)),
-    (b"\xc1\x13\x02\xa3\x0eNewTypeVariant\x52\x0d", Found::Newtype(13)),
+    (
+        b"\xc1\x13\x02\xa3\x0eNewTypeVariant\x52\x0d",
+        Found::Newtype(13),
+    ),
     (TUPLE, Found::Tuple(13)),
     (STRUCT, Found::Struct(7)),
-    (b"\xc1\x14\x02\xa1\x0dStructVariant\xc0\x03\x02\x43\x42", Found::Struct(0)),
+    (
+        b"\xc1\x14\x02\xa1\x0dStructVariant\xc0\x03\x02\x43\x42",
+        Found::Struct(0),
+    ),
 ];
 
 #[test]
 fn each_variant_is_read_by_its_index_or_its_name(rt: HostRuntime) {
     let alloc = rt.alloc();
     for (bytes, variant) in FORMS {
-        assert!(rt; found(alloc, bytes) == *variant);
+        assert!(rt; read_as(alloc, bytes) == *variant);
     }
     assert!(rt; read_switch(alloc, b"\x52\x01") == Answer::Taken);
     assert!(rt; read_switch(alloc, b"\xa3\x02On") == Answer::Taken);
@@ -133,7 +142,10 @@ const REFUSED: &[(&[u8], Answer)] = &[
     (b"\xa1\x0eNewTypeVariant", InvalidFormatCode),
     // other counts than two, in a map and in a list
     (b"\xc1\x01\x00", InvalidLength),
-    (b"\xc1\x09\x04\x52\x01\x52\x0d\x52\x01\x52\x0d", InvalidLength),
+    (
+        b"\xc1\x09\x04\x52\x01\x52\x0d\x52\x01\x52\x0d",
+        InvalidLength,
+    ),
     (b"\xc1\x03\x01\x52\x01", InvalidLength),
     (b"\xc0\x01\x00", InvalidLength),
     (b"\xc0\x03\x01\x52\x01", InvalidLength),
@@ -150,14 +162,17 @@ const REFUSED: &[(&[u8], Answer)] = &[
     // another value, fields that are a map, and another number of them
     (b"\xc1\x04\x02\x52\x01\x41", InvalidFormatCode),
     (b"\xc1\x06\x02\x52\x03\xc1\x01\x00", InvalidFormatCode),
-    (b"\xc1\x07\x02\x52\x03\xc0\x02\x01\x43", SequenceLengthMismatch),
+    (
+        b"\xc1\x07\x02\x52\x03\xc0\x02\x01\x43",
+        SequenceLengthMismatch,
+    ),
 ];
 
 #[test]
 fn what_is_no_variant_is_refused(rt: HostRuntime) {
     let alloc = rt.alloc();
     for (bytes, name) in REFUSED {
-        assert!(rt; found(alloc, bytes) == Found::None(*name));
+        assert!(rt; read_as(alloc, bytes) == Found::None(*name));
     }
 }
 
@@ -165,7 +180,7 @@ fn what_is_no_variant_is_refused(rt: HostRuntime) {
 fn every_front_of_a_variant_is_too_short(rt: HostRuntime) {
     let alloc = rt.alloc();
     for at in 0..TUPLE.len() {
-        assert!(rt; found(alloc, &TUPLE[..at]) == Found::None(UNEXPECTED_EOF));
+        assert!(rt; read_as(alloc, &TUPLE[..at]) == Found::None(UNEXPECTED_EOF));
     }
 }
 
@@ -205,5 +220,11 @@ fn variants_are_elements(rt: HostRuntime) {
     let unit = list_of(alloc, Some(Enumeration::UnitVariant));
     let mixed = and(unit, Some(Enumeration::NewTypeVariant(13)));
     assert!(rt; is_unwritten(alloc, array(mixed), Answer::InvalidValue));
-    assert!(rt; is_list(alloc, b"\xc0\x0a\x03\x43\x40\xc1\x05\x02\x52\x01\x52\x0d", 3));
+    assert!(rt;
+        is_list(
+            alloc,
+            b"\xc0\x0a\x03\x43\x40\xc1\x05\x02\x52\x01\x52\x0d",
+            3
+        )
+    );
 }
