@@ -11,8 +11,8 @@ use amqp_base::{EncodingCodes, Error, Typed};
 use amqp_read::Read;
 use std::alloc::Global;
 
-/// Which variant of an enum an item names: by its index, a uint or an ulong (part 1, sections 1.6.5,
-/// 1.6.6), or by its name, a string or a symbol (sections 1.6.20, 1.6.21).
+/// Which variant of an enum an item names: by its index, a uint or an ulong (part 1, sections
+/// 1.6.5, 1.6.6), or by its name, a string or a symbol (sections 1.6.20, 1.6.21).
 #[derive(Drop)]
 pub enum VariantKey {
     /// Its index: 0 for the first variant.
@@ -86,8 +86,8 @@ fn key_kind(code: EncodingCodes) -> KeyKind
 }
 
 impl<R: Read> Deserialize<R> for VariantKey {
-    /// In this order: `Io(UnexpectedEof)` where there is no byte, `InvalidFormatCode` where it is no
-    /// code or that of another item, and then the deserializer isn't ended; else the refusals of
+    /// In this order: `Io(UnexpectedEof)` where there is no byte, `InvalidFormatCode` where it is
+    /// no code or that of another item, and then the deserializer isn't ended; else the refusals of
     /// `deserialize_u32`, `deserialize_u64`, `deserialize_string` and `deserialize_symbol`.
     #[inline(always)]
     fn deserialize(alloc: Global, de: &mut Deserializer<R>) -> Result<VariantKey, Error> {

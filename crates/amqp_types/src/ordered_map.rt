@@ -10,7 +10,8 @@ ghost use Rattle.std.specs.Cmp.Lexicographic.{pointwise, lists_per, lists_equiv}
 ghost use Rattle.std.specs.List.{IsDistinct};
 ghost use Rattle.std.specs.Map.{lookup, lookup_key, keys_of, values_of};
 ghost use Rattle.std.specs.Option.{option_map};
-ghost use Rattle.indexmap.specs.IndexMap.{insert_entry, insert_all, swap_remove_entry, shift_remove_entry};
+ghost use Rattle.indexmap.specs.IndexMap.{insert_entry, insert_all};
+ghost use Rattle.indexmap.specs.IndexMap.{swap_remove_entry, shift_remove_entry};
 ghost use Rattle.amqp_base.specs.declared.error.Error.TheVariants.{OutOfMemory};
 ghost use Rattle.amqp_base.specs.Laws.{SameEntries};
 ghost use Rattle.amqp_types.specs.OrderedMaps.{SameAreEqual, distinct_again};
@@ -64,8 +65,8 @@ impl<K: Eq + Hash, V> OrderedMap<K, V> {
         }
     }
 
-    /// A map of the pairs that an iterator gives, each put at its key in turn; `OutOfMemory` where one
-    /// finds no memory.
+    /// A map of the pairs that an iterator gives, each put at its key in turn; `OutOfMemory` where
+    /// one finds no memory.
     pub fn from_iter<I: IntoIterator<Item = (K, V)>>(
         alloc: Global,
         iter: I,
