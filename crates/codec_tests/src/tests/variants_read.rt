@@ -7,7 +7,7 @@ use Answer::{
     SequenceLengthMismatch, Taken,
 };
 use amqp_base::{DESCRIPTOR, EncodingCodes, Error, UNTAGGED_ENUM, VALUE};
-use amqp_de::{Deserializer, Identifier, ListAccess, StructAccess, VariantAccess};
+use amqp_de::{Deserialize, Deserializer, Identifier, ListAccess, StructAccess};
 use amqp_read::Read;
 use std::alloc::Global;
 
@@ -92,36 +92,114 @@ fn both(
     }
 }
 
-/// The variant holds this.
-fn is_held<R: Read>(variant: VariantAccess<'_, R>, alloc: Global, held: Held) -> bool {
-    match held {
-        Held::Dropped => {
-            drop(variant);
-            true
+/// The variant is told so, and let go.
+fn is_dropped<R: Read>(
+    de: &mut Deserializer<R>,
+    alloc: Global,
+    name: &'static str,
+    told_so: Told,
+) -> bool {
+    match de.deserialize_enum(alloc, name) {
+        Ok(variant) => {
+            let mut variant = variant;
+            is_told(variant.variant(alloc), told_so)
         }
-        Held::Unit(want) => told(variant.unit_variant()) == want,
-        Held::Uint(want) => is(variant.newtype_variant::<u32>(alloc), want),
-        Held::Ulong(want) => is(variant.newtype_variant::<u64>(alloc), want),
-        Held::Tuple(len, want) => match variant.tuple_variant(len) {
-            Ok(list) => fields(list, alloc) == want,
-            Err(e) => want == Err(name_of(&e)),
-        },
-        Held::Struct(len, want) => match variant.struct_variant(len) {
-            Ok(list) => members(list, alloc) == want,
-            Err(e) => want == Err(name_of(&e)),
-        },
+        Err(_) => false,
+    }
+}
+
+/// The variant is told so, and then whether it holds nothing.
+fn is_unit<R: Read>(
+    de: &mut Deserializer<R>,
+    alloc: Global,
+    name: &'static str,
+    told_so: Told,
+    want: Answer,
+) -> bool {
+    match de.deserialize_enum(alloc, name) {
+        Ok(variant) => {
+            let mut variant = variant;
+            let is_so = is_told(variant.variant(alloc), told_so);
+            told(variant.unit_variant()) == want && is_so
+        }
+        Err(_) => false,
+    }
+}
+
+/// The variant is told so, and then the value that it holds.
+fn is_value<R: Read, T: Deserialize<R> + PartialEq + Copy>(
+    de: &mut Deserializer<R>,
+    alloc: Global,
+    name: &'static str,
+    told_so: Told,
+    want: Result<T, Answer>,
+) -> bool {
+    match de.deserialize_enum(alloc, name) {
+        Ok(variant) => {
+            let mut variant = variant;
+            let is_so = is_told(variant.variant(alloc), told_so);
+            is(variant.newtype_variant::<T>(alloc), want) && is_so
+        }
+        Err(_) => false,
+    }
+}
+
+/// The variant is told so, and then the fields of its list.
+fn are_fields<R: Read>(
+    de: &mut Deserializer<R>,
+    alloc: Global,
+    name: &'static str,
+    told_so: Told,
+    len: usize,
+    want: Result<(u32, bool), Answer>,
+) -> bool {
+    match de.deserialize_enum(alloc, name) {
+        Ok(variant) => {
+            let mut variant = variant;
+            let is_so = is_told(variant.variant(alloc), told_so);
+            let found = match variant.tuple_variant(len) {
+                Ok(list) => fields(list, alloc),
+                Err(e) => Err(name_of(&e)),
+            };
+            found == want && is_so
+        }
+        Err(_) => false,
+    }
+}
+
+/// The variant is told so, and then the fields of its struct.
+fn are_members<R: Read>(
+    de: &mut Deserializer<R>,
+    alloc: Global,
+    name: &'static str,
+    told_so: Told,
+    len: usize,
+    want: Result<(u32, bool), Answer>,
+) -> bool {
+    match de.deserialize_enum(alloc, name) {
+        Ok(variant) => {
+            let mut variant = variant;
+            let is_so = is_told(variant.variant(alloc), told_so);
+            let found = match variant.struct_variant(len) {
+                Ok(access) => members(access, alloc),
+                Err(e) => Err(name_of(&e)),
+            };
+            found == want && is_so
+        }
+        Err(_) => false,
     }
 }
 
 /// The enum is told and held so.
 fn goes<R: Read>(de: &mut Deserializer<R>, alloc: Global, want: Enumeration) -> bool {
-    match de.deserialize_enum(alloc, want.0) {
-        Ok(variant) => {
-            let mut variant = variant;
-            let is_so = is_told(variant.variant(alloc), want.1);
-            is_held(variant, alloc, want.2) && is_so
-        }
-        Err(_) => false,
+    let Enumeration(name, told_so, held, _) = want;
+    match held {
+        Held::Dropped => is_dropped(de, alloc, name, told_so),
+        Held::Unit(answer) => is_unit(de, alloc, name, told_so, answer),
+        Held::Uint(value) => is_value::<R, u32>(de, alloc, name, told_so, value),
+        Held::Ulong(value) => is_value::<R, u64>(de, alloc, name, told_so, value),
+        Held::Tuple(len, parts) => are_fields(de, alloc, name, told_so, len, parts),
+        Held::Struct(len, parts) => are_members(de, alloc, name, told_so, len, parts),
     }
 }
 
@@ -461,16 +539,24 @@ fn a_variant_may_hold_the_item_itself(rt: HostRuntime) {
     assert!(rt; all_go(rt.alloc(), ITEMS));
 }
 
-/// Calls out of order.
+/// What it holds is asked before which variant it is.
+fn is_early<R: Read>(de: &mut Deserializer<R>, alloc: Global) -> bool {
+    match de.deserialize_enum(alloc, "E") {
+        Ok(variant) => {
+            let variant = variant;
+            told(variant.unit_variant()) == InvalidValue
+        }
+        Err(_) => false,
+    }
+}
+
+/// Calls out of order, which end the deserializer.
 struct Unordered;
 
 impl Asked for Unordered {
     fn is_answered<R: Read>(&self, alloc: Global, de: &mut Deserializer<R>) -> bool {
-        let early = match de.deserialize_enum(alloc, "E") {
-            Ok(variant) => told(variant.unit_variant()) == InvalidValue,
-            Err(_) => false,
-        };
-        early && told(de.deserialize_enum(alloc, "E").map(|_| ())) == InvalidValue
+        let early = is_early(de, alloc);
+        is(de.deserialize_u32(), Err(InvalidValue)) && early
     }
 }
 
