@@ -15,12 +15,12 @@ use Rattle.amqp_base.specs.Item.{ulong, symbol, Descriptor, name, code}
 use Rattle.amqp_base.specs.Parse.{Parsed, text_at, behind_byte, descriptor_at, descriptor_data}
 use Rattle.amqp_base.specs.Value.{number, payload, read}
 use Rattle.amqp_base.specs.Wire.{of_data, of_variable, variable, code_and_data}
-use Rattle.amqp_read.specs.Reading.{Reading, Stays, Steady, Takes}
+use Rattle.amqp_read.specs.Reading.{Reading, Agree, Stays, Steady, Takes}
 use Rattle.amqp_read.specs.Steps.{Looked, ShowsBehind, ComeBehind, IsShort, ShortOf, NotSeen, NotTaken}
 use Rattle.amqp_data.specs.Ahead.{Ahead, Unseen, NumberAhead, TextAhead, DataAhead, ShowsDescriptor, RejectsAhead, known_past, past}
 use Rattle.amqp_data.specs.Excuses.{Excused, no_memory, faulted, uncounted}
 use Rattle.amqp_data.specs.Steps.{Rejects, Unread, Number}
-use Rattle.amqp_data.proofs.Received.{keeps_known}
+use Rattle.amqp_data.proofs.Received.{keeps_known, agree_then, agree_nothing, may_before, shown_next}
 use Rattle.amqp_data.proofs.Readings.{steady_then, steady_same, stayed, rejects_more, unread_rejects, rejects_here, unread_device, unread_memory}
 use Rattle.amqp_data.proofs.Data.{bytes_short, scalar_under}
 use Rattle.amqp_data.proofs.FixedWidth.{fixed_spells, fixed_refused, other_byte, not_device}
@@ -55,10 +55,14 @@ known_behind n b None received s e h = absurd cc
 known_behind n b (Some t) received s e h = let q : t ≡ s = cc in rw q at h
 
 pub ahead : (n : ℕ) (b : List ℕ) (old new : Reading) → Looked (n + length b) old new → ShowsBehind n new b → Ahead n b old new
-ahead n b old new l h = record { looked = l; shown = λ s at. known_behind n b new.to_come new.received s (keeps_known old.to_come new.to_come s l.stays.to_come at) h }
+ahead n b old new l h = record {
+  looked = l;
+  shown = λ s at. known_behind n b new.to_come new.received s (keeps_known old.to_come new.to_come s l.stays.to_come at) h;
+  next = λ t m. shown_next n new b t h m;
+}
 
 pub ahead_none : (n : ℕ) (r : Reading) → Ahead n [] r r
-ahead_none n r = record { looked = looked_same (n + 0) r; shown = λ s at. refl }
+ahead_none n r = record { looked = looked_same (n + 0) r; shown = λ s at. refl; next = λ t m. agree_nothing (drop n t) }
 
 front_join : (a b s : List ℕ) → take (length a) s ≡ a → take (length b) (drop (length a) s) ≡ b → take (length (a ++ b)) s ≡ a ++ b
 front_join [] b s p q = q
@@ -75,6 +79,9 @@ ahead_then n m a b old mid new e p q = record {
   shown = λ s at.
       front_join a b (drop n s) (p.shown s at)
       (ap (λ (z : List ℕ). take (length b) z) (drop-drop (length a) n s ∙ ap (λ (k : ℕ). drop k s) (sym e)) ∙ q.shown s (keeps_known old.to_come mid.to_come s p.looked.stays.to_come at));
+  next = λ t h.
+      agree_then (drop n t) a b (p.next t (may_before mid new t q.looked.stays h))
+      (subst (λ (z : List ℕ). Agree z b) (sym (drop-drop (length a) n t ∙ ap (λ (k : ℕ). drop k t) (sym e))) (q.next t h));
 }
 
 -- ---- what is read behind bytes that stay

@@ -1,10 +1,11 @@
 -- Received bytes: what agrees with them, and what is left of them.
-use Rattle.std.proofs.Common.{◌≡◌, ℕ, ◌≤◌, ◌<◌, max, List, [], ◌∷◌, ◌++◌, length, take, drop, Option, Some, None, refl, sym, ap, ◌∙◌, arith, inl, inr, ◌⊎◌}
-use Rattle.std.proofs.lemmas.List.{length-append, take-append-drop, drop_all, drop-drop, take_all, take_at}
+use Rattle.std.proofs.Common.{◌≡◌, ℕ, zero, suc, ◌≤◌, ◌<◌, max, List, [], ◌∷◌, ◌++◌, length, take, drop, Option, Some, None, refl, sym, ap, ◌∙◌, arith, inl, inr, ◌⊎◌}
+use Rattle.std.proofs.lemmas.List.{length-append, append-nil, take-append-drop, drop_all, drop-drop, take_all, take_at}
 use Rattle.std.proofs.lemmas.Option.{same_Some}
 use Rattle.std.specs.Io.KnownBytes.{Keeps, Consumes}
-use Rattle.amqp_read.specs.Reading.{Reading, Agree, Takes}
-use Rattle.amqp_read.specs.Steps.{StartsWith, Shows, Admits, MayCome}
+use Rattle.amqp_read.specs.Raw.{MayBeTaken}
+use Rattle.amqp_read.specs.Reading.{Reading, Agree, Stays, Takes}
+use Rattle.amqp_read.specs.Steps.{StartsWith, Shows, ShowsBehind, ComeBehind, Admits, MayCome}
 
 pub agree_then : (s x y : List ℕ) → Agree s x → Agree (drop (length x) s) y → Agree s (x ++ y)
 agree_then [] x y p q = tt
@@ -96,3 +97,57 @@ shown_first r t b h m l = tell r.to_come r.received h m
     tell : (k : Option (List ℕ)) (received : List ℕ) → StartsWith k received (b ∷ []) → Admits k received t → (rest : List ℕ) × (t ≡ b ∷ rest)
     tell None received h m = agreed_first received t b h m l
     tell (Some s) received h m = known_first s t b h m l
+
+-- ---- what may be taken next
+
+admits_before : (k l : Option (List ℕ)) (s u t : List ℕ) → Keeps k l → Agree s t → Admits l u t → Admits k s t
+admits_before None l s u t h a m = a
+admits_before (Some x) None s u t h a m = absurd h
+admits_before (Some x) (Some y) s u t h a m = ap (λ (z : List ℕ). take (length t) z) (sym h) ∙ m
+
+-- what may be taken behind a look might have been taken before it
+pub may_before : (old new : Reading) (t : List ℕ) → Stays old new → MayBeTaken new t → MayBeTaken old t
+may_before old new t s m =
+    let a = agree_front old.received new.received t s.received m.0 in
+    (a, admits_before old.to_come new.to_come old.received new.received t s.to_come a m.1)
+
+-- what was consumed might be taken
+pub may_be_taken : (old new : Reading) (t : List ℕ) → Takes old new t → MayBeTaken old t
+may_be_taken old new t s = (s.agrees, may_taken old new t s)
+
+pub agree_nothing : (s : List ℕ) → Agree s []
+agree_nothing [] = tt
+agree_nothing (x ∷ s) = tt
+
+agree_known : (s t : List ℕ) → take (length t) s ≡ t → Agree s t
+agree_known [] t h = tt
+agree_known (x ∷ s) [] h = tt
+agree_known (x ∷ s) (y ∷ t) h = (cc, agree_known s t cc)
+
+agree_behind : (n : ℕ) (u t b : List ℕ) → Agree u t → take (length b) (drop n u) ≡ b → Agree (drop n t) b
+agree_behind n u t [] h k = agree_nothing (drop n t)
+agree_behind zero [] t (x ∷ b) h k = absurd cc
+agree_behind (suc n) [] t (x ∷ b) h k = absurd cc
+agree_behind zero (y ∷ u) [] (x ∷ b) h k = tt
+agree_behind (suc n) (y ∷ u) [] (x ∷ b) h k = tt
+agree_behind zero (y ∷ u) (z ∷ t) (x ∷ b) h k =
+    let p : y ≡ x = cc in
+    let q : take (length b) u ≡ b = cc in
+    (sym h.0 ∙ p, agree_behind zero u t b h.1 q)
+agree_behind (suc n) (y ∷ u) (z ∷ t) (x ∷ b) h k = agree_behind n u t (x ∷ b) h.1 k
+
+next_behind : (n : ℕ) (k : Option (List ℕ)) (u t b : List ℕ) → ComeBehind n k u b → Agree u t → Admits k u t → Agree (drop n t) b
+next_behind n None u t b h a m = agree_behind n u t b a h
+next_behind n (Some s) u t b h a m = agree_behind n s t b (agree_known s t m) h
+
+-- what is shown is in front of whatever is taken next
+pub shown_next : (n : ℕ) (r : Reading) (b t : List ℕ) → ShowsBehind n r b → MayBeTaken r t → Agree (drop n t) b
+shown_next n r b t h m = next_behind n r.to_come r.received t b h m.0 m.1
+
+-- two that agree go on as the same bytes
+pub agree_joins : (x y : List ℕ) → Agree x y → (u : List ℕ) × (v : List ℕ) × (x ++ u ≡ y ++ v)
+agree_joins [] y h = (y, [], sym (append-nil y))
+agree_joins (a ∷ x) [] h = ([], a ∷ x, append-nil (a ∷ x))
+agree_joins (a ∷ x) (b ∷ y) h =
+    let o = agree_joins x y h.1 in
+    (o.0, o.1, cc (h.0, o.2))

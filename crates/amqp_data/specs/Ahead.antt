@@ -8,14 +8,17 @@ use Rattle.amqp_base.specs.Item.{Descriptor, descriptor_item, scalar}
 use Rattle.amqp_base.specs.Parse.{Parsed}
 use Rattle.amqp_base.specs.Value.{number}
 use Rattle.amqp_base.specs.Wire.{under, Wire, lenient, DescriptorText}
-use Rattle.amqp_read.specs.Reading.{Reading, Stays}
+use Rattle.amqp_read.specs.Raw.{MayBeTaken}
+use Rattle.amqp_read.specs.Reading.{Reading, Agree, Stays}
 use Rattle.amqp_read.specs.Steps.{Looked, NotSeen}
 use Rattle.amqp_data.specs.Steps.{Rejects}
 
--- behind the next n known bytes stand these, and no byte behind them was received
+-- behind the next n bytes stand these: of the bytes that were known, and of whatever is taken next, as far as both go. No
+-- byte behind them was received.
 pub record Ahead (n : ℕ) (b : List ℕ) (old new : Reading) : Type 0 where
   pub looked : Looked (n + length b) old new
   pub shown : (s : List ℕ) → old.to_come ≡ Some s → take (length b) (drop n s) ≡ b
+  pub next : (t : List ℕ) → MayBeTaken new t → Agree (drop n t) b
 
 -- n bytes weren't seen
 pub record Unseen (grows buffers : Bool) (n : ℕ) (old new : Reading) (e : Error) : Type 0 where

@@ -1,6 +1,9 @@
 use Rattle.std.proofs.Common.{arith}
-use Rattle.amqp_data.proofs.LooksAhead.{number_then, power_below}
+use Rattle.amqp_data.proofs.LooksAhead.{number_none, number_then, power_below}
 use Rattle.amqp_data.proofs.ahead.number_ahead.Goals as goal
+
+pub loop-i-init : goal.loop-i-init
+loop-i-init g c = number_none c.args.from _
 
 pub overflow_mul-number : goal.overflow_mul-number
 overflow_mul-number g c = omega (arith, c.loop-i.invariant.small, power_below c.loop-i.i (omega (arith, c.loop-i-test.true, c.requires.fits)))
