@@ -23,7 +23,7 @@ unfolding row
 described_code DescribedType h = refl
 described_code _ h = absurd cc
 
-described_kind : (i : Item) → IsTrue (is_described i) → item_kind i ≡ Kind.described
+pub described_kind : (i : Item) → IsTrue (is_described i) → item_kind i ≡ Kind.described
 described_kind (described d v) t = refl
 described_kind (scalar v) t = absurd cc
 described_kind (list is) t = absurd cc

@@ -1,6 +1,6 @@
 -- What says which variant of an enum stands next.
-use Rattle.std.proofs.Common.{◌≡◌, ℕ, ◌+◌, ◌^◌, ◌<◌, ◌≤◌, max, Bool, true, false, IsTrue, List, ◌∷◌, ◌++◌, length, take, drop, Option, Some, Ok, Err, refl, sym, ap, subst, ◌∙◌, arith, inl, inr, ◌⊎◌, append_assoc}
-use Rattle.std.proofs.lemmas.List.{length-append, length-drop, take-append-drop}
+use Rattle.std.proofs.Common.{◌≡◌, ℕ, ◌+◌, ◌^◌, ◌<◌, ◌≤◌, max, Bool, true, false, IsTrue, List, [], ◌∷◌, ◌++◌, length, take, drop, Option, Some, Ok, Err, refl, sym, ap, subst, ◌∙◌, arith, inl, inr, ◌⊎◌, append_assoc}
+use Rattle.std.proofs.lemmas.List.{length-append, length-drop, append-nil, take-append-drop}
 use Rattle.amqp_base.specs.declared.error.Error.{Error}
 use Rattle.amqp_base.specs.declared.error.Error.TheVariants.{InvalidFormatCode, OutOfMemory}
 use Rattle.amqp_base.specs.declared.format_code.EncodingCodes.{EncodingCodes}
@@ -12,10 +12,11 @@ use Rattle.amqp_base.specs.Identifiers.{Identifier, by_index, by_name, by_descri
 use Rattle.amqp_base.specs.Item.{Scalar, uint, ulong, string, symbol, Item, scalar, list, map, array, described, Descriptor}
 use Rattle.amqp_base.specs.Parse.{Parsed, code_at, item_at, descriptor_at}
 use Rattle.amqp_base.specs.SameKind.{same_kind, place}
-use Rattle.amqp_base.specs.Wire.{Constructor, bare, under, under_pair, Wire, lenient, of_code, of_described, DescriptorText}
+use Rattle.amqp_base.specs.Wire.{Constructor, bare, under, under_pair, Wire, lenient, of_code, of_described, of_pair, DescriptorText}
 use Rattle.amqp_base.proofs.Lists.{cons_parts}
 use Rattle.amqp_base.proofs.OneFront.{no_code, same_descriptor_text}
-use Rattle.amqp_read.specs.Reading.{Reading, Stays}
+use Rattle.amqp_read.specs.Raw.{MayBeTaken}
+use Rattle.amqp_read.specs.Reading.{Reading, Agree, Stays}
 use Rattle.amqp_data.specs.Ahead.{past, known_past}
 use Rattle.amqp_data.specs.Excuses.{Excused, Overfull, no_memory, faulted, uncounted}
 use Rattle.amqp_data.specs.Keys.{key_scalar}
@@ -23,10 +24,10 @@ use Rattle.amqp_data.specs.declared.keys.Key.{Key}
 use Rattle.amqp_data.proofs.Data.{by_category_is, kind_under, scalar_under}
 use Rattle.amqp_data.proofs.LooksAhead.{stays_then, looked_then}
 use Rattle.amqp_data.proofs.Readings.{stayed, excused_more}
-use Rattle.amqp_data.proofs.Received.{keeps_known, shown_known}
+use Rattle.amqp_data.proofs.Received.{keeps_known, shown_known, shown_first, may_before, agree_joins}
 use Rattle.amqp_de.specs.declared.identifiers.Identifier.{Identifier as OwnIdentifier}
 use Rattle.amqp_de.specs.Decoding.{Decoding, stands_under}
-use Rattle.amqp_de.specs.Identifies.{identifier_of, any_item, SeenUnder, UnseenUnder, DescriptorSeen, DescriptorUnseen, ShowsDescribed, Identifies, Ignores}
+use Rattle.amqp_de.specs.Identifies.{identifier_of, any_item, SeenUnder, UnseenUnder, DescriptorSeen, DescriptorUnseen, IsBehind, ShowsDescribed, Identifies, Ignores}
 use Rattle.amqp_de.specs.Law.{Found, Missed}
 use Rattle.amqp_de.specs.Look.{item_kind, looked_at, ByteShown, Looks, LooksNot}
 use Rattle.amqp_de.specs.Steps.{Exact}
@@ -125,11 +126,15 @@ first_zero old mid l c s at =
     (f.0, f.1 ∙ ap (λ (b : ℕ). b ∷ f.0) described_byte)
 
 -- what begins with 0x00 is described
-zero_item : (t rest r : List ℕ) (i : Item) → Wire lenient bare t i → t ++ rest ≡ 0 ∷ r → (d : Descriptor) × (a : List ℕ) × (b : List ℕ) × (t ≡ 0 ∷ (a ++ b)) × DescriptorText a d
+zero_item : (t rest r : List ℕ) (i : Item) → Wire lenient bare t i → t ++ rest ≡ 0 ∷ r → (d : Descriptor) × (a : List ℕ) × (b : List ℕ) × (t ≡ 0 ∷ (a ++ b)) × DescriptorText a d × (v : Item) × (i ≡ described d v)
 zero_item _ rest r i (of_code {x = x} {e = e} {b = b} p h) q =
     let z : x ≡ 0 = (cons_parts x 0 (b ++ rest) r q).0 in
     absurd (no_code (rw z at p))
-zero_item _ rest r _ (of_described a b {d = d} g w) q = (d, a, b, refl, g)
+zero_item _ rest r _ (of_described a b {d = d} {v = v} g w) q = (d, a, b, refl, g, v, refl)
+
+-- under the constructor of a pair its data are described
+pair_item : (d : Descriptor) (e : EncodingCodes) (t : List ℕ) (i : Item) → Wire lenient (under_pair d e) t i → (v : Item) × (i ≡ described d v)
+pair_item d e t _ (of_pair {v = v} w) = (v, refl)
 
 seen_stays : (c : Constructor) (d : Descriptor) (old new : Reading) → SeenUnder c d old new → Stays old new
 seen_stays bare d old new h = h.ahead.looked.stays
@@ -146,8 +151,13 @@ seen_exact bare d old new h s at z =
 seen_exact (under e) d old new h s at z = absurd h
 seen_exact (under_pair f e) d old new h s at z = (under e, s, pair_parses InvalidFormatCode f e s ∙ ap (λ (x : Descriptor). Ok (record { descriptor = x; stands = under e }, s)) h.0)
 
+pair_seen : (f : Descriptor) (e : EncodingCodes) (d : Descriptor) (old mid new : Reading) → (f ≡ d) × (new ≡ mid) → length mid.received ≤ max (length old.received) 0 → (t : List ℕ) (i : Item) → Wire lenient (under_pair f e) t i → IsBehind d t i old new
+pair_seen f e d old mid new h few t i w =
+    let o = pair_item f e t i w in
+    record { value = o.0; is = o.1 ∙ ap (λ (u : Descriptor). described u o.0) h.0; received = rw h.1 (omega (arith, few)) }
+
 seen_own : (c : Constructor) (d : Descriptor) (old mid new : Reading) → SeenUnder c d mid new → length mid.received ≤ max (length old.received) (looked_at c) → (t rest : List ℕ) (i : Item) → Wire lenient c t i → mid.to_come ≡ Some (t ++ rest) → (c ≡ bare → (r : List ℕ) × (t ++ rest ≡ 0 ∷ r))
-    → length new.received ≤ max (length old.received) (length t)
+    → IsBehind d t i old new
 seen_own bare d old mid new h few t rest i w at z =
     let f = z refl in
     let o = zero_item t rest f.0 i w f.1 in
@@ -156,9 +166,37 @@ seen_own bare d old mid new h few t rest i w at z =
     let split : o.1 ++ (o.2 ++ rest) ≡ h.text ++ drop (length h.text) (o.1 ++ (o.2 ++ rest)) = sym (take-append-drop (length h.text) (o.1 ++ (o.2 ++ rest))) ∙ ap (λ (u : List ℕ). u ++ drop (length h.text) (o.1 ++ (o.2 ++ rest))) shown in
     let same = same_descriptor_text o.1 h.text o.0 d o.4 h.spelled (o.2 ++ rest) (drop (length h.text) (o.1 ++ (o.2 ++ rest))) split in
     let more = h.ahead.looked.received in
-    omega (arith, ap (λ (u : List ℕ). length u) o.3, length-append o.1 o.2, ap (λ (u : List ℕ). length u) same.0, few, more)
+    record {
+      value = o.5;
+      is = o.6 ∙ ap (λ (u : Descriptor). described u o.5) same.1;
+      received = omega (arith, ap (λ (u : List ℕ). length u) o.3, length-append o.1 o.2, ap (λ (u : List ℕ). length u) same.0, few, more);
+    }
 seen_own (under e) d old mid new h few t rest i w at z = absurd h
-seen_own (under_pair f e) d old mid new h few t rest i w at z = rw h.1 (omega (arith, few))
+seen_own (under_pair f e) d old mid new h few t rest i w at z = pair_seen f e d old mid new h few t i w
+
+-- the same of whatever is taken next
+seen_next : (c : Constructor) (d : Descriptor) (old mid new : Reading) → SeenUnder c d mid new → length mid.received ≤ max (length old.received) (looked_at c) → (t : List ℕ) (i : Item) → Wire lenient c t i → MayBeTaken new t → (c ≡ bare → (r : List ℕ) × (t ≡ 0 ∷ r))
+    → IsBehind d t i old new
+seen_next bare d old mid new h few t i w m z =
+    let f = z refl in
+    let o = zero_item t [] f.0 i w (append-nil t ∙ f.1) in
+    let j = agree_joins (o.1 ++ o.2) h.text (subst (λ (u : List ℕ). Agree (drop 1 u) h.text) o.3 (h.ahead.next t m)) in
+    let same = same_descriptor_text o.1 h.text o.0 d o.4 h.spelled (o.2 ++ j.0) j.1 (sym (append_assoc o.1 o.2 j.0) ∙ j.2) in
+    let more = h.ahead.looked.received in
+    record {
+      value = o.5;
+      is = o.6 ∙ ap (λ (u : Descriptor). described u o.5) same.1;
+      received = omega (arith, ap (λ (u : List ℕ). length u) o.3, length-append o.1 o.2, ap (λ (u : List ℕ). length u) same.0, few, more);
+    }
+seen_next (under e) d old mid new h few t i w m z = absurd h
+seen_next (under_pair f e) d old mid new h few t i w m z = pair_seen f e d old mid new h few t i w
+
+-- the first byte of whatever is taken next
+next_zero : (old mid new : Decoding) → Looks old mid DescribedType → Stays mid.reading new.reading → stands_under old ≡ bare → (t : List ℕ) (i : Item) → Wire lenient (stands_under old) t i → MayBeTaken new.reading t → (r : List ℕ) × (t ≡ 0 ∷ r)
+next_zero old mid new l s c t i w m =
+    let shown : ByteShown bare DescribedType mid.reading = rw c at l.shown in
+    let f = shown_first mid.reading t (row DescribedType).byte shown (may_before mid.reading new.reading t s m).1 (own_byte bare t i (rw c at w)) in
+    (f.0, f.1 ∙ ap (λ (b : ℕ). b ∷ f.0) described_byte)
 
 pub shows_described : (d : Descriptor) (old mid new : Decoding) → Looks old mid DescribedType → DescriptorSeen d mid new → ShowsDescribed d old new
 shows_described d old mid new l n =
@@ -174,6 +212,9 @@ shows_described d old mid new l n =
       own = λ t rest i w at.
           seen_own (stands_under old) d old.reading mid.reading new.reading seen l.looked.received t rest i w (keeps_known old.reading.to_come mid.reading.to_come (t ++ rest) l.looked.stays.to_come at)
           (λ c. first_zero old mid l c (t ++ rest) at);
+      next = λ t i w m.
+          seen_next (stands_under old) d old.reading mid.reading new.reading seen l.looked.received t i w m
+          (λ c. next_zero old mid new l (seen_stays (stands_under old) d mid.reading new.reading seen) c t i w m);
     }
 
 pub exact_described : (i : OwnIdentifier) (d : Descriptor) (buffers : Bool) (old mid new : Decoding) → identifier_of i ≡ by_descriptor d → Looks old mid DescribedType → DescriptorSeen d mid new → Exact identifier_of true buffers (ignored_at (stands_under old)) old.reading (Ok i) new.reading
@@ -321,7 +362,12 @@ shows_behind d old mid new x l m =
           let f = m.own t rest i (rw same w) (keeps_known old.reading.to_come mid.reading.to_come (t ++ rest) l.looked.stays.to_come at) in
           let g = l.looked.received in
           let h = own_byte (stands_under old) t i w in
-          omega arith;
+          record { value = f.value; is = f.is; received = let r = f.received in omega arith };
+      next = λ t i w q.
+          let f = m.next t i (rw same w) q in
+          let g = l.looked.received in
+          let h = own_byte (stands_under old) t i w in
+          record { value = f.value; is = f.is; received = let r = f.received in omega arith };
     }
 
 pub identifies_behind : (i : Identifier) (old mid new : Decoding) (x : EncodingCodes) → Looks old mid x → Ignores i mid new → Identifies i old new

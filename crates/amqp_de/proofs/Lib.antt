@@ -43,3 +43,4 @@ pub mod Identified
 pub mod VariantsOpened
 pub mod VariantsNamed
 pub mod VariantsTold
+pub mod DescribedEnumsRead

@@ -4,9 +4,10 @@ use Rattle.amqp_base.specs.declared.error.Error.{Error}
 use Rattle.amqp_base.specs.declared.error.Error.TheVariants.{InvalidFormatCode, OutOfMemory}
 use Rattle.amqp_base.specs.Describing.{describing_at}
 use Rattle.amqp_base.specs.Identifiers.{Identifier, by_index, by_name, by_descriptor, by_code, is_key, IsKey}
-use Rattle.amqp_base.specs.Item.{Descriptor, name, code, Item}
+use Rattle.amqp_base.specs.Item.{Descriptor, name, code, Item, described}
 use Rattle.amqp_base.specs.Parse.{descriptor_at}
 use Rattle.amqp_base.specs.Wire.{Constructor, bare, under, under_pair, Wire, lenient}
+use Rattle.amqp_read.specs.Raw.{MayBeTaken}
 use Rattle.amqp_read.specs.Reading.{Reading, Stays}
 use Rattle.amqp_data.specs.Ahead.{ShowsDescriptor, RejectsAhead}
 use Rattle.amqp_de.specs.declared.identifiers.Identifier.{Identifier as OwnIdentifier}
@@ -50,8 +51,14 @@ pub record DescriptorUnseen (buffers : Bool) (old new : Decoding) (e : Error) : 
   pub ended : IsTrue new.ended
   pub begun : new.begun ≡ old.begun
 
--- The descriptor of the next item is this one. Nothing was consumed or begun, and of known bytes none behind the item was
--- received.
+-- the item of these bytes is behind this descriptor, and no byte behind it was received
+pub record IsBehind (d : Descriptor) (t : List ℕ) (i : Item) (old new : Reading) : Type 0 where
+  pub value : Item
+  pub is : i ≡ described d value
+  pub received : length new.received ≤ max (length old.received) (length t)
+
+-- The descriptor of the next item is this one: of the item that is known to stand there, and of whichever is taken next.
+-- Nothing was consumed or begun, and none behind the item was received.
 pub record ShowsDescribed (d : Descriptor) (old new : Decoding) : Type 0 where
   pub stays : Stays old.reading new.reading
   pub not_ended : new.ended ≡ false
@@ -59,7 +66,8 @@ pub record ShowsDescribed (d : Descriptor) (old new : Decoding) : Type 0 where
   pub described : new.described ≡ old.described
   pub begun : new.begun ≡ old.begun
   pub exact : (s : List ℕ) → old.reading.to_come ≡ Some s → (stands : Constructor) × (rest : List ℕ) × (describing_at InvalidFormatCode (stands_under old) s ≡ Ok (record { descriptor = d; stands = stands }, rest))
-  pub own : (t rest : List ℕ) (i : Item) → Wire lenient (stands_under old) t i → old.reading.to_come ≡ Some (t ++ rest) → length new.reading.received ≤ max (length old.reading.received) (length t)
+  pub own : (t rest : List ℕ) (i : Item) → Wire lenient (stands_under old) t i → old.reading.to_come ≡ Some (t ++ rest) → IsBehind d t i old.reading new.reading
+  pub next : (t : List ℕ) (i : Item) → Wire lenient (stands_under old) t i → MayBeTaken new.reading t → IsBehind d t i old.reading new.reading
 
 -- ---- what says which variant stands next
 

@@ -22,6 +22,7 @@ pub mod Describes
 pub mod DescribedFields
 pub mod DescribedValues
 pub mod DescribedMaps
+pub mod DescribedEnums
 pub mod NotNull
 pub mod DescribedStructs
 pub mod Forms

@@ -8,6 +8,7 @@ mod chosen;
 mod decimals;
 mod described;
 mod described_access;
+mod described_enums;
 mod described_fields;
 mod described_structs;
 mod described_values;
@@ -43,6 +44,7 @@ mod variants;
 #[doc(hidden)]
 pub use amqp_base::{NoVariant, OneOf};
 pub use chosen::Chosen;
+pub use described_enums::{DescribedVariant, DescribedVariants};
 pub use described_structs::DescribedAccess;
 pub use deserialize::Deserialize;
 pub use deserializer::Deserializer;
