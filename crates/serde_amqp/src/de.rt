@@ -3,7 +3,7 @@
 pub use crate::{from_reader, from_slice, from_slice_with_rest};
 pub use amqp_base::{MAX_ARRAY_COUNT, NeverNull, NoVariant, OneOf, RoundTrip};
 pub use amqp_de::{
-    ArrayAccess, DescribedAccess, Deserialize, Deserializer, Ended, EnumVariant, Field, Fields,
-    FromVariant, Identifier, ListAccess, MapAccess, Newtype, Payload, SeqAccess, StructAccess,
-    Unit, VariantAccess, VariantKey, Variants,
+    ArrayAccess, DescribedAccess, DescribedVariant, DescribedVariants, Deserialize, Deserializer,
+    Ended, EnumVariant, Field, Fields, FromVariant, Identifier, ListAccess, MapAccess, Newtype,
+    Payload, SeqAccess, StructAccess, Unit, VariantAccess, VariantKey, Variants,
 };
