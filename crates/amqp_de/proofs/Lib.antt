@@ -44,3 +44,5 @@ pub mod VariantsOpened
 pub mod VariantsNamed
 pub mod VariantsTold
 pub mod DescribedEnumsRead
+pub mod IgnoredRead
+pub mod IgnoredParts

@@ -95,7 +95,7 @@ missed_behind takes some more grows buffers old mid new x e g h l m = missed_of_
 kind_is : (k : Kind) (i : Item) → IsTrue (is_of k i) → item_kind i ≡ k
 kind_is k i q = let p = of_kind_is k i q in ap item_kind p.1 ∙ p.2
 
-none_spent : (old new : Decoding) → new.begun ≡ old.begun → Stays old.reading new.reading → Spent (refused_free (stands_under old)) old new
+pub none_spent : (old new : Decoding) → new.begun ≡ old.begun → Stays old.reading new.reading → Spent (refused_free (stands_under old)) old new
 none_spent old new b s = record { most = omega (arith, b, s.taken) }
 
 -- no code stands there

@@ -20,7 +20,7 @@ turned key keys value values zero s e l p = absurd (omega (arith, l))
 turned key keys value values (suc n) s e l p = inl p
 
 -- one more was read
-reaches_turn : (whole : PartsRefusing) (key : Item → Bool) (keys : Refusing) (value : Item → Bool) (values : Refusing) {means : Item → Type 0} (from now next : Listing) → Reaches whole (turn_refusal key keys value values) from now → Part key means now next → Reaches whole (turn_refusal value values key keys) from next
+pub reaches_turn : (whole : PartsRefusing) (key : Item → Bool) (keys : Refusing) (value : Item → Bool) (values : Refusing) {means : Item → Type 0} (from now next : Listing) → Reaches whole (turn_refusal key keys value values) from now → Part key means now next → Reaches whole (turn_refusal value values key keys) from next
 reaches_turn whole key keys value values from now next r p = reaches_on whole (turn_refusal key keys value values) (turn_refusal value values key keys) from now next r p (λ w rest e q. inr (record {
   item = p.front.item;
   text = p.front.text;
@@ -40,7 +40,7 @@ module _ (key : Item → Bool) (keys : Refusing) (value : Item → Bool) (values
 
   module _ (buffers : Bool) (old last : Decoding) (e : Error) (from : Listing) (o : Opens HasPairs old from) (x : OpensExactly map_data old from) where
     -- a part of the map was refused
-    part_of_map : (first : Item → Bool) (firsts : Refusing) (second : Item → Bool) (seconds : Refusing) {grows : Bool} {is : Items} {f : Listing} (now next : Listing) → Opens HasPairs old f → PartsRead f is now → Reaches (turn_refusal key keys value values) (turn_refusal first firsts second seconds) from now
+    pub part_of_map : (first : Item → Bool) (firsts : Refusing) (second : Item → Bool) (seconds : Refusing) {grows : Bool} {is : Items} {f : Listing} (now next : Listing) → Opens HasPairs old f → PartsRead f is now → Reaches (turn_refusal key keys value values) (turn_refusal first firsts second seconds) from now
         → 0 < now.left → last.reading ≡ next.state.reading → PartNamed first firsts grows buffers now next e → Named (map_refusal key keys value values) true buffers old last e
     part_of_map first firsts second seconds now next p reads r some same n =
         refused_behind map_data (turn_refusal key keys value values) true buffers old last e from now (λ _. refl) x (taken_since p reads) r

@@ -120,7 +120,7 @@ unseen_as takes refuses buffers old new e n = record { why = λ a s at h. tell s
     tell s (inr y) = inr (excused_more old.reading new.reading e (λ _. refl) y)
 
 -- behind a look
-named_looked : {refuses some : Refusing} {grows buffers : Bool} (old mid new : Decoding) (x : EncodingCodes) (e : Error) → Looks old mid x → ((s rest : List ℕ) → code_at (stands_under old) s ≡ Ok (x, rest) → refuses (stands_under old) s e → some (stands_under old) s e)
+pub named_looked : {refuses some : Refusing} {grows buffers : Bool} (old mid new : Decoding) (x : EncodingCodes) (e : Error) → Looks old mid x → ((s rest : List ℕ) → code_at (stands_under old) s ≡ Ok (x, rest) → refuses (stands_under old) s e → some (stands_under old) s e)
     → Named refuses grows buffers mid new e → Named some true buffers old new e
 named_looked {refuses} {some} {grows} {buffers} old mid new x e l hand n =
     let m = named_behind refuses grows buffers old mid new x e l n in

@@ -14,7 +14,7 @@ use Rattle.amqp_de.specs.ReadParts.{PartsRead, RefusesElements, and_last, joined
 use Rattle.amqp_de.proofs.PartsRead as read
 use Rattle.amqp_de.proofs.PartsRead.{both, left_of, right_of}
 
-taken_last : (takes : Item → Bool) (is : Items) (i : Item) → IsTrue (all_taken takes is) → IsTrue (takes i) → IsTrue (all_taken takes (and_last is i))
+pub taken_last : (takes : Item → Bool) (is : Items) (i : Item) → IsTrue (all_taken takes is) → IsTrue (takes i) → IsTrue (all_taken takes (and_last is i))
 taken_last takes none i t u = both _ _ u refl
 taken_last takes (more j is) i t u = both _ _ (left_of _ _ t) (taken_last takes is i (right_of _ _ t) u)
 
@@ -25,7 +25,7 @@ mean_last means (more j is) [] i v t u = absurd t
 mean_last means (more j is) (w ∷ vs) i v t u = (t.0, mean_last means is vs i v t.1 u)
 
 -- a part behind others is taken
-taken_behind : (takes : Item → Bool) (is : Items) (j : Item) (js : Items) → IsTrue (all_taken takes (joined is (more j js))) → IsTrue (takes j)
+pub taken_behind : (takes : Item → Bool) (is : Items) (j : Item) (js : Items) → IsTrue (all_taken takes (joined is (more j js))) → IsTrue (takes j)
 taken_behind takes none j js t = left_of _ _ t
 taken_behind takes (more i is) j js t = taken_behind takes is j js (right_of _ _ t)
 
@@ -50,7 +50,7 @@ module _ {T : Type 0} (takes : Item → Bool) (means : Item → T → Type 0) (f
 
 -- ---- the whole
 
-parts_of : (takes : Item → Bool) (i : Item) → IsTrue (is_seq_of takes i) → (is : Items) × HasElements i is × IsTrue (all_taken takes is)
+pub parts_of : (takes : Item → Bool) (i : Item) → IsTrue (is_seq_of takes i) → (is : Items) × HasElements i is × IsTrue (all_taken takes is)
 parts_of takes (list is) t = (is, refl, t)
 parts_of takes (array is) t = (is, refl, t)
 parts_of takes (scalar v) t = absurd cc

@@ -26,3 +26,4 @@ pub mod DescribedEnums
 pub mod NotNull
 pub mod DescribedStructs
 pub mod Forms
+pub mod Ignored

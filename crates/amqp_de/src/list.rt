@@ -71,7 +71,7 @@ pub struct Open {
 }
 
 #[inline(always)]
-fn is_within(consumed: usize, limit: &Option<Limit>) -> bool
+pub(crate) fn is_within(consumed: usize, limit: &Option<Limit>) -> bool
     ensures yes { IsTrue result → Within (limit_of limit.now) consumed }
     ensures no { result ≡ false → Within (limit_of limit.now) consumed → ⊥ }
 {
@@ -91,7 +91,7 @@ impl<R: Read> Deserializer<R> {
     }
 
     #[inline(always)]
-    fn bytes_consumed(&self) -> usize
+    pub(crate) fn bytes_consumed(&self) -> usize
         ensures { result ≡ self.now.reading.taken }
     {
         self.reader.bytes_consumed()

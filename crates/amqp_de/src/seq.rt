@@ -92,7 +92,7 @@ impl<R: Read> Deserializer<R> {
 
     /// Begins a list or an array.
     #[inline(always)]
-    fn open_elements(&mut self, alloc: Global) -> Result<Open, Error>
+    pub(crate) fn open_elements(&mut self, alloc: Global) -> Result<Open, Error>
         ensures ok { IfOk result (λ o. OpensEither self.old (at_open self.new o)) }
         ensures err { IfErr result (λ e. RefusesElements R.buffers self.old self.new e) }
     {

@@ -19,6 +19,7 @@ mod error;
 mod fixed;
 mod format_code;
 mod identifiers;
+mod ignored;
 mod io_reader;
 mod lent;
 mod lists;

@@ -46,8 +46,9 @@ pub use amqp_base::{
 };
 pub use amqp_de::{
     ArrayAccess, Chosen, DescribedAccess, Deserialize, Deserializer, Ended, Field, Fields,
-    Identifier, ListAccess, MapAccess, SeqAccess, StructAccess, VariantAccess, read_described,
-    read_described_enum, read_described_map, read_fields, read_parts, read_variants, variant_of,
+    Identifier, Ignored, ListAccess, MAX_NESTED, MapAccess, SeqAccess, StructAccess, VariantAccess,
+    read_described, read_described_enum, read_described_map, read_fields, read_parts,
+    read_variants, variant_of,
 };
 pub use amqp_read::{IoReader, Read, SliceReader, read_const_bytes};
 use amqp_ser::{measured_size, measured_vec};

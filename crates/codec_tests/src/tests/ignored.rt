@@ -1,0 +1,298 @@
+//! Items that nobody asks for: any of them is read whole, and just its bytes are consumed.
+
+use super::answer::{Answer, UNEXPECTED_EOF, name_of};
+use super::pieces::cut;
+use serde_amqp::{
+    Counted, Deserializer, Error, Ignored, MAX_NESTED, MapAccess, Read, SliceReader, from_reader,
+    from_slice, from_slice_with_rest,
+};
+use std::alloc::Global;
+
+/// Bytes, and how many of them the item at the front has, or its refusal.
+type Row = (&'static [u8], Result<usize, Answer>);
+
+/// The item is passed over, and so many bytes are left behind it.
+fn is_passed(outcome: Result<Ignored, Error>, left: usize, row: &Row) -> bool {
+    let (bytes, want) = row;
+    match outcome {
+        Ok(Ignored) => *want == Ok(bytes.len().saturating_sub(left)),
+        Err(e) => *want == Err(name_of(&e)),
+    }
+}
+
+/// It is so out of a slice.
+fn is_passed_of_slice(alloc: Global, row: &Row) -> bool {
+    match from_slice_with_rest::<Ignored>(alloc, row.0) {
+        Ok((ignored, rest)) => is_passed(Ok(ignored), rest.len(), row),
+        Err(e) => is_passed(Err(e), 0, row),
+    }
+}
+
+/// It is so out of a source that gives so many bytes a read at most.
+fn is_passed_of_source(alloc: Global, row: &Row, most: usize) -> bool {
+    let mut source = Counted::new(cut(row.0, most));
+    let outcome = from_reader::<_, Ignored>(alloc, &mut source);
+    is_passed(outcome, source.into_inner().rest.len(), row)
+}
+
+/// They are, out of a slice and out of sources that give 1, 2 and 7 bytes a read.
+fn are_passed(alloc: Global, rows: &[Row]) -> bool {
+    let mut are_so = true;
+    for row in rows {
+        are_so = is_passed_of_slice(alloc, row) && are_so;
+        for most in [1, 2, 7] {
+            are_so = is_passed_of_source(alloc, row, most) && are_so;
+        }
+    }
+    are_so
+}
+
+/// Each code of a value without parts, with a byte behind it.
+const SCALARS: [Row; 32] = [
+    (b"\x40\xff", Ok(1)),
+    (b"\x56\x01\xff", Ok(2)),
+    (b"\x41\xff", Ok(1)),
+    (b"\x42\xff", Ok(1)),
+    (b"\x50\x07\xff", Ok(2)),
+    (b"\x60\x00\x07\xff", Ok(3)),
+    (b"\x70\x00\x00\x00\x07\xff", Ok(5)),
+    (b"\x52\x07\xff", Ok(2)),
+    (b"\x43\xff", Ok(1)),
+    (b"\x80\x00\x00\x00\x00\x00\x00\x00\x07\xff", Ok(9)),
+    (b"\x53\x07\xff", Ok(2)),
+    (b"\x44\xff", Ok(1)),
+    (b"\x51\x07\xff", Ok(2)),
+    (b"\x61\x00\x07\xff", Ok(3)),
+    (b"\x71\x00\x00\x00\x07\xff", Ok(5)),
+    (b"\x54\x07\xff", Ok(2)),
+    (b"\x81\x00\x00\x00\x00\x00\x00\x00\x07\xff", Ok(9)),
+    (b"\x55\x07\xff", Ok(2)),
+    (b"\x72\x00\x00\x00\x07\xff", Ok(5)),
+    (b"\x82\x00\x00\x00\x00\x00\x00\x00\x07\xff", Ok(9)),
+    (b"\x74\x00\x00\x00\x07\xff", Ok(5)),
+    (b"\x84\x00\x00\x00\x00\x00\x00\x00\x07\xff", Ok(9)),
+    (
+        b"\x94\x00\x00\x00\x00\x00\x00\x00\x07\x00\x00\x00\x00\x00\x00\x00\x07\xff",
+        Ok(17),
+    ),
+    (b"\x73\x00\x00\x00\x63\xff", Ok(5)),
+    (b"\x83\x00\x00\x00\x00\x00\x00\x00\x07\xff", Ok(9)),
+    (
+        b"\x98\x00\x00\x00\x00\x00\x00\x00\x07\x00\x00\x00\x00\x00\x00\x00\x07\xff",
+        Ok(17),
+    ),
+    (b"\xa0\x02\xff\xfe\xff", Ok(4)),
+    (b"\xb0\x00\x00\x00\x02\xff\xfe\xff", Ok(7)),
+    (b"\xa1\x02\xc3\xa9\xff", Ok(4)),
+    (b"\xb1\x00\x00\x00\x02\xc3\xa9\xff", Ok(7)),
+    (b"\xa3\x01\x61\xff", Ok(3)),
+    (b"\xb3\x00\x00\x00\x01\x61\xff", Ok(6)),
+];
+
+#[test]
+fn values_without_parts_are_passed_over(rt: HostRuntime) {
+    assert!(rt; are_passed(rt.alloc(), &SCALARS));
+}
+
+/// Each code of an item with others inside.
+const COMPOUNDS: [Row; 15] = [
+    (b"\x45\xff", Ok(1)),
+    // [null, true]
+    (b"\xc0\x03\x02\x40\x41\xff", Ok(5)),
+    (b"\xd0\x00\x00\x00\x06\x00\x00\x00\x02\x40\x41\xff", Ok(11)),
+    // {1: [2], "a": {}}
+    (
+        b"\xc1\x0d\x04\x52\x01\xc0\x03\x01\x52\x02\xa1\x01\x61\xc1\x01\x00\xff",
+        Ok(16),
+    ),
+    (b"\xd1\x00\x00\x00\x06\x00\x00\x00\x02\x40\x41\xff", Ok(11)),
+    // two ints in their array, then one of a byte
+    (
+        b"\xe0\x0a\x02\x71\x00\x00\x00\x01\x00\x00\x00\x02\xff",
+        Ok(12),
+    ),
+    (b"\xe0\x03\x01\x54\x07\xff", Ok(5)),
+    (b"\xf0\x00\x00\x00\x06\x00\x00\x00\x01\x54\x07\xff", Ok(11)),
+    // no element, of whatever bytes
+    (b"\xe0\x01\x00\xff", Ok(3)),
+    (b"\xe0\x03\x00\x57\x57\xff", Ok(5)),
+    // an array of two arrays of an ubyte each
+    (
+        b"\xe0\x0a\x02\xe0\x03\x01\x50\x07\x03\x01\x50\x08\xff",
+        Ok(12),
+    ),
+    // an array of two lists, of which the second has no element
+    (b"\xe0\x07\x02\xc0\x02\x01\x40\x01\x00\xff", Ok(9)),
+    // a value behind an ulong, and one behind a symbol
+    (b"\x00\x53\x24\x45\xff", Ok(4)),
+    (b"\x00\xa3\x01\x61\xc0\x02\x01\x40\xff", Ok(8)),
+    // an array of two described ints, which share their descriptor
+    (b"\xe0\x07\x02\x00\x53\x24\x54\x01\x02\xff", Ok(9)),
+];
+
+#[test]
+fn lists_maps_arrays_and_described_values_are_passed_over(rt: HostRuntime) {
+    assert!(rt; are_passed(rt.alloc(), &COMPOUNDS));
+}
+
+/// What is inside is looked at.
+const REFUSED: [Row; 22] = [
+    (b"", Err(UNEXPECTED_EOF)),
+    (b"\x57", Err(Answer::InvalidFormatCode)),
+    (b"\x56\x02", Err(Answer::InvalidValue)),
+    (b"\xc0\x03\x01\x56\x02", Err(Answer::InvalidValue)),
+    (
+        b"\xc0\x06\x01\x73\x00\x00\xd8\x00",
+        Err(Answer::InvalidValue),
+    ),
+    (
+        b"\xc0\x03\x01\xa1\x01\xff",
+        Err(Answer::InvalidUtf8Encoding),
+    ),
+    (
+        b"\xc0\x03\x01\xa3\x01\xff",
+        Err(Answer::InvalidUtf8Encoding),
+    ),
+    (b"\xc0\x02\x01\x57", Err(Answer::InvalidFormatCode)),
+    (b"\xc0\x03\x02\x40", Err(UNEXPECTED_EOF)),
+    (b"\xc0\x00\x00", Err(Answer::InvalidLength)),
+    (b"\xc0", Err(UNEXPECTED_EOF)),
+    (
+        b"\xd0\x00\x00\x00\x04\x00\x01\x00\x01",
+        Err(Answer::InvalidValue),
+    ),
+    (b"\xc1\x03\x01\x40\x40", Err(Answer::InvalidLength)),
+    (b"\xc1\x02\x02\x40", Err(UNEXPECTED_EOF)),
+    (b"\xc1\x04\x02\x40\x56\x03", Err(Answer::InvalidValue)),
+    (b"\xe0\x03\x01\x56\x02", Err(Answer::InvalidValue)),
+    (b"\xe0\x02\x01\x50\x07", Err(Answer::InvalidValue)),
+    (b"\xe0\x02\x03\x50\x07", Err(Answer::InvalidValue)),
+    (b"\x00\x53\x24", Err(UNEXPECTED_EOF)),
+    (b"\x00\x40\x40", Err(Answer::Message)),
+    (b"\x00\x53\x24\x56\x02", Err(Answer::InvalidValue)),
+    (b"\x74\x00\x00\x00", Err(UNEXPECTED_EOF)),
+];
+
+#[test]
+fn what_is_inside_is_refused_by_its_name(rt: HostRuntime) {
+    assert!(rt; are_passed(rt.alloc(), &REFUSED));
+}
+
+/// So many layers, one inside the other, and null in the last of them.
+fn nest(alloc: Global, layer: &[u8], count: u32, last: &[u8]) -> Option<Vec<u8>> {
+    let mut bytes = Vec::new(alloc);
+    let mut are_in = true;
+    for _ in 0..count {
+        are_in = bytes.extend_from_slice(layer).is_ok() && are_in;
+    }
+    are_in = bytes.extend_from_slice(last).is_ok() && are_in;
+    if are_in { Some(bytes) } else { None }
+}
+
+/// Out of a slice, and out of a source that gives two bytes a read.
+fn is_answered(alloc: Global, bytes: &[u8], want: Answer) -> bool {
+    let mut source = Counted::new(cut(bytes, 2));
+    super::answer::told(from_slice::<Ignored>(alloc, bytes)) == want
+        && super::answer::told(from_reader::<_, Ignored>(alloc, &mut source)) == want
+}
+
+/// So many layers are passed over, and one more is refused.
+fn is_the_limit(alloc: Global, layer: &[u8], count: u32, last: &[u8]) -> bool {
+    match nest(alloc, layer, count, last) {
+        Some(bytes) => is_answered(alloc, bytes.as_slice(), Answer::Taken),
+        None => false,
+    }
+}
+
+fn is_past_the_limit(alloc: Global, layer: &[u8], count: u32, last: &[u8]) -> bool {
+    match nest(alloc, layer, count, last) {
+        Some(bytes) => is_answered(alloc, bytes.as_slice(), Answer::InvalidValue),
+        None => false,
+    }
+}
+
+#[test]
+fn layers_are_passed_over_to_the_limit(rt: HostRuntime) {
+    let alloc = rt.alloc();
+    assert!(rt; is_the_limit(alloc, b"\xc0\xff\x01", MAX_NESTED, b"\x40"));
+    assert!(rt; is_the_limit(alloc, b"\x00\x53\x01", MAX_NESTED, b"\x40"));
+    assert!(rt; is_the_limit(alloc, b"\xc1\xff\x02\x40", MAX_NESTED, b"\x40"));
+    assert!(rt; is_the_limit(alloc, b"\xe0\xff\x01", MAX_NESTED, b"\x40"));
+}
+
+#[test]
+fn one_layer_more_is_refused(rt: HostRuntime) {
+    let alloc = rt.alloc();
+    assert!(rt; is_past_the_limit(alloc, b"\xc0\xff\x01", MAX_NESTED, b"\x45"));
+    assert!(rt; is_past_the_limit(alloc, b"\x00\x53\x01", MAX_NESTED, b"\x45"));
+    assert!(rt; is_past_the_limit(alloc, b"\xc1\xff\x02\x40", MAX_NESTED, b"\x45"));
+    assert!(rt; is_past_the_limit(alloc, b"\xc0\xff\x01", 100_000, b""));
+}
+
+/// The value under the key 2, whatever else the map holds.
+fn value_of_two<R: Read>(map: &mut MapAccess<'_, R>, alloc: Global) -> Result<Option<bool>, Error> {
+    let mut found = None;
+    for _ in 0..16 {
+        match map.next_key::<u32>(alloc)? {
+            Some(2) => found = Some(map.next_value::<bool>(alloc)?),
+            Some(_) => {
+                map.next_value::<Ignored>(alloc)?;
+            }
+            None => {}
+        }
+    }
+    Ok(found)
+}
+
+/// {0: [1, [null]], 1: an array of arrays, 2: true, 3: a described value, 4: {"a": 1}, 5: "b"}
+const OF_ALL_KINDS: &[u8] = b"\xc1\x37\x0c\x43\xc0\x06\x02\x54\x01\xc0\x02\x01\x40\
+\x52\x01\xe0\x0a\x02\xe0\x03\x01\x50\x07\x03\x01\x50\x08\
+\x52\x02\x41\x52\x03\x00\x53\x24\xc0\x01\x00\x52\x04\xc1\x06\x02\xa1\x01\x61\x54\x01\
+\x52\x05\xa1\x01\x62\x42";
+
+/// The value is found, the map ends, and what stands behind it is read.
+fn finds_two(alloc: Global) -> bool {
+    let mut de = Deserializer::new(SliceReader::new(OF_ALL_KINDS));
+    let found = match de.deserialize_map() {
+        Ok(map) => {
+            let mut map = map;
+            let found = value_of_two(&mut map, alloc);
+            matches!(&found, Ok(Some(true))) && map.end().is_ok()
+        }
+        Err(_) => false,
+    };
+    found && matches!(&de.deserialize_bool(), Ok(false))
+}
+
+#[test]
+fn values_of_unknown_keys_are_passed_over(rt: HostRuntime) {
+    assert!(rt; finds_two(rt.alloc()));
+}
+
+/// [true, {}, [null], an array] behind which stands false
+const WITH_MORE_FIELDS: &[u8] = b"\xc0\x0d\x04\x41\xc1\x01\x00\xc0\x02\x01\x40\xe0\x02\x01\x40\x42";
+
+/// The first field is read, and those behind it are passed over.
+fn first_field(alloc: Global) -> bool {
+    let mut de = Deserializer::new(SliceReader::new(WITH_MORE_FIELDS));
+    let found = match de.deserialize_seq(alloc) {
+        Ok(seq) => {
+            let mut list = seq.into_elements();
+            let first = matches!(&list.next_element::<bool>(alloc), Ok(Some(true)));
+            let mut more = 0;
+            for _ in 0..8 {
+                if let Ok(Some(Ignored)) = list.next_element(alloc) {
+                    more = 1 + more % 8;
+                }
+            }
+            first && more == 3 && list.end().is_ok()
+        }
+        Err(_) => false,
+    };
+    found && matches!(&de.deserialize_bool(), Ok(false))
+}
+
+#[test]
+fn fields_behind_those_that_are_known_are_passed_over(rt: HostRuntime) {
+    assert!(rt; first_field(rt.alloc()));
+}
