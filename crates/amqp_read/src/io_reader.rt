@@ -83,6 +83,7 @@ impl<S: Source> IoReader<S> {
 
     /// Consumes a received byte; `None` where none is unread, or where the count of bytes consumed
     /// ends.
+    #[inline(always)]
     pub fn pop_first(&mut self) -> Option<u8>
         ensures { MatchOption result
             ((self.new ≡ self.old)
@@ -90,26 +91,12 @@ impl<S: Source> IoReader<S> {
             (λ b. Takes self.old.reading self.new.reading (b ∷ [])
             × (slice_get self.old.reading.received 0 ≡ Some b)) }
     {
-        if self.received() == 0 {
+        if self.received() == 0 || self.taken == usize::MAX {
             return None;
-        }
-        self.take_first().ok()
-    }
-
-    /// Consumes the first received byte; `Io(Other)` where it can't be counted.
-    fn take_first(&mut self) -> Result<u8, Error>
-        requires { 0 < length self.old.reading.received }
-        ensures ok { IfOk result (λ b. Takes self.old.reading self.new.reading (b ∷ [])
-            × (slice_get self.old.reading.received 0 ≡ Some b)) }
-        ensures err { OnErr result (self.new ≡ self.old) }
-        ensures why { IfErr result (λ e. PassesCount true 1 self.old.reading e) }
-    {
-        if self.taken == usize::MAX {
-            return Err(Error::Io(ErrorKind::Other));
         }
         let b = self.buffer.unread()[0];
         self.consume(1);
-        Ok(b)
+        Some(b)
     }
 
     /// Asks the source once for what `n` unread bytes lack: whether it gave some.
@@ -335,6 +322,59 @@ impl<S: Source> IoReader<S> {
         }
     }
 
+    /// The next byte, where none is received that can be counted.
+    fn next_not_received(&mut self) -> Result<Option<u8>, Error>
+        requires { (self.old.reading.received ≡ []) ⊎ (2 ^ 64 ≤ self.old.reading.taken + 1) }
+        ensures ok { IfOk result (λ o. MatchOption o
+            (Stays self.old.reading self.new.reading × Ended self.old.reading)
+            (λ b. Takes self.old.reading self.new.reading (b ∷ []))) }
+        ensures err { OnErr result (Stays self.old.reading self.new.reading) }
+        ensures why { IfErr result (λ e. Fails true true self.old.reading self.new.reading e
+            ⊎ PassesCount true 1 self.old.reading e) }
+    {
+        if self.bytes_consumed() != usize::MAX {
+            return self.next_of_source();
+        }
+        match self.fill(1) {
+            Ok(true) => Err(self.uncounted_byte()),
+            Ok(false) => Ok(None),
+            Err(e) => Err(e),
+        }
+    }
+
+    /// Fills `block`, where fewer bytes are received or can be counted.
+    fn read_not_received(&mut self, block: &mut [u8]) -> Result<(), Error>
+        ensures len { length block.new ≡ length block.old }
+        ensures ok { OnOk result (Takes self.old.reading self.new.reading block.new) }
+        ensures err { OnErr result (Stays self.old.reading self.new.reading
+            × (block.new ≡ block.old)) }
+        ensures why { IfErr result (λ e. NotTaken true true (length block.old)
+            self.old.reading self.new.reading e) }
+    {
+        match self.read_at_once(block) {
+            Ok(true) => Ok(()),
+            Ok(false) => self.read_buffered(block),
+            Err(e) => Err(e),
+        }
+    }
+
+    /// Fills `block` with bytes that were received, and consumes them, where all of them were and
+    /// can be counted; else nothing changes.
+    #[inline(always)]
+    fn take_received(&mut self, block: &mut [u8]) -> bool
+        ensures len { length block.new ≡ length block.old }
+        ensures taken { IsTrue result → Takes self.old.reading self.new.reading block.new }
+        ensures else_kept { result ≡ false → self.new ≡ self.old }
+        ensures else_as_it_was { result ≡ false → block.new ≡ block.old }
+    {
+        let n = block.len();
+        if self.received() < n || usize::MAX - self.bytes_consumed() < n {
+            return false;
+        }
+        self.take_into(block);
+        true
+    }
+
     /// Consumes some of the next bytes, `n` at most, and says how many.
     fn pass(&mut self, n: usize) -> Result<usize, Error>
         requires some { 0 < n }
@@ -382,6 +422,17 @@ impl<S: Source> IoReader<S> {
         }
     }
 
+    /// Why a received byte that can't be counted isn't consumed.
+    #[cold]
+    fn uncounted_byte(&self) -> Error
+        requires received { 0 < length self.now.reading.received }
+        requires uncounted { 2 ^ 64 ≤ self.now.reading.taken + 1 }
+        ensures { PassesCount true 1 self.now.reading result }
+    {
+        let _received = self.buffer.len();
+        Error::Io(ErrorKind::Other)
+    }
+
     /// Why `n` bytes that can't be counted aren't passed over. Whether they are there is known of
     /// received ones alone, and for more there is no room.
     #[cold]
@@ -427,26 +478,20 @@ impl<S: Source> Read for IoReader<S> {
         self.buffer.len()
     }
 
+    #[inline(always)]
     fn next(&mut self) -> Result<Option<u8>, Error> {
-        if self.received() == 0 && self.bytes_consumed() != usize::MAX {
-            return self.next_of_source();
-        }
-        match self.fill(1) {
-            Ok(true) => match self.take_first() {
-                Ok(b) => Ok(Some(b)),
-                Err(e) => Err(e),
-            },
-            Ok(false) => Ok(None),
-            Err(e) => Err(e),
+        match self.pop_first() {
+            Some(b) => Ok(Some(b)),
+            None => self.next_not_received(),
         }
     }
 
+    #[inline(always)]
     fn read_exact(&mut self, buf: &mut [u8]) -> Result<(), Error> {
-        match self.read_at_once(buf) {
-            Ok(true) => Ok(()),
-            Ok(false) => self.read_buffered(buf),
-            Err(e) => Err(e),
+        if self.take_received(buf) {
+            return Ok(());
         }
+        self.read_not_received(buf)
     }
 
     fn peek_bytes(&mut self, n: usize) -> Result<Option<&[u8]>, Error> {
@@ -521,12 +566,18 @@ impl<S: Source> Read for IoReader<S> {
 
     #[inline(always)]
     fn take_at_hand(&mut self, block: &mut [u8]) -> bool {
-        let n = block.len();
-        if self.received() < n || usize::MAX - self.bytes_consumed() < n {
-            return false;
+        self.take_received(block)
+    }
+
+    #[inline(always)]
+    fn receive_ahead(&mut self, n: usize) -> Result<(), Error> {
+        if n == 0 || self.received() > 0 {
+            return Ok(());
         }
-        self.take_into(block);
-        true
+        match self.more(n) {
+            Ok(_) => Ok(()),
+            Err(e) => Err(e),
+        }
     }
 
     fn skip(&mut self, n: usize) -> Result<(), Error> {

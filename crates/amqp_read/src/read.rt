@@ -182,6 +182,14 @@ pub trait Read: sealed::Sealed + Drop {
         ensures taken { IsTrue result → Takes (reading self.old) (reading self.new) block.new }
         ensures else_kept { result ≡ false → reading self.new ≡ reading self.old };
 
+    /// Receives some of the next `n` bytes where none is at hand, so that later calls need not ask
+    /// for each of them alone. All of them stay. Over a slice there is nothing to do.
+    #[doc(hidden)]
+    fn receive_ahead(&mut self, n: usize) -> Result<(), Error>
+        ensures looked { Looked n (reading self.old) (reading self.new) }
+        ensures why { IfErr result (λ e.
+            Fails buffers buffers (reading self.old) (reading self.new) e) };
+
     /// Consumes the next `n` bytes, and keeps none of them; `Io(UnexpectedEof)` where fewer are to
     /// come. A refusal may have consumed some of them.
     #[doc(hidden)]

@@ -220,6 +220,12 @@ impl<'s> Read for SliceReader<'s> {
         }
     }
 
+    #[inline(always)]
+    fn receive_ahead(&mut self, n: usize) -> Result<(), Error> {
+        let _ = n;
+        Ok(())
+    }
+
     // A refusal changes nothing.
     #[inline(always)]
     fn skip(&mut self, n: usize) -> Result<(), Error>
