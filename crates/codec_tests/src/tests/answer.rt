@@ -66,11 +66,3 @@ pub(crate) fn is<T: Copy + PartialEq>(outcome: Result<T, Error>, want: Result<T,
         },
     }
 }
-
-/// The call gave the bytes; or where none are wanted, it misses bytes.
-pub(crate) fn gave_bytes(outcome: Result<Vec<u8>, Error>, want: Option<&[u8]>) -> bool {
-    match outcome {
-        Ok(bytes) => want == Some(bytes.as_slice()),
-        Err(e) => want.is_none() && name_of(&e) == UNEXPECTED_EOF,
-    }
-}

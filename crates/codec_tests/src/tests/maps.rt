@@ -5,7 +5,6 @@ use super::answer::{Answer, UNEXPECTED_EOF, gave, told};
 use super::asked::{Asked, taken};
 use super::bytes::{is_made_as, is_made_text, is_written_as, refuses};
 use super::made::{map, map_of, string};
-use super::ordered_map::{are_pairs, is_at};
 use amqp_base::Error;
 use amqp_de::{Deserialize, Deserializer};
 use amqp_read::Read;
@@ -140,6 +139,25 @@ fn bytes_that_are_no_map(rt: HostRuntime) {
     for (bytes, name) in rows {
         assert!(rt; told(ordered(alloc, bytes)) == *name);
     }
+}
+
+/// The pair stands there.
+fn is_at(pairs: &[(u32, u32)], place: usize, key: u32, value: u32) -> bool {
+    match pairs.get(place) {
+        Some(pair) => pair.0 == key && pair.1 == value,
+        None => false,
+    }
+}
+
+/// The map gives these pairs in order.
+fn are_pairs(map: &OrderedMap<u32, u32>, want: &[(u32, u32)]) -> bool {
+    let mut place = 0usize;
+    let mut is_so = true;
+    for (key, value) in map.iter() {
+        is_so = is_at(want, place, *key, *value) && is_so;
+        place = place.saturating_add(1);
+    }
+    is_so && place == want.len()
 }
 
 /// An `OrderedMap` that is read from the bytes gives these pairs in order.

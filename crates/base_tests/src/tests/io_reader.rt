@@ -1,6 +1,6 @@
 //! The reader over a source that gives its bytes piece by piece.
 
-use super::answer::{Answer, UNEXPECTED_EOF, is, told};
+use super::answer::{Answer, UNEXPECTED_EOF, gave_bytes, is, told};
 use amqp_base::{Counted, Error};
 use amqp_read::{IoReader, Read, SliceReader, read_const_bytes};
 use std::alloc::Global;
@@ -63,24 +63,39 @@ fn are_twenty_one<R: Read>(reader: &mut R) -> bool {
     is_shown && is_first && is_second && is_short && is_there
 }
 
-/// A read of twelve bytes whose `k`th request fails is refused and loses nothing; then it succeeds.
+/// The bytes from 0 to 11 are read into a block.
+fn is_filled<R: Read>(reader: &mut R) -> bool {
+    let mut block = [9u8; 12];
+    let is_answered = told(reader.read_exact(&mut block)) == Answer::Taken;
+    is_answered && block == [0, 1, 2, 3, 4, 5, 6, 7, 8, 9, 10, 11]
+}
+
+/// A read of twelve bytes is refused and loses nothing: so many are at hand.
+fn is_refused<R: Read>(reader: &mut R, at_hand: usize) -> bool {
+    let mut block = [9u8; 12];
+    let answer = told(reader.read_exact(&mut block));
+    let is_kept = reader.bytes_consumed() == 0 && reader.at_hand() == at_hand;
+    answer == Answer::Io(ErrorKind::Interrupted) && block == [9u8; 12] && is_kept
+}
+
+/// Behind it five bytes are passed over, and the others are still to come.
+fn goes_on<R: Read>(reader: &mut R, alloc: Global) -> bool {
+    let passed = reader.skip(5).is_ok();
+    let next = is(reader.next(), Ok(Some(17)));
+    let text = gave_bytes(
+        reader.forward_read_bytes_with_hint(alloc, 3),
+        Some(&[18, 19, 20]),
+    );
+    let behind = is(reader.peek_at(2), Ok(Some(23)));
+    passed && next && text && behind
+}
+
+/// A read whose `k`th request fails is refused and loses nothing; then it succeeds.
 fn fails_at(alloc: Global, k: usize) -> bool {
     let mut reader = over(alloc, 40, 1, k);
-    let mut block = [9u8; 12];
-    let refused = matches!(
-        reader.read_exact(&mut block),
-        Err(Error::Io(ErrorKind::Interrupted))
-    );
-    let kept = block == [9u8; 12]
-        && reader.bytes_consumed() == 0
-        && reader.at_hand() == k.saturating_sub(1);
-    let answered = reader.read_exact(&mut block).is_ok();
-    let filled = block == [0, 1, 2, 3, 4, 5, 6, 7, 8, 9, 10, 11];
-    let passed = reader.skip(5).is_ok();
-    let next = matches!(reader.next(), Ok(Some(17)));
-    let text = matches!(reader.forward_read_bytes_with_hint(alloc, 3), Ok(_));
-    let behind = matches!(reader.peek_at(2), Ok(Some(23)));
-    refused && kept && answered && filled && passed && next && text && behind
+    let is_so = is_refused(&mut reader, k.saturating_sub(1));
+    let is_read = is_filled(&mut reader);
+    goes_on(&mut reader, alloc) && is_so && is_read
 }
 
 /// Three bytes, one a read: looks, a byte of the buffer, and the end.
@@ -109,12 +124,11 @@ fn are_same(alloc: Global) -> bool {
     let bytes: [u8; 21] = [
         0, 1, 2, 3, 4, 5, 6, 7, 8, 9, 10, 11, 12, 13, 14, 15, 16, 17, 18, 19, 20,
     ];
-    let a = are_twenty_one(&mut SliceReader::new(&bytes));
-    let b = are_twenty_one(&mut over(alloc, 21, 1, 0));
-    let c = are_twenty_one(&mut over(alloc, 21, 2, 0));
-    let d = are_twenty_one(&mut over(alloc, 21, 7, 0));
-    let e = are_twenty_one(&mut over(alloc, 21, 1000, 0));
-    a && b && c && d && e
+    let mut are_so = are_twenty_one(&mut SliceReader::new(&bytes));
+    for most in [1, 2, 7, 1000] {
+        are_so = are_twenty_one(&mut over(alloc, 21, most, 0)) && are_so;
+    }
+    are_so
 }
 
 #[test]

@@ -1,7 +1,6 @@
 //! The primitive types' own calls.
 
 use super::answer::{Answer, gave, told};
-use super::made::string;
 use amqp_base::Error;
 use amqp_types::{
     Binary, BinaryRef, Dec32, Dec64, Dec128, Double, Float, Symbol, SymbolRef, Timestamp, Uuid,
@@ -174,6 +173,11 @@ fn is_longer(alloc: Global, text: &str, letter: char, longer: &str) -> bool {
         Ok(symbol) => grows(symbol, letter, longer),
         Err(_) => false,
     }
+}
+
+/// A string of this text.
+fn string(alloc: Global, text: &str) -> Option<String> {
+    String::from_str(alloc, text).ok()
 }
 
 /// A symbol of the first text is before one of the second.

@@ -1,10 +1,12 @@
-//! The reader over a slice.
+//! The reader over a slice: each call, looks further ahead than the next byte, and bytes that are
+//! passed over.
 
 use super::answer::{Answer, UNEXPECTED_EOF, gave_bytes, is, told};
 use amqp_read::{Read, SliceReader, read_const_bytes};
 use std::alloc::Global;
 
-/// A call, and what it answers: a byte or so many of them, or none where fewer are to come.
+/// A call, and what it answers: a byte or so many of them, or none where fewer are to come. A skip
+/// passes over so many bytes or is refused.
 #[derive(Clone, Copy)]
 enum Call {
     Peek(Option<u8>),
@@ -14,9 +16,14 @@ enum Call {
     ReadBytes(usize, Option<&'static [u8]>),
     ReadNothing,
     ReadTwo(Option<[u8; 2]>),
+    At(usize, Option<u8>),
+    Copied(usize, usize, Option<&'static [u8]>),
+    Skip(usize, Answer),
 }
 
-use Call::{GetByteSlice, Next, Peek, PeekBytes, ReadBytes, ReadNothing, ReadTwo};
+use Call::{
+    At, Copied, GetByteSlice, Next, Peek, PeekBytes, ReadBytes, ReadNothing, ReadTwo, Skip,
+};
 
 /// A buffer of two bytes is filled so, or refused and left.
 fn reads_two<R: Read>(reader: &mut R, want: Option<[u8; 2]>) -> bool {
@@ -25,6 +32,16 @@ fn reads_two<R: Read>(reader: &mut R, want: Option<[u8; 2]>) -> bool {
     match want {
         Some(want) => answer == Answer::Taken && buf == want,
         None => answer == UNEXPECTED_EOF && buf == [1, 2],
+    }
+}
+
+/// The call further ahead answers so.
+fn is_ahead<R: Read>(reader: &mut R, alloc: Global, call: Call) -> bool {
+    match call {
+        At(i, byte) => is(reader.peek_at(i), Ok(byte)),
+        Copied(from, n, bytes) => gave_bytes(reader.peek_copied(alloc, from, n), bytes),
+        Skip(n, answer) => told(reader.skip(n)) == answer,
+        _ => false,
     }
 }
 
@@ -37,7 +54,7 @@ fn is_answered<R: Read>(reader: &mut R, alloc: Global, call: Call) -> bool {
         ReadBytes(n, bytes) => gave_bytes(reader.read_bytes(alloc, n), bytes),
         ReadNothing => reader.read_exact(&mut []).is_ok(),
         ReadTwo(bytes) => reads_two(reader, bytes),
-        GetByteSlice(_, _) => false,
+        _ => is_ahead(reader, alloc, call),
     }
 }
 
@@ -120,6 +137,47 @@ const INTO_A_VECTOR: &[(Call, usize)] = &[
     (ReadBytes(1, None), 3),
 ];
 
+/// A byte further ahead stays.
+const AHEAD: &[(Call, usize)] = &[
+    (At(0, Some(0xde)), 0),
+    (At(2, Some(0xbe)), 0),
+    (At(3, None), 0),
+    (At(usize::MAX, None), 0),
+    (Skip(1, Answer::Taken), 1),
+    (At(0, Some(0xad)), 1),
+    (At(1, Some(0xbe)), 1),
+    (At(2, None), 1),
+];
+
+/// A copy of bytes further ahead is whole or refused.
+const COPIES: &[(Call, usize)] = &[
+    (Copied(0, 3, Some(b"\xde\xad\xbe")), 0),
+    (Copied(1, 1, Some(b"\xad")), 0),
+    (Copied(3, 0, Some(b"")), 0),
+    (Copied(4, 0, None), 0),
+    (Copied(1, 3, None), 0),
+    (Copied(1, usize::MAX, None), 0),
+    (Copied(usize::MAX, 1, None), 0),
+    (Skip(2, Answer::Taken), 2),
+    (Copied(0, 1, Some(b"\xbe")), 2),
+    (Copied(1, 1, None), 2),
+];
+
+/// A skip passes over all bytes or is refused.
+const SKIPS: &[(Call, usize)] = &[
+    (Skip(0, Answer::Taken), 0),
+    (Skip(4, UNEXPECTED_EOF), 0),
+    (Skip(usize::MAX, UNEXPECTED_EOF), 0),
+    (Skip(2, Answer::Taken), 2),
+    (Skip(2, UNEXPECTED_EOF), 2),
+    (At(0, Some(0xbe)), 2),
+    (Skip(1, Answer::Taken), 3),
+    (At(0, None), 3),
+    (Copied(0, 0, Some(b"")), 3),
+    (Skip(0, Answer::Taken), 3),
+    (Skip(1, UNEXPECTED_EOF), 3),
+];
+
 /// No bytes are to come.
 const NONE_TO_COME: &[(Call, usize)] = &[
     (Peek(None), 0),
@@ -136,6 +194,9 @@ fn a_call_takes_all_that_it_asks_for_or_nothing(rt: HostRuntime) {
     assert!(rt; goes(alloc, BYTES, INTO_A_BUFFER));
     assert!(rt; goes(alloc, BYTES, MANY_PEEKED));
     assert!(rt; goes(alloc, BYTES, INTO_A_VECTOR));
+    assert!(rt; goes(alloc, BYTES, AHEAD));
+    assert!(rt; goes(alloc, BYTES, COPIES));
+    assert!(rt; goes(alloc, BYTES, SKIPS));
     assert!(rt; goes(alloc, b"", NONE_TO_COME));
 }
 
