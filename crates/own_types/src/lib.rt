@@ -2,6 +2,7 @@
 #![tactic(auto)]
 
 pub mod alike;
+mod caption;
 mod colour;
 mod data;
 mod delivery;
@@ -22,6 +23,7 @@ mod shipment;
 mod station;
 mod switch;
 
+pub use caption::Caption;
 pub use colour::Colour;
 pub use data::Data;
 pub use delivery::Delivery;

@@ -1,10 +1,11 @@
 //! Items that nobody asks for: any of them is read whole, and just its bytes are consumed.
 
-use super::answer::{Answer, UNEXPECTED_EOF, name_of};
+use super::answer::{Answer, UNEXPECTED_EOF, is, name_of, told};
 use super::pieces::cut;
+use own_types::Caption;
 use serde_amqp::{
-    Counted, Deserializer, Error, Ignored, MAX_NESTED, MapAccess, Read, SliceReader, from_reader,
-    from_slice, from_slice_with_rest,
+    Counted, Deserializer, Error, Ignored, ListAccess, MAX_NESTED, MapAccess, Read, SliceReader,
+    from_reader, from_slice, from_slice_with_rest,
 };
 use std::alloc::Global;
 
@@ -102,7 +103,7 @@ const COMPOUNDS: [Row; 15] = [
     (b"\xd0\x00\x00\x00\x06\x00\x00\x00\x02\x40\x41\xff", Ok(11)),
     // {1: [2], "a": {}}
     (
-        b"\xc1\x0d\x04\x52\x01\xc0\x03\x01\x52\x02\xa1\x01\x61\xc1\x01\x00\xff",
+        b"\xc1\x0e\x04\x52\x01\xc0\x03\x01\x52\x02\xa1\x01\x61\xc1\x01\x00\xff",
         Ok(16),
     ),
     (b"\xd1\x00\x00\x00\x06\x00\x00\x00\x02\x40\x41\xff", Ok(11)),
@@ -192,8 +193,8 @@ fn nest(alloc: Global, layer: &[u8], count: u32, last: &[u8]) -> Option<Vec<u8>>
 /// Out of a slice, and out of a source that gives two bytes a read.
 fn is_answered(alloc: Global, bytes: &[u8], want: Answer) -> bool {
     let mut source = Counted::new(cut(bytes, 2));
-    super::answer::told(from_slice::<Ignored>(alloc, bytes)) == want
-        && super::answer::told(from_reader::<_, Ignored>(alloc, &mut source)) == want
+    told(from_slice::<Ignored>(alloc, bytes)) == want
+        && told(from_reader::<_, Ignored>(alloc, &mut source)) == want
 }
 
 /// So many layers are passed over, and one more is refused.
@@ -229,39 +230,53 @@ fn one_layer_more_is_refused(rt: HostRuntime) {
     assert!(rt; is_past_the_limit(alloc, b"\xc0\xff\x01", 100_000, b""));
 }
 
+/// The value of a key: that of 2 is read, any other passed over.
+fn value<R: Read>(map: &mut MapAccess<'_, R>, alloc: Global, key: u32) -> Option<bool> {
+    if key == 2 {
+        map.next_value::<bool>(alloc).ok()
+    } else {
+        let _ = told(map.next_value::<Ignored>(alloc));
+        None
+    }
+}
+
 /// The value under the key 2, whatever else the map holds.
-fn value_of_two<R: Read>(map: &mut MapAccess<'_, R>, alloc: Global) -> Result<Option<bool>, Error> {
+fn value_of_two<R: Read>(map: &mut MapAccess<'_, R>, alloc: Global) -> Option<bool> {
     let mut found = None;
     for _ in 0..16 {
-        match map.next_key::<u32>(alloc)? {
-            Some(2) => found = Some(map.next_value::<bool>(alloc)?),
-            Some(_) => {
-                map.next_value::<Ignored>(alloc)?;
+        if let Ok(Some(key)) = map.next_key::<u32>(alloc) {
+            if let Some(truth) = value(map, alloc, key) {
+                found = Some(truth);
             }
-            None => {}
         }
     }
-    Ok(found)
+    found
 }
 
 /// {0: [1, [null]], 1: an array of arrays, 2: true, 3: a described value, 4: {"a": 1}, 5: "b"}
-const OF_ALL_KINDS: &[u8] = b"\xc1\x37\x0c\x43\xc0\x06\x02\x54\x01\xc0\x02\x01\x40\
+const OF_ALL_KINDS: &[u8] = b"\xc1\x33\x0c\x43\xc0\x07\x02\x54\x01\xc0\x02\x01\x40\
 \x52\x01\xe0\x0a\x02\xe0\x03\x01\x50\x07\x03\x01\x50\x08\
 \x52\x02\x41\x52\x03\x00\x53\x24\xc0\x01\x00\x52\x04\xc1\x06\x02\xa1\x01\x61\x54\x01\
 \x52\x05\xa1\x01\x62\x42";
 
-/// The value is found, the map ends, and what stands behind it is read.
+/// The value is found, and the map ends.
+fn holds_two<R: Read>(map: MapAccess<'_, R>, alloc: Global) -> bool {
+    let mut map = map;
+    value_of_two(&mut map, alloc) == Some(true) && told(map.end()) == Answer::Taken
+}
+
+/// A map that holds it is read.
+fn reads_two<R: Read>(de: &mut Deserializer<R>, alloc: Global) -> bool {
+    match de.deserialize_map() {
+        Ok(map) => holds_two(map, alloc),
+        Err(_) => false,
+    }
+}
+
+/// It is, and what stands behind it.
 fn finds_two(alloc: Global) -> bool {
     let mut de = Deserializer::new(SliceReader::new(OF_ALL_KINDS));
-    let found = match de.deserialize_map() {
-        Ok(map) => {
-            let mut map = map;
-            let found = value_of_two(&mut map, alloc);
-            matches!(&found, Ok(Some(true))) && map.end().is_ok()
-        }
-        Err(_) => false,
-    };
-    found && matches!(&de.deserialize_bool(), Ok(false))
+    reads_two(&mut de, alloc) && is(de.deserialize_bool(), Ok(false))
 }
 
 #[test]
@@ -272,27 +287,64 @@ fn values_of_unknown_keys_are_passed_over(rt: HostRuntime) {
 /// [true, {}, [null], an array] behind which stands false
 const WITH_MORE_FIELDS: &[u8] = b"\xc0\x0d\x04\x41\xc1\x01\x00\xc0\x02\x01\x40\xe0\x02\x01\x40\x42";
 
-/// The first field is read, and those behind it are passed over.
+/// How many fields are passed over.
+fn more_fields<R: Read>(list: &mut ListAccess<'_, R>, alloc: Global) -> u32 {
+    let mut more = 0;
+    for _ in 0..8 {
+        if let Ok(Some(Ignored)) = list.next_element(alloc) {
+            more = 1 + more % 8;
+        }
+    }
+    more
+}
+
+/// The first field is read, those behind it are passed over, and the list ends.
+fn holds_true<R: Read>(list: ListAccess<'_, R>, alloc: Global) -> bool {
+    let mut list = list;
+    let first = is(list.next_element::<bool>(alloc), Ok(Some(true)));
+    more_fields(&mut list, alloc) == 3 && first && told(list.end()) == Answer::Taken
+}
+
+/// A list that holds them is read.
+fn reads_true<R: Read>(de: &mut Deserializer<R>, alloc: Global) -> bool {
+    match de.deserialize_seq(alloc) {
+        Ok(seq) => holds_true(seq.into_elements(), alloc),
+        Err(_) => false,
+    }
+}
+
+/// It is, and what stands behind it.
 fn first_field(alloc: Global) -> bool {
     let mut de = Deserializer::new(SliceReader::new(WITH_MORE_FIELDS));
-    let found = match de.deserialize_seq(alloc) {
-        Ok(seq) => {
-            let mut list = seq.into_elements();
-            let first = matches!(&list.next_element::<bool>(alloc), Ok(Some(true)));
-            let mut more = 0;
-            for _ in 0..8 {
-                if let Ok(Some(Ignored)) = list.next_element(alloc) {
-                    more = 1 + more % 8;
-                }
-            }
-            first && more == 3 && list.end().is_ok()
-        }
-        Err(_) => false,
-    };
-    found && matches!(&de.deserialize_bool(), Ok(false))
+    reads_true(&mut de, alloc) && is(de.deserialize_bool(), Ok(false))
 }
 
 #[test]
 fn fields_behind_those_that_are_known_are_passed_over(rt: HostRuntime) {
     assert!(rt; first_field(rt.alloc()));
+}
+
+/// A list of its fields, and a map from their names in another order: the title is "a", the picture
+/// an array of two arrays, and of its two tags the first is null and the second a described list.
+const CAPTIONS: [&[u8]; 2] = [
+    b"\xc0\x20\x03\xa1\x01\x61\xe0\x0a\x02\xe0\x03\x01\x50\x07\x03\x01\x50\x08\
+\xc1\x0e\x04\xa3\x01\x70\x40\xa3\x01\x71\x00\x53\x24\xc0\x01\x00",
+    b"\xc1\x36\x06\xa1\x04tags\xc1\x0e\x04\xa3\x01\x70\x40\xa3\x01\x71\x00\x53\x24\xc0\x01\x00\
+\xa1\x05title\xa1\x01\x61\xa1\x07picture\xe0\x0a\x02\xe0\x03\x01\x50\x07\x03\x01\x50\x08",
+];
+
+/// The title and the tags are there.
+fn is_caption(outcome: Result<Caption, Error>) -> bool {
+    match outcome {
+        Ok(caption) => caption.title.as_str() == "a" && caption.tags.len() == 2,
+        Err(_) => false,
+    }
+}
+
+#[test]
+fn a_struct_passes_over_the_fields_that_it_has_no_use_for(rt: HostRuntime) {
+    let alloc = rt.alloc();
+    for bytes in &CAPTIONS {
+        assert!(rt; is_caption(from_slice(alloc, bytes)));
+    }
 }
