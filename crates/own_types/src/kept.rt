@@ -4,7 +4,7 @@ ghost use Rattle.serde_amqp.specs.Headline.{KeptAs};
 
 use crate::{
     Celsius, Colour, Data, Delivery, Enumeration, Foo, Measurement, Note, Offer, Open, Pair,
-    Priority, Reply, SaslInit, Sensor, Shipment, Station, Switch, Tags,
+    Priority, Reply, SaslInit, Section, Sensor, Shipment, Station, Switch, Tags,
 };
 use serde_amqp::{Error, Typed, from_slice, laws};
 use std::alloc::Global;
@@ -143,6 +143,14 @@ pub fn sasl_init_is_kept<'s>(alloc: Global, bytes: &'s [u8]) -> Result<SaslInit<
     ensures { KeptAs ⟦<SaslInit<'s> as Typed>⟧.meaning bytes.now result }
 {
     laws::kept::<SaslInit<'s>>();
+    from_slice(alloc, bytes)
+}
+
+/// What `to_vec` wrote for a section is read as the same one, or memory was wanting.
+pub fn section_is_kept(alloc: Global, bytes: &[u8]) -> Result<Section, Error>
+    ensures { KeptAs ⟦<Section as Typed>⟧.meaning bytes.now result }
+{
+    laws::kept::<Section>();
     from_slice(alloc, bytes)
 }
 

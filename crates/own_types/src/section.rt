@@ -1,0 +1,78 @@
+//! The sections of a message that are known here (part 3, section 3.2): an enum that is told by
+//! descriptor.
+
+ghost use Rattle.std.specs.Prelude.{refl};
+ghost use Rattle.amqp_base.specs.Item.{code};
+ghost use Rattle.amqp_base.specs.declared.one_of.OneOf.TheVariants.{This, Other};
+ghost use Rattle.amqp_de.specs.DescribedEnums.{described_enum_of, behind, no_variant, ◌or◌};
+
+use crate::{Data, Header, Shipment};
+use serde_amqp::de::{FromVariant, NoVariant, OneOf};
+use serde_amqp::{
+    Descriptor, Deserialize, Deserializer, Error, NeverNull, Read, RoundTrip, Serialize,
+    Serializer, Sink, Typed, read_described_enum, variant_of,
+};
+use std::alloc::Global;
+
+/// A section of a message, each behind its own descriptor.
+#[derive(Drop)]
+pub enum Section {
+    /// How the message is to be delivered, behind 0x70.
+    Header(Header),
+    /// What it says of a shipment, behind 0x74.
+    Properties(Shipment),
+    /// The bytes that it carries, behind 0x75.
+    Data(Data),
+}
+
+impl Typed for Section {
+    ghost meaning = { described_enum_of (
+        behind (code 0x70) ⟦<Header as Typed>⟧.meaning (λ _. refl) or
+        behind (code 0x74) ⟦<Shipment as Typed>⟧.meaning (λ _. refl) or
+        behind (code 0x75) ⟦<Data as Typed>⟧.meaning (λ _. refl) or
+        no_variant) ⟦<Section as FromVariant>⟧.which };
+}
+
+impl FromVariant for Section {
+    ghost use Rattle.own_types.specs.declared.section.Section.TheVariants as variant;
+
+    type Found = OneOf<Header, OneOf<Shipment, OneOf<Data, NoVariant>>>;
+
+    ghost which = { elim [
+      | variant.Header v ↦ This v
+      | variant.Properties v ↦ Other (This v)
+      | variant.Data v ↦ Other (Other (This v))
+    ] };
+
+    fn from_variant(found: Self::Found) -> Section {
+        variant_of!(found, Section { Header(value), Properties(value), Data(value) })
+    }
+}
+
+impl RoundTrip for Section {
+    ghost reads_back = { refl };
+}
+
+impl NeverNull for Section {
+    ghost never_null = { refl };
+}
+
+impl Serialize for Section {
+    fn serialize<W: Sink>(&self, alloc: Global, ser: &mut Serializer<W>) -> Result<(), Error> {
+        match self {
+            Section::Header(header) => header.serialize(alloc, ser),
+            Section::Properties(properties) => properties.serialize(alloc, ser),
+            Section::Data(data) => data.serialize(alloc, ser),
+        }
+    }
+}
+
+impl<R: Read> Deserialize<R> for Section {
+    fn deserialize(alloc: Global, de: &mut Deserializer<R>) -> Result<Section, Error> {
+        read_described_enum!(de, alloc, {
+            &Descriptor::Code(0x70) => Header,
+            &Descriptor::Code(0x74) => Shipment,
+            &Descriptor::Code(0x75) => Data,
+        })
+    }
+}
