@@ -6,6 +6,7 @@ pub mod TextRead
 pub mod Opening
 pub mod PartsRead
 pub mod Sequence
+pub mod ReceivedAhead
 pub mod ElementsOpened
 pub mod Naming
 pub mod NamedParts

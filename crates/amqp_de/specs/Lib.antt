@@ -7,6 +7,7 @@ pub mod Identifies
 pub mod VariantsRead
 pub mod VariantsHeld
 pub mod Access
+pub mod Ahead
 pub mod Seq
 pub mod Many
 pub mod ReadParts

@@ -222,13 +222,19 @@ impl<R: Read, T: Deserialize<R>> Deserialize<R> for Vec<T> {
         let announced = access.inner.left;
         let room = access.de.room(announced);
         let mut items = Vec::with_capacity(alloc, room)?;
-        match access.read_many(&mut items) {
-            Ok(()) => {}
-            Err(e) => return Err(e),
-        }
-        'items: while let Some(item) = match access.next_element(alloc) {
-            Ok(found) => found,
-            Err(e) => return Err(e),
+        'items: while let Some(item) = {
+            match access.receive_ahead() {
+                Ok(()) => {}
+                Err(e) => return Err(e),
+            }
+            match access.read_many(&mut items) {
+                Ok(()) => {}
+                Err(e) => return Err(e),
+            }
+            match access.next_element(alloc) {
+                Ok(found) => found,
+                Err(e) => return Err(e),
+            }
         } {
             items.push(item)?;
         }

@@ -1,6 +1,7 @@
 //! Reading values from the wire.
 #![tactic(auto, unfolding(crate::specs::ReadParts::open_list, crate::specs::ReadParts::open_seq))]
 
+mod ahead;
 mod any;
 mod array;
 mod blocks;

@@ -574,7 +574,8 @@ impl<S: Source> Read for IoReader<S> {
         if n == 0 || self.received() > 0 {
             return Ok(());
         }
-        match self.more(n) {
+        let asked = self.more(n);
+        match asked {
             Ok(_) => Ok(()),
             Err(e) => Err(e),
         }

@@ -1,6 +1,7 @@
-use Rattle.std.proofs.Common.{rules, ◌||◌, true, refl, sym, subst, ◌∙◌}
+use Rattle.std.proofs.Common.{rules, ◌||◌, true, refl, sym, subst, ◌∙◌, arith}
 use Rattle.std.proofs.lemmas.Result.{err_from_is_err_and}
 use Rattle.amqp_de.specs.Access.{Listing}
+use Rattle.amqp_de.specs.Decoding.{as_ended}
 use Rattle.amqp_de.specs.Seq.{listing}
 use Rattle.amqp_de.specs.ReadParts.{open_list}
 use Rattle.amqp_de.proofs.Sequence.{Sofar, sofar_start, sofar_step, part_missed, push_missed, seq_found}
@@ -9,6 +10,7 @@ use Rattle.amqp_de.proofs.Naming.{named_on}
 use Rattle.amqp_de.proofs.NamedParts.{no_room_as, no_end}
 use Rattle.amqp_de.proofs.NamedElements.{seq_unopened, reach_start, reach_step, reach_named}
 use Rattle.amqp_de.proofs.ReadParts.{missed_on, missed_at, missed_dropped}
+use Rattle.amqp_de.proofs.ReceivedAhead.{ahead_start, ahead_more, ahead_part, ahead_many, ahead_refused, ahead_named, ahead_failed, ahead_failed_named, ahead_no_room, ahead_left, many_left, sofar_settled, ended_on}
 use Rattle.amqp_de.proofs.deserialize.VecDeserialize.deserialize.Goals as goal
 
 pub returns-in_err-access-clause-err : goal.returns-in_err-access-clause-err
@@ -17,67 +19,122 @@ returns-in_err-access-clause-err g c =
     let d = rw c.in_err-access.was at c.deserialize_elements.follows.holds-at-none in
     rw (p.1, p.2) (d.missed g.T.Typed.meaning.takes)
 
--- no memory was there for many at once
-pub returns-in-Err-clause-err : goal.returns-in-Err-clause-err
-unfolding open_list
-returns-in-Err-clause-err g c =
-    let m = g.T.Typed.meaning in
-    let from = listing c.in_ok-access.access in
-    let opened = c.in_ok-access.ensures.opened.1.opens in
-    let r = c.in-Err.ensures.read in
-    let s = sofar_many m from from (listing c.read_many.new.self) _ r.1.0 (sofar_start m.takes m.means from c.args.de.now c.in_ok-items.items.items opened c.in_ok-items.ensures.items) r.1.1 in
-    rw r.0 (missed_at _ _ (search rules) (push_missed m.takes m.means g.R.Read.buffers c.args.de.now from (listing c.read_many.new.self) _ opened s _ refl))
-
 pub items-init : goal.items-init
 unfolding open_list
 items-init g c =
     let m = g.T.Typed.meaning in
     let from = listing c.in_ok-access.access in
-    let r = c.in-Ok.ensures.read in
-    let s = sofar_start m.takes m.means from c.args.de.now c.in_ok-items.items.items c.in_ok-access.ensures.opened.1.opens c.in_ok-items.ensures.items in
     record {
       same = refl;
       from = from;
+      now = from;
       opened = c.in_ok-access.ensures.opened;
-      sofar = rw r.2 (sofar_many m from from (listing c.read_many.new.self) _ r.0 s r.1);
-      reaches = reach_many m from from (listing c.read_many.new.self) _ r.0 s (reach_start m.takes m.refuses from) r.1;
+      ahead = ahead_start from;
+      sofar = sofar_start m.takes m.means from c.args.de.now c.in_ok-items.items.items c.in_ok-access.ensures.opened.1.opens c.in_ok-items.ensures.items;
+      reaches = reach_start m.takes m.refuses from;
     }
+
+-- the source failed meanwhile
+pub returns-in-Err-clause-err : goal.returns-in-Err-clause-err
+unfolding open_list
+returns-in-Err-clause-err g c =
+    let m = g.T.Typed.meaning in
+    let v = c.items.invariant in
+    let r = listing c.receive_ahead.new.self in
+    let n = ahead_failed {grows = true} v.now (listing c.items.access) r (λ _. refl) v.ahead v.sofar.reads.not_ended c.in-Err.ensures.ahead c.in-Err.ensures.why in
+    missed_at _ _ (search rules) (part_missed m.takes m.means g.R.Read.buffers c.args.de.now v.from v.now c.items.items.items v.opened.1.opens v.sofar true (ended_on r) _ n)
+
+-- no memory was there for many at once
+pub returns-in-Err-read_many-clause-err : goal.returns-in-Err-read_many-clause-err
+unfolding open_list
+returns-in-Err-read_many-clause-err g c =
+    let m = g.T.Typed.meaning in
+    let v = c.items.invariant in
+    let a = ahead_more v.now _ _ v.ahead c.in-Ok.ensures.ahead in
+    let r = c.in-Err-read_many.ensures.read in
+    let next = listing c.read_many.new.self in
+    let k = ahead_many m v.now _ next r.1.0 a r.1.1 in
+    let s = sofar_many m v.from v.now k.0 c.items.items.items r.1.0 v.sofar k.1 in
+    rw r.0 (missed_at _ _ (search rules) (ahead_no_room k.0 next k.2 (push_missed m.takes m.means g.R.Read.buffers c.args.de.now v.from k.0 _ v.opened.1.opens s (as_ended k.0.state) refl)))
 
 pub returns-in-Err-next_element-clause-err : goal.returns-in-Err-next_element-clause-err
 unfolding open_list
 returns-in-Err-next_element-clause-err g c =
+    let m = g.T.Typed.meaning in
     let v = c.items.invariant in
-    missed_at _ _ (search rules) (missed_dropped (part_missed g.T.Typed.meaning.takes g.T.Typed.meaning.means g.R.Read.buffers c.args.de.now v.from (listing c.items.access) c.items.items.items v.opened.1.opens v.sofar (g.T.Typed.meaning.grows || g.R.Read.buffers) (listing c.next_element.new.self) _ c.in-Err-next_element.ensures.next))
+    let a = ahead_more v.now _ _ v.ahead c.in-Ok.ensures.ahead in
+    let r = c.in-Ok-read_many.ensures.read in
+    let now = listing c.read_many.new.self in
+    let next = listing c.next_element.new.self in
+    let k = ahead_many m v.now _ now r.0 a r.1 in
+    let s = sofar_many m v.from v.now k.0 c.items.items.items r.0 v.sofar k.1 in
+    let n = ahead_refused k.0 now next k.2 s.reads.not_ended c.in-Err-next_element.ensures.next in
+    missed_at _ _ (search rules) (missed_dropped (part_missed m.takes m.means g.R.Read.buffers c.args.de.now v.from k.0 _ v.opened.1.opens s (m.grows || g.R.Read.buffers) next _ n))
+
+pub items-smaller : goal.items-smaller
+unfolding open_list
+items-smaller g c =
+    let f = rw c.in-Some.is at c.in-Ok-next_element.ensures.next in
+    let fewer = many_left g.T.Typed.meaning _ _ _ c.in-Ok-read_many.ensures.read.1 in
+    let same = ahead_left _ _ c.in-Ok.ensures.ahead in
+    let one = f.0.left in
+    omega (arith, fewer, same, one)
 
 pub items-preserved : goal.items-preserved
 unfolding open_list
 items-preserved g c =
+    let m = g.T.Typed.meaning in
     let f = rw c.in-Some.is at c.in-Ok-next_element.ensures.next in
     let v = c.items.invariant in
+    let a = ahead_more v.now _ _ v.ahead c.in-Ok.ensures.ahead in
+    let r = c.in-Ok-read_many.ensures.read in
+    let now = listing c.read_many.new.self in
+    let next = listing c.next_element.new.self in
+    let k = ahead_many m v.now _ now r.0 a r.1 in
+    let s = sofar_many m v.from v.now k.0 c.items.items.items r.0 v.sofar k.1 in
+    let p = ahead_part k.0 now next k.2 f.0 in
     record {
-      same = c.in-Ok-next_element.ensures.same_reference ∙ v.same;
+      same = c.in-Ok-next_element.ensures.same_reference ∙ (c.in-Ok-read_many.ensures.same_reference ∙ (c.in-Ok.ensures.same_reference ∙ v.same));
       from = v.from;
+      now = p.0;
       opened = v.opened;
-      sofar = rw c.in_ok-push.ensures.items (sofar_step g.T.Typed.meaning.takes g.T.Typed.meaning.means v.from _ _ _ c.in-Some.item v.sofar f.0);
-      reaches = reach_step g.T.Typed.meaning.takes g.T.Typed.meaning.refuses _ _ _ v.sofar.reads v.reaches f.0;
+      ahead = p.2;
+      sofar = rw c.in_ok-push.ensures.items (rw r.2 (sofar_step m.takes m.means v.from k.0 p.0 _ c.in-Some.item s p.1));
+      reaches = reach_step m.takes m.refuses v.from k.0 p.0 s.reads (reach_many m v.from v.now k.0 c.items.items.items r.0 v.sofar v.reaches k.1) p.1;
     }
 
 pub returns-clause-ok : goal.returns-clause-ok
 unfolding open_list
 returns-clause-ok g c =
+    let m = g.T.Typed.meaning in
     let f = rw c.in_default.is at c.in-Ok-next_element.ensures.next in
     let v = c.items.invariant in
-    let s = subst (λ (l : Listing). Sofar g.T.Typed.meaning.takes g.T.Typed.meaning.means v.from l c.items.items.items) (sym f.1) v.sofar in
-    seq_found g.T.Typed.meaning.takes g.T.Typed.meaning.means g.R.Read.buffers c.args.de.now v.from (listing c.next_element.new.self) c.items.items.items v.opened.1.opens s c.items.items.items _ refl c.in_ok-end.ensures.ends.left (search rules)
+    let a = ahead_more v.now _ _ v.ahead c.in-Ok.ensures.ahead in
+    let r = c.in-Ok-read_many.ensures.read in
+    let now = listing c.read_many.new.self in
+    let items = c.read_many.new.items.items in
+    let k = ahead_many m v.now _ now r.0 a r.1 in
+    let s : Sofar m.takes m.means v.from k.0 items = rw r.2 (sofar_many m v.from v.now k.0 c.items.items.items r.0 v.sofar k.1) in
+    let here = sofar_settled m.takes m.means v.from k.0 now items s k.2 f.0 in
+    let end = subst (λ (l : Listing). Sofar m.takes m.means v.from l items) (sym f.1) here in
+    seq_found m.takes m.means g.R.Read.buffers c.args.de.now v.from (listing c.next_element.new.self) items v.opened.1.opens end items _ refl c.in_ok-end.ensures.ends.left (search rules)
 
 -- no memory was there for an element
 pub returns-in_err-push-clause-err : goal.returns-in_err-push-clause-err
 unfolding open_list
 returns-in_err-push-clause-err g c =
+    let m = g.T.Typed.meaning in
     let f = rw c.in-Some.is at c.in-Ok-next_element.ensures.next in
     let v = c.items.invariant in
-    let s = sofar_step g.T.Typed.meaning.takes g.T.Typed.meaning.means v.from _ _ _ c.in-Some.item v.sofar f.0 in
-    missed_on _ _ _ c.from_residual-in_err-push.ensures.1 (search rules) (push_missed g.T.Typed.meaning.takes g.T.Typed.meaning.means g.R.Read.buffers _ _ (listing c.next_element.new.self) _ v.opened.1.opens s _ refl)
+    let a = ahead_more v.now _ _ v.ahead c.in-Ok.ensures.ahead in
+    let r = c.in-Ok-read_many.ensures.read in
+    let now = listing c.read_many.new.self in
+    let next = listing c.next_element.new.self in
+    let k = ahead_many m v.now _ now r.0 a r.1 in
+    let s = sofar_many m v.from v.now k.0 c.items.items.items r.0 v.sofar k.1 in
+    let p = ahead_part k.0 now next k.2 f.0 in
+    let last = sofar_step m.takes m.means v.from k.0 p.0 _ c.in-Some.item s p.1 in
+    missed_on _ _ _ c.from_residual-in_err-push.ensures.1 (search rules) (ahead_no_room p.0 next p.2 (push_missed m.takes m.means g.R.Read.buffers c.args.de.now v.from p.0 _ v.opened.1.opens last (as_ended p.0.state) refl))
 
 -- ---- refusals by name
 
@@ -89,14 +146,33 @@ returns-in_err-access-clause-named g c =
 pub returns-in-Err-clause-named : goal.returns-in-Err-clause-named
 unfolding open_list
 returns-in-Err-clause-named g c =
-    let r = c.in-Err.ensures.read in
+    let m = g.T.Typed.meaning in
+    let v = c.items.invariant in
+    let r = listing c.receive_ahead.new.self in
+    let here = listing c.items.access in
+    let n = ahead_failed {takes = m.takes} {grows = true} v.now here r (λ _. refl) v.ahead v.sofar.reads.not_ended c.in-Err.ensures.ahead c.in-Err.ensures.why in
+    reach_named m.takes m.refuses {grows = true} g.R.Read.buffers c.args.de.now _ _ v.from v.now (ended_on r) v.opened v.sofar.reads v.reaches (n.some_left v.sofar.reads.not_ended) (ahead_failed_named v.now here r (λ _. refl) v.ahead c.in-Err.ensures.why) (search rules)
+
+pub returns-in-Err-read_many-clause-named : goal.returns-in-Err-read_many-clause-named
+unfolding open_list
+returns-in-Err-read_many-clause-named g c =
+    let r = c.in-Err-read_many.ensures.read in
     rw r.0 (no_room_as _ g.R.Read.buffers _ _)
 
 pub returns-in-Err-next_element-clause-named : goal.returns-in-Err-next_element-clause-named
 unfolding open_list
 returns-in-Err-next_element-clause-named g c =
+    let m = g.T.Typed.meaning in
     let v = c.items.invariant in
-    reach_named g.T.Typed.meaning.takes g.T.Typed.meaning.refuses g.R.Read.buffers c.args.de.now _ _ _ _ _ v.opened v.sofar.reads v.reaches (c.in-Err-next_element.ensures.next.some_left v.sofar.reads.not_ended) c.in-Err-next_element.ensures.named (search rules)
+    let a = ahead_more v.now _ _ v.ahead c.in-Ok.ensures.ahead in
+    let r = c.in-Ok-read_many.ensures.read in
+    let now = listing c.read_many.new.self in
+    let next = listing c.next_element.new.self in
+    let k = ahead_many m v.now _ now r.0 a r.1 in
+    let s = sofar_many m v.from v.now k.0 c.items.items.items r.0 v.sofar k.1 in
+    let n = ahead_refused k.0 now next k.2 s.reads.not_ended c.in-Err-next_element.ensures.next in
+    let reaches = reach_many m v.from v.now k.0 c.items.items.items r.0 v.sofar v.reaches k.1 in
+    reach_named m.takes m.refuses g.R.Read.buffers c.args.de.now _ _ v.from k.0 next v.opened s.reads reaches (n.some_left s.reads.not_ended) (ahead_named k.0 now next k.2 c.in-Err-next_element.ensures.named) (search rules)
 
 pub returns-in_err-push-clause-named : goal.returns-in_err-push-clause-named
 returns-in_err-push-clause-named g c = named_on _ _ _ c.from_residual-in_err-push.ensures.1 refl (no_room_as _ g.R.Read.buffers _ _)
@@ -104,7 +180,15 @@ returns-in_err-push-clause-named g c = named_on _ _ _ c.from_residual-in_err-pus
 pub returns-in_err-end-clause-named : goal.returns-in_err-end-clause-named
 unfolding open_list
 returns-in_err-end-clause-named g c =
+    let m = g.T.Typed.meaning in
     let f = rw c.in_default.is at c.in-Ok-next_element.ensures.next in
     let v = c.items.invariant in
-    let s = subst (λ (l : Listing). Sofar g.T.Typed.meaning.takes g.T.Typed.meaning.means v.from l c.items.items.items) (sym f.1) v.sofar in
-    named_on _ _ _ c.from_residual-in_err-end.ensures.1 (search rules) (no_end _ true g.R.Read.buffers c.args.de.now _ _ _ _ v.opened.1.opens s.reads (search rules) c.in_err-end.ensures.ends)
+    let a = ahead_more v.now _ _ v.ahead c.in-Ok.ensures.ahead in
+    let r = c.in-Ok-read_many.ensures.read in
+    let now = listing c.read_many.new.self in
+    let items = c.read_many.new.items.items in
+    let k = ahead_many m v.now _ now r.0 a r.1 in
+    let s : Sofar m.takes m.means v.from k.0 items = rw r.2 (sofar_many m v.from v.now k.0 c.items.items.items r.0 v.sofar k.1) in
+    let here = sofar_settled m.takes m.means v.from k.0 now items s k.2 f.0 in
+    let end = subst (λ (l : Listing). Sofar m.takes m.means v.from l items) (sym f.1) here in
+    named_on _ _ _ c.from_residual-in_err-end.ensures.1 (search rules) (no_end _ true g.R.Read.buffers c.args.de.now _ _ _ _ v.opened.1.opens end.reads (search rules) c.in_err-end.ensures.ends)
