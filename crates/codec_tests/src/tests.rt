@@ -10,6 +10,7 @@ mod asked;
 mod bytes;
 mod calls;
 mod described;
+mod described_enums;
 mod described_fields;
 mod described_structs;
 mod deserializer;

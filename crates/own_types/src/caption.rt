@@ -29,6 +29,14 @@ impl Typed for Caption {
 
 impl<R: Read> Deserialize<R> for Caption {
     fn deserialize(alloc: Global, de: &mut Deserializer<R>) -> Result<Caption, Error> {
-        read_fields!(de, alloc, Caption { title, picture, tags })
+        read_fields!(
+            de,
+            alloc,
+            Caption {
+                title,
+                picture,
+                tags
+            }
+        )
     }
 }
