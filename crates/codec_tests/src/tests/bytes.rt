@@ -2,7 +2,7 @@
 //! name of a refusal: a test's proof then carries along neither a value that owns memory nor the
 //! contract of a call.
 
-use super::answer::{Answer, UNEXPECTED_EOF, gave, is, told};
+use super::answer::{Answer, gave, is, told};
 use super::made::{array, list};
 use super::puts::puts_value;
 use serde_amqp::{
@@ -90,18 +90,6 @@ pub(crate) fn is_front<'s, T: Deserialize<SliceReader<'s>> + PartialEq>(
     is_taken && de.into_reader().bytes_consumed() == taken && means(alloc, bytes, value)
 }
 
-/// Each value stands at the front of its bytes, and takes so many of them.
-pub(crate) fn are_fronts<'s, T>(alloc: Global, rows: &[(T, &'s [u8], usize)]) -> bool
-where
-    T: Deserialize<SliceReader<'s>> + PartialEq,
-{
-    let mut is_so = true;
-    for (value, bytes, taken) in rows {
-        is_so = is_front(alloc, bytes, value, *taken) && is_so;
-    }
-    is_so
-}
-
 /// The bytes, all of them, are read as the value.
 pub(crate) fn is_read_as<'s, T: Deserialize<SliceReader<'s>> + PartialEq>(
     alloc: Global,
@@ -118,41 +106,6 @@ pub(crate) fn is_text<'s, T: Serialize + Deserialize<SliceReader<'s>> + PartialE
     bytes: &'s [u8],
 ) -> bool {
     is_written_as(alloc, value, bytes) && is_read_as(alloc, bytes, value)
-}
-
-/// Each value is written as its bytes, which are read as the value.
-pub(crate) fn are_texts<'s, T>(alloc: Global, rows: &[(T, &'s [u8])]) -> bool
-where
-    T: Serialize + Deserialize<SliceReader<'s>> + PartialEq,
-{
-    let mut is_so = true;
-    for (value, bytes) in rows {
-        is_so = is_text(alloc, value, bytes) && is_so;
-    }
-    is_so
-}
-
-/// The bytes, all of them, are read as the value, and one byte less is too few.
-pub(crate) fn is_form<'s, T: Deserialize<SliceReader<'s>> + PartialEq>(
-    alloc: Global,
-    bytes: &'s [u8],
-    value: &T,
-) -> bool {
-    match bytes.split_last() {
-        Some((_, front)) => {
-            read::<T>(alloc, front) == UNEXPECTED_EOF && is_read_as(alloc, bytes, value)
-        }
-        None => false,
-    }
-}
-
-/// The value is written as the bytes, which are a form of it.
-pub(crate) fn is_canonical<'s, T: Serialize + Deserialize<SliceReader<'s>> + PartialEq>(
-    alloc: Global,
-    value: &T,
-    bytes: &'s [u8],
-) -> bool {
-    is_written_as(alloc, value, bytes) && is_form(alloc, bytes, value)
 }
 
 /// The value that was made is written as the bytes, which are read as the value.
@@ -175,14 +128,6 @@ where
         Some(value) => is_read_as(alloc, bytes, &value),
         None => false,
     }
-}
-
-/// The list of these elements is written as the bytes, which are read as the list.
-pub(crate) fn is_list<'s, T>(alloc: Global, elements: &[T], bytes: &'s [u8]) -> bool
-where
-    T: Copy + Serialize + Deserialize<SliceReader<'s>> + PartialEq,
-{
-    is_made_text(alloc, list(alloc, elements), bytes)
 }
 
 /// The array of these elements is written as the bytes, which are read as the array.
@@ -209,58 +154,4 @@ pub(crate) fn is_unwritten<T: Serialize + Drop>(
         }
         None => false,
     }
-}
-
-/// Each value is written as its bytes, which are a form of it.
-fn are_canonical<'s, T>(alloc: Global, rows: &[(T, &'s [u8])]) -> bool
-where
-    T: Serialize + Deserialize<SliceReader<'s>> + PartialEq,
-{
-    let mut is_so = true;
-    for (value, bytes) in rows {
-        is_so = is_canonical(alloc, value, bytes) && is_so;
-    }
-    is_so
-}
-
-/// The bytes are forms of the values.
-fn are_forms<'s, T>(alloc: Global, rows: &[(T, &'s [u8])]) -> bool
-where
-    T: Deserialize<SliceReader<'s>> + PartialEq,
-{
-    let mut is_so = true;
-    for (value, bytes) in rows {
-        is_so = is_form(alloc, bytes, value) && is_so;
-    }
-    is_so
-}
-
-/// The type answers these refusals to the bytes.
-pub(crate) fn refuses_each<'s, T: Deserialize<SliceReader<'s>>>(
-    alloc: Global,
-    rows: &[(&'s [u8], Answer)],
-) -> bool {
-    let mut is_so = true;
-    for (bytes, name) in rows {
-        is_so = refuses::<T>(alloc, bytes, *name) && is_so;
-    }
-    is_so
-}
-
-/// Each value is written as its shortest bytes, which are a form of it, as the wider ones are that
-/// are not written. The others are refused so, 0x57 as no code, and no byte as too few.
-pub(crate) fn has_forms<'s, T>(
-    alloc: Global,
-    shortest: &[(T, &'s [u8])],
-    wider: &[(T, &'s [u8])],
-    others: &[(&'s [u8], Answer)],
-) -> bool
-where
-    T: Serialize + Deserialize<SliceReader<'s>> + PartialEq,
-{
-    are_canonical(alloc, shortest)
-        && are_forms(alloc, wider)
-        && refuses_each::<T>(alloc, others)
-        && refuses::<T>(alloc, b"\x57", Answer::InvalidFormatCode)
-        && refuses::<T>(alloc, b"", UNEXPECTED_EOF)
 }

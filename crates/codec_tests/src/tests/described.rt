@@ -1,9 +1,10 @@
-//! Described values: `Described` both ways, alone, in arrays and in each other.
+//! Described values as they are written, alone, in arrays and in each other. What is read as one, and
+//! what isn't, are lines of the stored runs.
 
-use super::answer::{Answer, UNEXPECTED_EOF};
-use super::bytes::{is_made_as, is_made_read, is_made_text, is_unwritten, refuses, refuses_each};
+use super::answer::Answer;
+use super::bytes::{is_made_as, is_made_read, is_unwritten};
 use super::made::{array, both, list, list_of, symbol};
-use Answer::{InvalidFormatCode, InvalidLength, InvalidValue, SequenceLengthMismatch};
+use Answer::InvalidValue;
 use amqp_types::{Array, Described, Descriptor, Symbol};
 use own_types::Foo;
 use std::alloc::Global;
@@ -34,9 +35,9 @@ fn named<T: Drop>(name: Option<Symbol>, value: T) -> Option<Described<T>> {
 fn a_value_behind_its_descriptor(rt: HostRuntime) {
     let alloc = rt.alloc();
     let row = b"\x00\x53\x13\xc0\x04\x02\x41\x54\x03";
-    assert!(rt; is_made_text(alloc, under(0x13, Some((true, 3i32))), row));
+    assert!(rt; is_made_as(alloc, under(0x13, Some((true, 3i32))), row));
     let ints = under(0x11, list(alloc, &[1i32, 2]));
-    assert!(rt; is_made_text(alloc, ints, b"\x00\x53\x11\xc0\x05\x02\x54\x01\x54\x02"));
+    assert!(rt; is_made_as(alloc, ints, b"\x00\x53\x11\xc0\x05\x02\x54\x01\x54\x02"));
     // a struct is a list, whatever stands before it
     let foo = under(
         0x13,
@@ -45,70 +46,29 @@ fn a_value_behind_its_descriptor(rt: HostRuntime) {
             is_fool: true,
         }),
     );
-    let bytes = b"\x00\x53\x13\xc0\x04\x02\x52\x0d\x41";
-    assert!(rt; is_made_as(alloc, foo, bytes));
-    assert!(rt; refuses::<Foo>(alloc, bytes, InvalidFormatCode));
+    assert!(rt; is_made_as(alloc, foo, b"\x00\x53\x13\xc0\x04\x02\x52\x0d\x41"));
 }
 
 #[test]
-fn a_descriptor_has_each_form_of_its_kind(rt: HostRuntime) {
+fn a_descriptor_is_a_code_or_a_name(rt: HostRuntime) {
     let alloc = rt.alloc();
-    let forms: &[(u64, &[u8])] = &[
+    let codes: &[(u64, &[u8])] = &[
         (0, b"\x00\x44\x40"),
         (7, b"\x00\x53\x07\x40"),
-        (7, b"\x00\x80\x00\x00\x00\x00\x00\x00\x00\x07\x40"),
         (256, b"\x00\x80\x00\x00\x00\x00\x00\x00\x01\x00\x40"),
     ];
-    for (code, bytes) in forms {
-        assert!(rt; is_made_read(alloc, under(*code, Some(())), bytes));
+    for (code, bytes) in codes {
+        assert!(rt; is_made_as(alloc, under(*code, Some(())), bytes));
     }
     let short = named(symbol(alloc, "a"), ());
-    assert!(rt; is_made_text(alloc, short, b"\x00\xa3\x01\x61\x40"));
-    let wide = named(symbol(alloc, "a"), ());
-    assert!(rt; is_made_read(alloc, wide, b"\x00\xb3\x00\x00\x00\x01\x61\x40"));
-}
-
-/// No descriptor, or none of its two kinds; and bytes that are missing.
-const NO_UNITS: &[(&[u8], Answer)] = &[
-    (b"", UNEXPECTED_EOF),
-    (b"\x40", InvalidFormatCode),
-    (b"\x57", InvalidFormatCode),
-    (b"\x00", UNEXPECTED_EOF),
-    (b"\x00\x57", InvalidFormatCode),
-    (b"\x00\x40\x40", Answer::Message),
-    (b"\x00\x00\x44\x40", Answer::Message),
-    (b"\x00\x52\x07\x40", Answer::Message),
-    (b"\x00\xa1\x01\x61\x40", Answer::Message),
-    (b"\x00\x53", UNEXPECTED_EOF),
-    (b"\x00\xa3\x02\x61", UNEXPECTED_EOF),
-    (b"\x00\xa3\x01\xff\x40", Answer::InvalidUtf8Encoding),
-    (b"\x00\x44", UNEXPECTED_EOF),
-    (b"\x00\x44\x41", InvalidFormatCode),
-    (b"\x00\x44\x00\x44\x40", InvalidFormatCode),
-];
-
-/// A tuple behind a descriptor is of its length.
-const NO_PAIRS: &[(&[u8], Answer)] = &[
-    (b"\x00\x53\x13\xc0\x02\x01\x41", SequenceLengthMismatch),
-    (b"\x00\x53\x13\xc0\x00\x00", InvalidLength),
-];
-
-/// A thousand bytes 0.
-const ZEROS: &[u8] = &[0; 1000];
-
-#[test]
-fn what_is_no_described_value(rt: HostRuntime) {
-    let alloc = rt.alloc();
-    assert!(rt; refuses_each::<Described<()>>(alloc, NO_UNITS));
-    assert!(rt; refuses_each::<Described<(bool, i32)>>(alloc, NO_PAIRS));
-    assert!(rt; refuses::<Described<Described<()>>>(alloc, ZEROS, Answer::Message));
+    assert!(rt; is_made_as(alloc, short, b"\x00\xa3\x01\x61\x40"));
 }
 
 #[test]
 fn a_described_value_behind_a_descriptor(rt: HostRuntime) {
     let alloc = rt.alloc();
     let twice = under(1, under(2, Some(())));
-    assert!(rt; is_made_text(alloc, twice, b"\x00\x53\x01\x00\x53\x02\x40"));
+    assert!(rt; is_made_as(alloc, twice, b"\x00\x53\x01\x00\x53\x02\x40"));
 }
 
 /// Two ints, each behind a descriptor of its code.
@@ -131,12 +91,12 @@ fn five(alloc: Global) -> Option<Array<Described<u32>>> {
 fn an_array_has_one_descriptor(rt: HostRuntime) {
     let alloc = rt.alloc();
     let bytes = b"\xe0\x0d\x02\x00\x53\x13\x71\x00\x00\x00\x01\x00\x00\x00\x02";
-    assert!(rt; is_made_text(alloc, ints(alloc, 0x13, 0x13), bytes));
+    assert!(rt; is_made_as(alloc, ints(alloc, 0x13, 0x13), bytes));
     let bytes = b"\xe0\x0a\x01\x00\xa3\x01\x61\x70\x00\x00\x00\x05";
-    assert!(rt; is_made_text(alloc, five(alloc), bytes));
+    assert!(rt; is_made_as(alloc, five(alloc), bytes));
     let bytes = b"\xe0\x1f\x02\x00\x53\x01\xf0\x00\x00\x00\x09\x00\x00\x00\x01\x71\x00\x00\x00\x01\
         \x00\x00\x00\x09\x00\x00\x00\x01\x71\x00\x00\x00\x02";
-    assert!(rt; is_made_text(alloc, arrays(alloc), bytes));
+    assert!(rt; is_made_as(alloc, arrays(alloc), bytes));
 }
 
 #[test]
@@ -149,27 +109,13 @@ fn an_array_of_two_descriptors_is_not_written(rt: HostRuntime) {
     assert!(rt; is_unwritten(alloc, twice, InvalidValue));
 }
 
-/// Element constructors behind a descriptor, and what is no such.
-const NO_ELEMENTS: &[(&[u8], Answer)] = &[
-    (b"\xe0\x03\x01\x00\x44\x40", InvalidLength),
-    (b"\xe0\x04\x01\x00\x40\x40", Answer::Message),
-    (b"\xe0\x04\x01\x00\x44\x00", InvalidFormatCode),
-    (b"\xe0\x02\x01\x00", UNEXPECTED_EOF),
-    (b"\xe0\x04\x01\x40", InvalidFormatCode),
-];
-
 #[test]
-fn elements_behind_one_descriptor(rt: HostRuntime) {
+fn a_list_has_a_descriptor_for_each_element(rt: HostRuntime) {
     let alloc = rt.alloc();
-    let one = list_of(alloc, under(0, Some(())));
-    assert!(rt; is_made_read(alloc, one, b"\xe0\x04\x01\x00\x44\x40"));
-    assert!(rt; refuses_each::<Vec<Described<()>>>(alloc, NO_ELEMENTS));
+    let unit = list_of(alloc, under(0, Some(())));
+    assert!(rt; is_made_as(alloc, unit, b"\xc0\x04\x01\x00\x44\x40"));
     let five = list_of(alloc, under(0, Some(5u32)));
-    assert!(rt; is_made_read(alloc, five, b"\xe0\x08\x01\x00\x44\x70\x00\x00\x00\x05"));
-    let cut = b"\xe0\x04\x01\x00\x44\x70\x00\x00\x00\x05";
-    assert!(rt; refuses::<Vec<Described<u32>>>(alloc, cut, InvalidValue));
-    // whatever isn't described stands under no descriptor
-    assert!(rt; refuses::<Vec<()>>(alloc, b"\xe0\x04\x01\x00\x44\x40", InvalidFormatCode));
+    assert!(rt; is_made_as(alloc, five, b"\xc0\x05\x01\x00\x44\x52\x05"));
 }
 
 /// 65,536 units behind one descriptor, which they share.

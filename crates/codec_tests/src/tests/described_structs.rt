@@ -2,7 +2,7 @@
 
 use super::answer::{Answer, UNEXPECTED_EOF, is, name_of, told};
 use super::asked::{Asked, taken};
-use super::bytes::{is_made_as, is_written_as, refuses_each};
+use super::bytes::is_made_as;
 use super::made::{array, both, string};
 use super::written::{By, Writes, writes_so};
 use Answer::{InvalidFormatCode, InvalidValue, Message, SequenceLengthMismatch, Taken};
@@ -10,9 +10,8 @@ use amqp_base::{DESCRIBED_BASIC, DESCRIBED_LIST, DESCRIBED_MAP, Error, Sink};
 use amqp_de::{Deserializer, StructAccess};
 use amqp_read::Read;
 use amqp_ser::{Serializer, Struct, Written};
-use amqp_types::{Array, Descriptor};
+use amqp_types::Descriptor;
 use own_types::Open;
-use serde_amqp::from_slice;
 use std::alloc::Global;
 
 /// What is asked of a struct behind a descriptor, and the answer.
@@ -266,38 +265,12 @@ fn open(id: Option<String>, channel_max: Option<u16>) -> Option<Open> {
 
 const OPEN: &[u8] = b"\x00\x53\x10\xc0\x07\x04\xa1\x01\x61\x40\x40\x40";
 
-/// What is no such performative.
-const NO_OPEN: &[(&[u8], Answer)] = &[
-    (b"\x00\x53\x11\xc0\x04\x01\xa1\x01\x61", Message),
-    (b"\x00\x53\x10\xc1\x01\x00", Message),
-    (b"\x00\x53\x10\x45", InvalidFormatCode),
-    (
-        b"\x00\x53\x10\xc0\x08\x05\xa1\x01\x61\x40\x40\x40\x40",
-        SequenceLengthMismatch,
-    ),
-    (b"\xc0\x04\x01\xa1\x01\x61", InvalidFormatCode),
-];
-
-/// The bytes are read as the container `a`, with this channel.
-fn is_open(alloc: Global, bytes: &[u8], channel_max: Option<u16>) -> bool {
-    match own_types::kept::open_is_kept(alloc, bytes) {
-        Ok(open) => {
-            let is_plain = open.hostname.is_none() && open.max_frame_size.is_none();
-            is_plain && open.container_id.as_str() == "a" && open.channel_max == channel_max
-        }
-        Err(_) => false,
-    }
-}
-
 #[test]
 fn a_performative_is_a_list_whose_last_fields_may_be_left_out(rt: HostRuntime) {
     let alloc = rt.alloc();
     assert!(rt; is_made_as(alloc, open(string(alloc, "a"), None), OPEN));
-    assert!(rt; is_open(alloc, OPEN, None));
-    assert!(rt; is_open(alloc, b"\x00\x53\x10\xc0\x04\x01\xa1\x01\x61", None));
     let channels = b"\x00\x53\x10\xc0\x09\x04\xa1\x01\x61\x40\x40\x60\x00\xff";
-    assert!(rt; is_open(alloc, channels, Some(255)));
-    assert!(rt; refuses_each::<Open>(alloc, NO_OPEN));
+    assert!(rt; is_made_as(alloc, open(string(alloc, "a"), Some(255)), channels));
 }
 
 /// Two performatives behind the descriptor that they share.
@@ -305,19 +278,10 @@ const OPENS: &[u8] = b"\xe0\x21\x02\x00\x53\x10\xd0\
     \x00\x00\x00\x0a\x00\x00\x00\x04\xa1\x01\x61\x40\x40\x40\
     \x00\x00\x00\x0a\x00\x00\x00\x04\xa1\x01\x62\x40\x40\x40";
 
-/// What was read is written as the bytes.
-fn is_written_again(alloc: Global, read: Result<Array<Open>, Error>, bytes: &[u8]) -> bool {
-    match read {
-        Ok(opens) => opens.len() == 2 && is_written_as(alloc, &opens, bytes),
-        Err(_) => false,
-    }
-}
-
 #[test]
 fn performatives_are_elements_of_an_array(rt: HostRuntime) {
     let alloc = rt.alloc();
     let a = open(string(alloc, "a"), None);
     let b = open(string(alloc, "b"), None);
     assert!(rt; is_made_as(alloc, array(both(alloc, a, b)), OPENS));
-    assert!(rt; is_written_again(alloc, from_slice(alloc, OPENS), OPENS));
 }

@@ -1,8 +1,9 @@
-//! Floats, decimals, timestamps and uuids, whose data are so many bytes.
+//! Floats, decimals, timestamps and uuids, whose data are so many bytes, as they are written and by
+//! their calls. Every form and refusal is a line of the stored runs.
 
 use super::answer::{Answer, gave, told};
 use super::asked::{Asked, taken};
-use super::bytes::has_forms;
+use super::bytes::are_written;
 use super::calls::{Call, goes};
 use super::puts::{Put, writes};
 use amqp_de::Deserializer;
@@ -22,7 +23,7 @@ fn float_has_one_constructor(rt: HostRuntime) {
         (Float::from_bits(0xc2f6_e979), b"\x72\xc2\xf6\xe9\x79"),
         (Float::from_bits(0xffff_ffff), b"\x72\xff\xff\xff\xff"),
     ];
-    assert!(rt; has_forms(alloc, floats, &[], &[(b"\x82\x00", OTHER)]));
+    assert!(rt; are_written(alloc, floats));
 }
 
 #[test]
@@ -46,16 +47,8 @@ fn double_has_one_constructor(rt: HostRuntime) {
             b"\x82\xff\xff\xff\xff\xff\xff\xff\xff",
         ),
     ];
-    assert!(rt; has_forms(alloc, doubles, &[], &[(b"\x72\x00\x00\x00\x00", OTHER)]));
+    assert!(rt; are_written(alloc, doubles));
 }
-
-const NOT_DECIMAL32: &[(&[u8], Answer)] = &[
-    (b"\x72\x00\x00\x00\x00", OTHER),
-    // decimals of another width
-    (b"\x84\x00\x00\x00\x00\x00\x00\x00\x00", Answer::Message),
-    (b"\x84", Answer::Message),
-    (b"\x94", Answer::Message),
-];
 
 #[test]
 fn decimal32_has_one_constructor(rt: HostRuntime) {
@@ -66,14 +59,8 @@ fn decimal32_has_one_constructor(rt: HostRuntime) {
         (Dec32::from(*b"1234"), b"\x741234"),
         (Dec32::from([0xff; 4]), b"\x74\xff\xff\xff\xff"),
     ];
-    assert!(rt; has_forms(alloc, narrow, &[], NOT_DECIMAL32));
+    assert!(rt; are_written(alloc, narrow));
 }
-
-const NOT_DECIMAL64: &[(&[u8], Answer)] = &[
-    (b"\x82", OTHER),
-    (b"\x74", Answer::Message),
-    (b"\x94", Answer::Message),
-];
 
 #[test]
 fn decimal64_has_one_constructor(rt: HostRuntime) {
@@ -90,14 +77,8 @@ fn decimal64_has_one_constructor(rt: HostRuntime) {
             b"\x84\xff\xff\xff\xff\xff\xff\xff\xff",
         ),
     ];
-    assert!(rt; has_forms(alloc, middle, &[], NOT_DECIMAL64));
+    assert!(rt; are_written(alloc, middle));
 }
-
-const NOT_DECIMAL128: &[(&[u8], Answer)] = &[
-    (b"\x98", OTHER),
-    (b"\x74", Answer::Message),
-    (b"\x84", Answer::Message),
-];
 
 #[test]
 fn decimal128_has_one_constructor(rt: HostRuntime) {
@@ -117,7 +98,7 @@ fn decimal128_has_one_constructor(rt: HostRuntime) {
             b"\x94\xff\xff\xff\xff\xff\xff\xff\xff\xff\xff\xff\xff\xff\xff\xff\xff",
         ),
     ];
-    assert!(rt; has_forms(alloc, wide, &[], NOT_DECIMAL128));
+    assert!(rt; are_written(alloc, wide));
 }
 
 #[test]
@@ -134,7 +115,7 @@ fn timestamp_has_one_constructor(rt: HostRuntime) {
             b"\x83\x7f\xff\xff\xff\xff\xff\xff\xff",
         ),
     ];
-    assert!(rt; has_forms(alloc, timestamps, &[], &[(b"\x81\x00", OTHER)]));
+    assert!(rt; are_written(alloc, timestamps));
 }
 
 #[test]
@@ -155,7 +136,7 @@ fn uuid_has_one_constructor(rt: HostRuntime) {
             b"\x98\xff\xff\xff\xff\xff\xff\xff\xff\xff\xff\xff\xff\xff\xff\xff\xff",
         ),
     ];
-    assert!(rt; has_forms(alloc, uuids, &[], &[(b"\x94", OTHER)]));
+    assert!(rt; are_written(alloc, uuids));
 }
 
 const WRITTEN: &[Put<'static>] = &[

@@ -1,15 +1,16 @@
-//! Lists: `Vec` at every nesting, the most elements that are read, and lists part by part.
-//! Every form and refusal of a list of ints is a line of the probe's run.
+//! Lists: `Vec` as it is written, the most elements that are read, and lists part by part. Every form
+//! and refusal is a line of the stored runs.
 
-use super::answer::{Answer, UNEXPECTED_EOF};
-use super::bytes::{is_front, is_made_as, is_made_text, refuses};
+use super::answer::Answer;
+use super::bytes::{is_front, is_made_as, refuses};
 use super::calls::{Call, End, Part, all_go};
-use super::made::{and, both, list, strings};
+use super::made::{and, both, list, strings, symbol};
 use super::puts::{Element, Put, writes};
 use Call::List;
 use Part::{Int, Uint};
 use amqp_de::Deserialize;
 use amqp_read::SliceReader;
+use amqp_types::Symbol;
 use std::alloc::Global;
 
 /// The list that was made stands at the front of the bytes, and takes so many of them.
@@ -25,7 +26,7 @@ fn is_made_front<'s, T: Deserialize<SliceReader<'s>> + PartialEq>(
     }
 }
 
-/// Lists of ints, as they are written; the probe's run reads them.
+/// Lists of ints.
 const INTS: &[(&[i32], &[u8])] = &[
     (&[], b"\x45"),
     (&[1, 2], b"\xc0\x05\x02\x54\x01\x54\x02"),
@@ -43,11 +44,6 @@ fn a_list_is_written_in_its_shortest_form(rt: HostRuntime) {
     }
 }
 
-/// [[1, 256], [], [7]] in each of the three forms of a list.
-const NESTED: &[u8] = b"\xd0\x00\x00\x00\x19\x00\x00\x00\x03\
-    \xc0\x08\x02\x52\x01\x70\x00\x00\x01\x00\x45\
-    \xd0\x00\x00\x00\x06\x00\x00\x00\x01\x52\x07";
-
 /// [[[0, 1], []], []]
 fn lists(alloc: Global) -> Option<Vec<Vec<Vec<u32>>>> {
     let first = both(alloc, list(alloc, &[0u32, 1]), list(alloc, &[]));
@@ -59,50 +55,27 @@ fn texts(alloc: Global) -> Option<Vec<Vec<String>>> {
     both(alloc, strings(alloc, &["a", ""]), strings(alloc, &[]))
 }
 
-#[test]
-fn lists_of_lists(rt: HostRuntime) {
-    let alloc = rt.alloc();
-    let bytes = b"\xc0\x0c\x02\xc0\x08\x02\xc0\x04\x02\x43\x52\x01\x45\x45";
-    assert!(rt; is_made_text(alloc, lists(alloc), bytes));
-    let bytes = b"\xc0\x0a\x02\xc0\x06\x02\xa1\x01a\xa1\x00\x45";
-    assert!(rt; is_made_text(alloc, texts(alloc), bytes));
-}
-
-/// However many bytes are missing at the end, they are missed.
-fn misses_each_end<'s, T: Deserialize<SliceReader<'s>>>(alloc: Global, bytes: &'s [u8]) -> bool {
-    let mut is_so = true;
-    for n in 0..bytes.len() {
-        is_so = match bytes.get(..n) {
-            Some(front) => refuses::<T>(alloc, front, UNEXPECTED_EOF) && is_so,
-            None => false,
-        };
-    }
-    is_so
-}
-
-/// The list that was made is all of the bytes. The others have another kind of element.
-fn is_nested<'s, T: Deserialize<SliceReader<'s>> + PartialEq>(
-    alloc: Global,
-    made: Option<Vec<T>>,
-    bytes: &'s [u8],
-    others: &'s [u8],
-) -> bool {
-    let is_read = is_made_front(alloc, made, bytes, bytes.len());
-    let is_missed = misses_each_end::<Vec<T>>(alloc, bytes);
-    refuses::<Vec<T>>(alloc, others, Answer::InvalidFormatCode) && is_read && is_missed
-}
-
 /// [[1, 256], [], [7]]
 fn three(alloc: Global) -> Option<Vec<Vec<u32>>> {
     let front = both(alloc, list(alloc, &[1u32, 256]), list(alloc, &[]));
     and(front, list(alloc, &[7]))
 }
 
+/// [a, b]
+fn symbols(alloc: Global) -> Option<Vec<Symbol>> {
+    both(alloc, symbol(alloc, "a"), symbol(alloc, "b"))
+}
+
 #[test]
-fn lists_of_lists_of_each_form(rt: HostRuntime) {
+fn lists_of_lists(rt: HostRuntime) {
     let alloc = rt.alloc();
-    // as lists of ints these bytes are refused in the probe's run
-    assert!(rt; is_nested(alloc, three(alloc), NESTED, ONE_OF_MANY));
+    let bytes = b"\xc0\x0c\x02\xc0\x08\x02\xc0\x04\x02\x43\x52\x01\x45\x45";
+    assert!(rt; is_made_as(alloc, lists(alloc), bytes));
+    let bytes = b"\xc0\x0a\x02\xc0\x06\x02\xa1\x01a\xa1\x00\x45";
+    assert!(rt; is_made_as(alloc, texts(alloc), bytes));
+    let bytes = b"\xc0\x11\x03\xc0\x08\x02\x52\x01\x70\x00\x00\x01\x00\x45\xc0\x03\x01\x52\x07";
+    assert!(rt; is_made_as(alloc, three(alloc), bytes));
+    assert!(rt; is_made_as(alloc, symbols(alloc), b"\xc0\x07\x02\xa3\x01a\xa3\x01b"));
 }
 
 /// The header, and behind it so many uints of one byte.
@@ -134,9 +107,6 @@ fn are_refused(alloc: Global, bytes: Option<Vec<u8>>, name: Answer) -> bool {
     }
 }
 
-/// As many elements are announced as may be, and one is there.
-const ONE_OF_MANY: &[u8] = b"\xd0\x00\x01\x00\x04\x00\x01\x00\x00\x43";
-
 #[test]
 fn a_list_has_at_most_65536_elements(rt: HostRuntime) {
     let alloc = rt.alloc();
@@ -144,7 +114,6 @@ fn a_list_has_at_most_65536_elements(rt: HostRuntime) {
     assert!(rt; are_zeros(alloc, most));
     let more = zeros(alloc, b"\xd0\x00\x01\x00\x05\x00\x01\x00\x01", 65_537);
     assert!(rt; are_refused(alloc, more, Answer::InvalidValue));
-    assert!(rt; are_refused(alloc, list(alloc, ONE_OF_MANY), UNEXPECTED_EOF));
 }
 
 const NONE: Part = Uint(Ok(None));

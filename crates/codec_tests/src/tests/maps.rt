@@ -1,9 +1,9 @@
-//! Maps: `OrderedMap` and `BTreeMap`, repeated keys, what headers are refused for, and the most
-//! pairs that are read.
+//! Maps, `OrderedMap` and `BTreeMap`, as they are written, and the most pairs that are read. Every form
+//! and refusal, and what becomes of a repeated key, are lines of the stored runs.
 
-use super::answer::{Answer, UNEXPECTED_EOF, gave, told};
+use super::answer::{Answer, told};
 use super::asked::{Asked, taken};
-use super::bytes::{is_made_as, is_made_text, is_written_as, refuses};
+use super::bytes::{is_made_as, is_written_as, refuses};
 use super::made::{map, map_of, string};
 use amqp_base::Error;
 use amqp_de::{Deserialize, Deserializer};
@@ -45,7 +45,7 @@ fn sorted(alloc: Global) -> Option<BTreeMap<u8, bool>> {
 fn is_map_text(alloc: Global, text: Option<String>) -> bool {
     let map = map_of(alloc, Timestamp::from_milliseconds(0), text);
     let bytes = b"\xc1\x0d\x02\x83\x00\x00\x00\x00\x00\x00\x00\x00\xa1\x01x";
-    is_made_text(alloc, map, bytes)
+    is_made_as(alloc, map, bytes)
 }
 
 #[test]
@@ -67,153 +67,29 @@ fn a_map_is_its_keys_and_values_in_turn(rt: HostRuntime) {
     );
 }
 
-/// What a map of booleans answers to the bytes.
-fn booleans(alloc: Global, bytes: &[u8]) -> Result<OrderedMap<u32, bool>, Error> {
-    from_slice(alloc, bytes)
-}
-
-/// The value under the key 0 is true.
-fn has_zero(outcome: Result<OrderedMap<u32, bool>, Error>) -> bool {
-    match outcome {
-        Ok(map) => map.get(&0) == Some(&true),
-        Err(_) => false,
-    }
-}
-
-/// One map of booleans is read.
-struct OneMap;
-
-impl Asked for OneMap {
-    fn is_answered<R: Read>(&self, alloc: Global, de: &mut Deserializer<R>) -> bool {
-        told(OrderedMap::<u32, bool>::deserialize(alloc, de)) == Answer::Taken
-    }
-}
-
-/// The bytes, all of them, are read as the map of these pairs.
-fn is_read(alloc: Global, pairs: &[(u32, bool)], bytes: &[u8]) -> bool {
-    match map(alloc, pairs) {
-        Some(value) => {
-            let is_whole = taken(alloc, bytes, &OneMap) == Some(bytes.len());
-            gave(booleans(alloc, bytes), &value) && is_whole
-        }
-        None => false,
-    }
-}
-
-/// The two forms of a header.
-const FORMS: &[(&[(u32, bool)], &[u8])] = &[(&[], b"\xc1\x01\x00"), (&[(0, true)], WIDE)];
-
-const WIDE: &[u8] = b"\xd1\x00\x00\x00\x06\x00\x00\x00\x02\x43\x41";
-
-#[test]
-fn both_forms_of_a_map_are_read(rt: HostRuntime) {
-    let alloc = rt.alloc();
-    assert!(rt; has_zero(booleans(alloc, WIDE)));
-    for (pairs, bytes) in FORMS {
-        assert!(rt; is_read(alloc, pairs, bytes));
-    }
-}
-
-/// An `OrderedMap` at the front of the bytes.
-fn ordered(alloc: Global, bytes: &[u8]) -> Result<OrderedMap<u32, u32>, Error> {
-    from_slice(alloc, bytes)
-}
-
-#[test]
-fn bytes_that_are_no_map(rt: HostRuntime) {
-    let alloc = rt.alloc();
-    let rows: &[(&[u8], Answer)] = &[
-        (b"", UNEXPECTED_EOF),
-        (b"\x45", Answer::InvalidFormatCode),
-        (b"\xc1\x00", UNEXPECTED_EOF),
-        // the count before the size, the size before an odd count
-        (
-            b"\xd1\x00\x00\x00\x00\x00\x01\x00\x01",
-            Answer::InvalidValue,
-        ),
-        (b"\xc1\x00\x00", Answer::InvalidLength),
-        (b"\xc1\x01\x01", Answer::InvalidLength),
-        // the value is looked at once its key was read
-        (b"\xc1\x03\x02\x43\x41", Answer::InvalidFormatCode),
-    ];
-    for (bytes, name) in rows {
-        assert!(rt; told(ordered(alloc, bytes)) == *name);
-    }
-}
-
-/// The pair stands there.
-fn is_at(pairs: &[(u32, u32)], place: usize, key: u32, value: u32) -> bool {
-    match pairs.get(place) {
-        Some(pair) => pair.0 == key && pair.1 == value,
-        None => false,
-    }
-}
-
-/// The map gives these pairs in order.
-fn are_pairs(map: &OrderedMap<u32, u32>, want: &[(u32, u32)]) -> bool {
-    let mut place = 0usize;
-    let mut is_so = true;
-    for (key, value) in map.iter() {
-        is_so = is_at(want, place, *key, *value) && is_so;
-        place = place.saturating_add(1);
-    }
-    is_so && place == want.len()
-}
-
-/// An `OrderedMap` that is read from the bytes gives these pairs in order.
-fn is_ordered(alloc: Global, bytes: &[u8], want: &[(u32, u32)]) -> bool {
-    match ordered(alloc, bytes) {
-        Ok(map) => are_pairs(&map, want),
-        Err(_) => false,
-    }
-}
-
-/// The same of a `BTreeMap`.
-fn is_sorted(alloc: Global, bytes: &[u8], want: &[(u32, u32)]) -> bool {
-    match from_slice::<BTreeMap<u32, u32>>(alloc, bytes) {
-        Ok(map) => are_sorted_pairs(&map, want),
-        Err(_) => false,
-    }
-}
-
-/// The map gives these pairs in order.
-fn are_sorted_pairs(map: &BTreeMap<u32, u32>, want: &[(u32, u32)]) -> bool {
-    let mut place = 0usize;
-    let mut is_so = true;
-    for (key, value) in map.iter() {
-        is_so = is_at(want, place, *key, *value) && is_so;
-        place = place.saturating_add(1);
-    }
-    is_so && place == want.len()
-}
-
-/// Bytes, and the pairs of both kinds of map.
-const REPEATED: &[(&[u8], &[(u32, u32)], &[(u32, u32)])] = &[
-    // the first and the last pair, the second and the last, the third and the last
+/// Maps of uints, as they are written.
+const UINTS: &[(&[(u32, u32)], &[u8])] = &[
     (
-        b"\xc1\x11\x08\x52\x07\x52\x00\x52\x05\x52\x01\x52\x06\x52\x02\x52\x07\x52\x03",
         &[(7, 3), (5, 1), (6, 2)],
-        &[(5, 1), (6, 2), (7, 3)],
+        b"\xc1\x0d\x06\x52\x07\x52\x03\x52\x05\x52\x01\x52\x06\x52\x02",
     ),
     (
-        b"\xc1\x11\x08\x52\x07\x52\x00\x52\x05\x52\x01\x52\x06\x52\x02\x52\x05\x52\x03",
         &[(7, 0), (5, 3), (6, 2)],
-        &[(5, 3), (6, 2), (7, 0)],
+        b"\xc1\x0c\x06\x52\x07\x43\x52\x05\x52\x03\x52\x06\x52\x02",
     ),
     (
-        b"\xc1\x11\x08\x52\x07\x52\x00\x52\x05\x52\x01\x52\x06\x52\x02\x52\x06\x52\x03",
         &[(7, 0), (5, 1), (6, 3)],
-        &[(5, 1), (6, 3), (7, 0)],
+        b"\xc1\x0c\x06\x52\x07\x43\x52\x05\x52\x01\x52\x06\x52\x03",
     ),
 ];
 
 #[test]
-fn a_repeated_key_has_its_first_place_and_its_last_value(rt: HostRuntime) {
+fn a_map_keeps_the_order_of_its_keys(rt: HostRuntime) {
     let alloc = rt.alloc();
-    for (bytes, ordered, sorted) in REPEATED {
-        assert!(rt; is_ordered(alloc, bytes, ordered));
-        assert!(rt; is_sorted(alloc, bytes, sorted));
+    for (pairs, bytes) in UINTS {
+        assert!(rt; is_made_as(alloc, map(alloc, pairs), bytes));
     }
+    assert!(rt; is_made_as(alloc, map(alloc, &[(0u32, true)]), b"\xc1\x03\x02\x43\x41"));
 }
 
 /// A map32 of so many pairs, from each number to null.

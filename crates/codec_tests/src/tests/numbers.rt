@@ -1,14 +1,10 @@
-//! Numbers without a point: each type by each of its constructors, with the first and the last
-//! value. What is read as a uint, a ulong or an int, and what isn't, are lines of the probe's run.
+//! Numbers without a point, as they are written: each type by each of its constructors, with the
+//! first and the last value. What is read as one, and what isn't, are lines of the stored runs.
 
-use super::answer::Answer;
-use super::bytes::{are_written, has_forms};
+use super::bytes::are_written;
 use super::calls::{Call, all_go};
 use super::puts::{Put, writes};
 use Call::{Byte, Int, Long, Short, Ubyte, Uint, Ulong, Ushort};
-
-/// Bytes of another kind.
-const OTHER: Answer = Answer::InvalidFormatCode;
 
 const UBYTES: &[(u8, &[u8])] = &[(0, b"\x50\x00"), (255, b"\x50\xff")];
 
@@ -22,8 +18,8 @@ const USHORTS: &[(u16, &[u8])] = &[
 #[test]
 fn ubyte_and_ushort_have_one_constructor(rt: HostRuntime) {
     let alloc = rt.alloc();
-    assert!(rt; has_forms(alloc, UBYTES, &[], &[(b"\x60\x00\x00", OTHER)]));
-    assert!(rt; has_forms(alloc, USHORTS, &[], &[(b"\x50\x00", OTHER)]));
+    assert!(rt; are_written(alloc, UBYTES));
+    assert!(rt; are_written(alloc, USHORTS));
 }
 
 const UINTS: &[(u32, &[u8])] = &[
@@ -62,8 +58,8 @@ const SHORTS: &[(i16, &[u8])] = &[
 #[test]
 fn byte_and_short_have_one_constructor(rt: HostRuntime) {
     let alloc = rt.alloc();
-    assert!(rt; has_forms(alloc, BYTES, &[], &[(b"\x50\x00", OTHER)]));
-    assert!(rt; has_forms(alloc, SHORTS, &[], &[(b"\x60\x00\x00", OTHER)]));
+    assert!(rt; are_written(alloc, BYTES));
+    assert!(rt; are_written(alloc, SHORTS));
 }
 
 const INTS: &[(i32, &[u8])] = &[
@@ -94,7 +90,7 @@ const LONGS: &[(i64, &[u8])] = &[
 fn int_and_long_have_two_constructors(rt: HostRuntime) {
     let alloc = rt.alloc();
     assert!(rt; are_written(alloc, INTS));
-    assert!(rt; has_forms(alloc, LONGS, &[], &[(b"\x54\x00", OTHER)]));
+    assert!(rt; are_written(alloc, LONGS));
 }
 
 const WRITTEN: &[Put<'static>] = &[

@@ -1,25 +1,13 @@
-//! Binaries, strings and symbols. Every form and refusal of a string and a symbol is a line of the
-//! probe's run.
+//! Binaries, strings and symbols, as they are written and by their calls. Every form and refusal is a
+//! line of the stored runs.
 
-use super::answer::{Answer, UNEXPECTED_EOF};
-use super::bytes::{is_form, is_made_as, is_read_as, is_written_as, refuses_each};
+use super::bytes::{is_made_as, is_read_as, is_written_as};
 use super::calls::{Call, goes};
-use super::made::{string, symbol};
+use super::made::{list, string, symbol};
 use super::puts::{Put, writes};
 use amqp_types::{Binary, BinaryRef, SymbolRef};
 use serde_amqp::to_vec;
 use std::alloc::Global;
-
-/// The binary of these bytes stands in this form, which is the one that is written or not.
-fn is_binary(alloc: Global, value: &[u8], bytes: &[u8], is_written: bool) -> bool {
-    match value.to_vec(alloc) {
-        Ok(value) => {
-            let value = Binary(value);
-            is_form(alloc, bytes, &value) && is_written_as(alloc, &value, bytes) == is_written
-        }
-        Err(_) => false,
-    }
-}
 
 /// The text has this length and front, and is read as the binary.
 fn is_long_text(alloc: Global, value: &Binary, text: &[u8], len: usize, front: &[u8]) -> bool {
@@ -45,30 +33,32 @@ fn is_long_binary(alloc: Global, count: usize, len: usize, front: &[u8]) -> bool
     }
 }
 
-/// Binaries, their forms, and whether these are written.
-const BINARIES: &[(&[u8], &[u8], bool)] = &[
-    (b"\xff", b"\xa0\x01\xff", true),
-    (b"\xff", b"\xb0\x00\x00\x00\x01\xff", false),
-    (b"", b"\xa0\x00", true),
-    (b"", b"\xb0\x00\x00\x00\x00", false),
-    (b"\x01\x02", b"\xa0\x02\x01\x02", true),
-    (b"\x00\xff", b"\xa0\x02\x00\xff", true),
-];
+/// The binary of the bytes.
+fn binary(bytes: Option<Vec<u8>>) -> Option<Binary> {
+    match bytes {
+        Some(bytes) => Some(Binary(bytes)),
+        None => None,
+    }
+}
 
-const NO_BINARIES: &[(&[u8], Answer)] = &[
-    (b"\xa1\x01\x61", Answer::InvalidFormatCode),
-    (b"\x57", Answer::InvalidFormatCode),
-    (b"", UNEXPECTED_EOF),
+/// Binaries, as they are written.
+const BINARIES: &[(&[u8], &[u8])] = &[
+    (b"\xff", b"\xa0\x01\xff"),
+    (b"", b"\xa0\x00"),
+    (b"\x01\x02", b"\xa0\x02\x01\x02"),
+    (b"\x00\xff", b"\xa0\x02\x00\xff"),
 ];
 
 #[test]
-fn binary_has_two_constructors(rt: HostRuntime) {
+fn a_short_binary_has_the_narrow_constructor(rt: HostRuntime) {
     let alloc = rt.alloc();
-    for (value, bytes, is_written) in BINARIES {
-        assert!(rt; is_binary(alloc, value, bytes, *is_written), "{bytes:?}");
+    for (value, bytes) in BINARIES {
+        assert!(rt;
+            is_made_as(alloc, binary(list(alloc, value)), bytes),
+            "{bytes:?}"
+        );
     }
     assert!(rt; is_written_as(alloc, &BinaryRef(b"\x00\xff"), b"\xa0\x02\x00\xff"));
-    assert!(rt; refuses_each::<Binary>(alloc, NO_BINARIES));
 }
 
 /// vbin8 is written up to 254 bytes: how many, the length of the text, and its front.

@@ -1,13 +1,10 @@
-//! Booleans, characters and null. Every form and refusal of a boolean is a line of the probe's run.
+//! Booleans, characters and null, as they are written and by their calls. Every form and refusal is a
+//! line of the stored runs.
 
-use super::answer::Answer;
-use super::bytes::{are_written, has_forms};
+use super::bytes::are_written;
 use super::calls::{Call, goes};
 use super::puts::{Put, writes};
 use Call::{Char, Truth, Unit, UnitStruct};
-
-/// Bytes of another kind.
-const OTHER: Answer = Answer::InvalidFormatCode;
 
 const BOOLEANS: &[(bool, &[u8])] = &[(true, b"\x41"), (false, b"\x42")];
 
@@ -17,7 +14,7 @@ const NULL: &[((), &[u8])] = &[((), b"\x40")];
 fn boolean_has_a_constructor_for_each_value_and_null_has_one(rt: HostRuntime) {
     let alloc = rt.alloc();
     assert!(rt; are_written(alloc, BOOLEANS));
-    assert!(rt; has_forms(alloc, NULL, &[], &[(b"\x41", OTHER)]));
+    assert!(rt; are_written(alloc, NULL));
 }
 
 const CHARS: &[(char, &[u8])] = &[
@@ -29,17 +26,9 @@ const CHARS: &[(char, &[u8])] = &[
     ('\u{10ffff}', b"\x73\x00\x10\xff\xff"),
 ];
 
-const NO_CHARS: &[(&[u8], Answer)] = &[
-    // surrogates, and what lies above
-    (b"\x73\x00\x00\xd8\x00", Answer::InvalidValue),
-    (b"\x73\x00\x00\xdf\xff", Answer::InvalidValue),
-    (b"\x73\x00\x11\x00\x00", Answer::InvalidValue),
-    (b"\x70\x00\x00\x00\x00", OTHER),
-];
-
 #[test]
 fn char_is_a_unicode_scalar_value(rt: HostRuntime) {
-    assert!(rt; has_forms(rt.alloc(), CHARS, &[], NO_CHARS));
+    assert!(rt; are_written(rt.alloc(), CHARS));
 }
 
 const WRITTEN: &[Put<'static>] = &[Put::Unit, Put::UnitStruct, Put::Truth(true), Put::Char('a')];

@@ -1,7 +1,8 @@
-//! Tuples, which stand as lists of as many elements as they have parts.
+//! Tuples, which stand as lists of as many elements as they have parts, as they are written and by
+//! their calls. What is read as one is a line of the stored runs.
 
 use super::answer::Answer;
-use super::bytes::{are_fronts, are_written, is_made_text, is_text, is_written_as};
+use super::bytes::{are_written, is_made_as, is_written_as};
 use super::calls::{Call, Part, goes};
 use super::made::string;
 use super::puts;
@@ -17,13 +18,7 @@ fn three_parts(text: Option<String>) -> Option<(bool, u64, String)> {
     }
 }
 
-/// Tuples of one, and how many bytes they take.
-const ONES: &[((u32,), &[u8], usize)] = &[
-    ((7,), b"\xc0\x03\x01\x52\x07", 5),
-    ((0,), b"\xc0\x02\x01\x43\x40", 4),
-];
-
-/// Pairs as they are written; the probe's run reads them.
+/// Pairs.
 const PAIRS: &[((u32, bool), &[u8])] = &[
     ((13, true), b"\xc0\x04\x02\x52\x0d\x41"),
     ((1, true), b"\xc0\x04\x02\x52\x01\x41"),
@@ -32,9 +27,9 @@ const PAIRS: &[((u32, bool), &[u8])] = &[
 #[test]
 fn a_tuple_is_a_list_of_its_parts(rt: HostRuntime) {
     let alloc = rt.alloc();
-    assert!(rt; is_text(alloc, &(1i32,), b"\xc0\x03\x01\x54\x01"));
+    assert!(rt; is_written_as(alloc, &(1i32,), b"\xc0\x03\x01\x54\x01"));
     assert!(rt; is_written_as(alloc, &(7u32,), b"\xc0\x03\x01\x52\x07"));
-    assert!(rt; are_fronts(alloc, ONES));
+    assert!(rt; is_written_as(alloc, &(0u32,), b"\xc0\x02\x01\x43"));
     assert!(rt; are_written(alloc, PAIRS));
 }
 
@@ -42,11 +37,11 @@ fn a_tuple_is_a_list_of_its_parts(rt: HostRuntime) {
 fn tuples_of_three_and_four_parts(rt: HostRuntime) {
     let alloc = rt.alloc();
     let parts = three_parts(string(alloc, "amqp"));
-    assert!(rt; is_made_text(alloc, parts, b"\xc0\x0a\x03\x41\x53\x0d\xa1\x04amqp"));
+    assert!(rt; is_made_as(alloc, parts, b"\xc0\x0a\x03\x41\x53\x0d\xa1\x04amqp"));
     let nested = b"\xc0\x09\x03\x43\xc0\x04\x02\x54\xff\x40\x42";
-    assert!(rt; is_text(alloc, &(0u32, (-1i32, ()), false), nested));
+    assert!(rt; is_written_as(alloc, &(0u32, (-1i32, ()), false), nested));
     assert!(rt;
-        is_text(
+        is_written_as(
             alloc,
             &((), true, false, 0u32),
             b"\xc0\x05\x04\x40\x41\x42\x43"
