@@ -20,6 +20,7 @@ mod ignored;
 mod kept;
 mod lent;
 mod lists;
+mod long_lists;
 mod made;
 mod many_elements;
 mod map_calls;
