@@ -7,7 +7,7 @@ use super::made::{array, both, list, string};
 use super::pieces::cut;
 use Answer::{InvalidFormatCode, InvalidUtf8Encoding, Message};
 use own_types::{Data, Header, Section, Shipment, kept};
-use serde_amqp::de::{DescribedVariant, DescribedVariants, OneOf};
+use serde_amqp::de::{DescribedVariant, OneOf};
 use serde_amqp::primitives::{Array, Binary};
 use serde_amqp::{Counted, Descriptor, Deserializer, Error, Read, from_reader, from_slice};
 use std::alloc::Global;
@@ -229,26 +229,9 @@ impl Asked for OnlyData {
     }
 }
 
-/// The same, told by a descriptor that the caller has seen.
-struct SeenData;
-
-impl Asked for SeenData {
-    fn is_answered<R: Read>(&self, alloc: Global, de: &mut Deserializer<R>) -> bool {
-        let seen = Descriptor::Code(0x75);
-        let is_unknown = told(DescribedVariants::behind(&(), alloc, &seen, de)) == Message;
-        let is_told = match only_data(&seen).behind(alloc, &seen, de) {
-            Ok(OneOf::This(data)) => data.0.as_slice() == TWO_BYTES,
-            Ok(OneOf::Other(none)) => match none {},
-            Err(_) => false,
-        };
-        is_unknown && is_told
-    }
-}
-
 #[test]
 fn one_section_alone_is_told_by_its_descriptor(rt: HostRuntime) {
     let alloc = rt.alloc();
     assert!(rt; taken(alloc, DATA, &OnlyData) == Some(7));
     assert!(rt; taken(alloc, HEADER, &OnlyData).is_none());
-    assert!(rt; taken(alloc, DATA, &SeenData) == Some(7));
 }
