@@ -32,6 +32,7 @@ impl<R: Read, F> Access<'_, R, F> {
 }
 
 impl<R: Read> Deserializer<R> {
+    /// Bytes of the parts that are left are received, as many as those take at least.
     #[inline(always)]
     fn receive_parts(&mut self, inner: &Open) -> Result<(), Error>
         ensures ahead { Ahead (at_open self.old inner.now) (at_open self.new inner.now) }

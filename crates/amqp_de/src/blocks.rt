@@ -1,7 +1,7 @@
 //! Numbers, many at a time: elements of a fixed width, and parts of a list.
 
-ghost use Rattle.std.specs.Prelude.{ℕ, ◌≡◌, ◌*◌, ◌+◌, ◌<◌, ◌≤◌, ◌⊎◌};
-ghost use Rattle.std.specs.Prelude.{length, IsTrue, false, take, vec_len, vec_capacity};
+ghost use Rattle.std.specs.Prelude.{ℕ, ◌≡◌, ◌*◌, ◌+◌, ◌<◌, ◌≤◌};
+ghost use Rattle.std.specs.Prelude.{◌⊎◌, length, IsTrue, false, take, vec_len, vec_capacity};
 ghost use Rattle.amqp_base.specs.declared.format_code.EncodingCodes.{EncodingCodes};
 ghost use Rattle.amqp_base.specs.declared.format_code.EncodingCodes.TheVariants.{Uint, Ulong};
 ghost use Rattle.amqp_base.specs.declared.format_code.EncodingCodes.TheVariants.{Int};

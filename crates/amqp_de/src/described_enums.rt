@@ -1,7 +1,6 @@
 //! Enums whose variants stand behind descriptors of their own, by which they are told.
 
 ghost use Rattle.std.specs.Prelude.{◌≡◌, true, IfOk, IfErr, codes};
-ghost use Rattle.amqp_base.specs.Canon.{same_descriptor};
 ghost use Rattle.amqp_base.specs.Describing.{is_described, describing_at};
 ghost use Rattle.amqp_base.specs.Refusals.{IsCustom};
 ghost use Rattle.amqp_base.specs.declared.error.Error.TheVariants.{InvalidFormatCode};
@@ -14,6 +13,7 @@ ghost use Rattle.amqp_de.specs.Law.{Missed, Named};
 ghost use Rattle.amqp_de.specs.Steps.{Stops};
 ghost use Rattle.amqp_types.specs.Descriptors.{descriptor_of};
 
+use crate::described_fields::is_same;
 use crate::{Deserialize, Deserializer, FromVariant};
 use amqp_base::{EncodingCodes, Error, NoVariant, OneOf};
 use amqp_read::Read;
@@ -71,23 +71,6 @@ impl<R: Read> DescribedVariants<R> for () {
         let _ = descriptor;
         let _ = &de;
         Err(unknown(alloc))
-    }
-}
-
-/// Whether two descriptors are the same.
-#[inline(always)]
-fn is_same(wanted: &Descriptor, found: &Descriptor) -> bool
-    ensures { result ≡ same_descriptor (descriptor_of wanted.now) (descriptor_of found.now) }
-{
-    match wanted {
-        Descriptor::Name(name) => match found {
-            Descriptor::Name(other) => name.as_str() == other.as_str(),
-            Descriptor::Code(_) => false,
-        },
-        Descriptor::Code(code) => match found {
-            Descriptor::Name(_) => false,
-            Descriptor::Code(other) => *code == *other,
-        },
     }
 }
 

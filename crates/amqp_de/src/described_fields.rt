@@ -19,21 +19,29 @@ use amqp_read::Read;
 use amqp_types::Descriptor;
 use std::alloc::Global;
 
+/// Whether two descriptors are the same.
+#[inline(always)]
+pub(crate) fn is_same(wanted: &Descriptor, found: &Descriptor) -> bool
+    ensures { result ≡ same_descriptor (descriptor_of wanted.now) (descriptor_of found.now) }
+{
+    match wanted {
+        Descriptor::Name(name) => match found {
+            Descriptor::Name(other) => name.as_str() == other.as_str(),
+            Descriptor::Code(_) => false,
+        },
+        Descriptor::Code(code) => match found {
+            Descriptor::Name(_) => false,
+            Descriptor::Code(other) => *code == *other,
+        },
+    }
+}
+
 /// Whether a descriptor is the one that is wanted.
 #[inline(always)]
 pub(crate) fn is_wanted(wanted: &Descriptor, found: Descriptor) -> bool
     ensures { result ≡ same_descriptor (descriptor_of wanted.now) (descriptor_of found) }
 {
-    match wanted {
-        Descriptor::Name(name) => match &found {
-            Descriptor::Name(other) => name.as_str() == other.as_str(),
-            Descriptor::Code(_) => false,
-        },
-        Descriptor::Code(code) => match &found {
-            Descriptor::Name(_) => false,
-            Descriptor::Code(other) => *code == *other,
-        },
-    }
+    is_same(wanted, &found)
 }
 
 /// Whether a code is a list's.

@@ -163,8 +163,9 @@ impl<R: Read> Deserializer<R> {
         variants: &S,
     ) -> Result<S::Value, Error>
         ensures ok { IfOk result (λ v. ListRead (S.variants variants.now) v self.old self.new) }
-        ensures err { IfErr result (λ e. Missed (takes_in_list (S.variants variants.now).takes) true
-            R.buffers self.old self.new e) }
+        ensures err { IfErr result (λ e.
+            Missed (takes_in_list (S.variants variants.now).takes) true R.buffers
+            self.old self.new e) }
         ensures named { IfErr result (λ e. Named (opened_refusal list_data
             (pair_refusal (not_two code) (S.variants variants.now).refuses)) true R.buffers
             self.old self.new e) }

@@ -160,13 +160,13 @@ impl<R: Read> Deserializer<R> {
     }
 }
 
+#[tactic(auto, unfolding(crate::specs::ReadParts::open_list, crate::specs::ReadParts::open_seq))]
 impl<'a, R: Read> SeqAccess<'a, R> {
     /// The next part; `None` where all were read, and then nothing is consumed.
     ///
     /// Its refusals are those of `ListAccess::next_element`, and each of them ends the access and
     /// its deserializer.
     #[inline(always)]
-    #[tactic(auto, unfolding(crate::specs::ReadParts::open_list, crate::specs::ReadParts::open_seq))]
     pub fn next_element<T: Deserialize<R>>(&mut self, alloc: Global) -> Result<Option<T>, Error>
         ensures same_reference { (lender_of self.new).ghost_name ≡
             (lender_of self.old).ghost_name }
@@ -179,6 +179,21 @@ impl<'a, R: Read> SeqAccess<'a, R> {
         }
     }
 
+    /// The parts that are left, whichever form they stand in. Generic code that returns early reads
+    /// through these.
+    #[inline(always)]
+    pub fn into_elements(self) -> ListAccess<'a, R>
+        ensures same_reference { result.de.ghost_name ≡ (lender_of self.entry).ghost_name }
+        ensures value { open_list result ≡ open_seq self.entry }
+    {
+        match self {
+            SeqAccess::List(list) => list,
+            SeqAccess::Array(array) => array,
+        }
+    }
+}
+
+impl<'a, R: Read> SeqAccess<'a, R> {
     /// Ends the access where all parts were read: the deserializer reads on behind it. Nothing is
     /// consumed.
     ///
@@ -197,20 +212,6 @@ impl<'a, R: Read> SeqAccess<'a, R> {
         match self {
             SeqAccess::List(list) => list.closed(),
             SeqAccess::Array(array) => array.closed(),
-        }
-    }
-
-    /// The parts that are left, whichever form they stand in. Generic code that returns early reads
-    /// through these.
-    #[inline(always)]
-    #[tactic(auto, unfolding(crate::specs::ReadParts::open_list, crate::specs::ReadParts::open_seq))]
-    pub fn into_elements(self) -> ListAccess<'a, R>
-        ensures same_reference { result.de.ghost_name ≡ (lender_of self.entry).ghost_name }
-        ensures value { open_list result ≡ open_seq self.entry }
-    {
-        match self {
-            SeqAccess::List(list) => list,
-            SeqAccess::Array(array) => array,
         }
     }
 }

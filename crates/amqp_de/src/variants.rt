@@ -416,8 +416,9 @@ impl<R: Read> Deserializer<R> {
 
     /// Which variant stands there.
     pub(crate) fn open_variant(&mut self, alloc: Global, tagging: Tagging) -> Result<Opened, Error>
-        ensures ok { IfOk result (λ o. VariantRead (tagging_of tagging) (identifier_of o.identifier)
-            (payload_of o.payload) self.old (at_open self.new o.inner)) }
+        ensures ok { IfOk result (λ o.
+            VariantRead (tagging_of tagging) (identifier_of o.identifier) (payload_of o.payload)
+            self.old (at_open self.new o.inner)) }
         ensures err { IfErr result (λ e.
             NoVariant (tagging_of tagging) R.buffers self.old self.new e) }
     {

@@ -153,7 +153,8 @@ impl Buffer {
         ensures len { IfOk result (λ got.
             length self.new.unread ≡ length self.old.unread + got) }
         ensures end { IfOk result (λ got.
-            got ≡ 0 → 0 < n → IsTrue (S.is_honest source.old) → IsAtEnd (S.remaining source.old)) }
+            got ≡ 0 → 0 < n → IsTrue (S.is_honest source.old) →
+            IsAtEnd (S.remaining source.old)) }
         ensures kept { OnErr result (self.new.unread ≡ self.old.unread) }
         ensures moved { self.new.moved + self.new.start ≤ self.old.moved + self.old.start }
         ensures most { self.new.most ≡ max self.old.most (length self.new.unread) }

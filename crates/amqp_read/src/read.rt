@@ -1,8 +1,8 @@
 //! What every reader does.
 
-ghost use Rattle.std.specs.Prelude.{◌≡◌, ◌≢◌, ◌⊎◌, ◌+◌, ◌^◌, ◌<◌, ◌≤◌};
-ghost use Rattle.std.specs.Prelude.{ℕ, Bool, true, false, IsTrue, List, [], ◌∷◌, length};
-ghost use Rattle.std.specs.Prelude.{take, OnOk, OnErr, IfOk, IfErr, MatchOption, string_bytes};
+ghost use Rattle.std.specs.Prelude.{◌≡◌, ◌≢◌, ◌⊎◌, ◌+◌, ◌^◌, ◌<◌};
+ghost use Rattle.std.specs.Prelude.{◌≤◌, ℕ, Bool, true, false, IsTrue, List, [], ◌∷◌};
+ghost use Rattle.std.specs.Prelude.{length, take, OnOk, OnErr, IfOk, IfErr, MatchOption, string_bytes};
 ghost use Rattle.amqp_read.specs.Reading.{Reading, Stays, Takes};
 ghost use Rattle.amqp_read.specs.Steps.{Shows, MayCome, Ended, IsShort, Fails, NotTaken};
 ghost use Rattle.amqp_read.specs.Steps.{PassesCount, Holds, Looked, AtHand, ShowsBehind, NotSeen};

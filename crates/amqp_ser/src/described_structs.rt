@@ -81,8 +81,8 @@ impl<W: Sink> Serializer<W> {
             IfErr result (λ e. Refused (state W.Write W.FaultCount self.old)
             (described_struct (descriptor_of descriptor.now) whole.now.name.now
             (F.items whole.now.fields)) e (state W.Write W.FaultCount self.new)) }
-        ensures uncalled { (is_body_name whole.now.name.now && F.usual whole.now.fields) ≡ false →
-            result ≡ Err Error.InvalidValue }
+        ensures uncalled { (is_body_name whole.now.name.now && F.usual whole.now.fields)
+            ≡ false → result ≡ Err Error.InvalidValue }
         ensures stops { Stops (state W.Write W.FaultCount self.old) result
             (state W.Write W.FaultCount self.new) }
     {

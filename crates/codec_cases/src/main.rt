@@ -1,7 +1,7 @@
 //! Answers lines of a type and bytes: reads a value of the type at the front of the bytes in each
-//! way there is, and prints its canonical text, written in each way, and how many bytes stand behind
-//! it, or the refusal. It has no contracts, and knows more types than the probe: its stored run is a
-//! table of cases.
+//! way there is, and prints its canonical text, written in each way, and how many bytes stand
+//! behind it, or the refusal. It has no contracts, and knows more types than the probe: its stored
+//! run is a table of cases.
 #![tactic(auto)]
 
 mod answer;

@@ -1,5 +1,5 @@
-//! The canonical text of a value that was read, written in each way. A call that is refused for want
-//! of memory is made once more.
+//! The canonical text of a value that was read, written in each way. A call that is refused for
+//! want of memory is made once more.
 
 use crate::answer::{Answer, is_refused, name_of};
 use serde_amqp::{Error, Serialize, Serializer, Sink, serialized_size, to_vec, to_writer};
@@ -65,7 +65,8 @@ fn is_sized_again<T: Serialize>(alloc: Global, value: &T, size: usize) -> bool {
     }
 }
 
-/// A serializer over a vector and `to_writer` write the text, each once more where memory is wanting.
+/// A serializer over a vector and `to_writer` write the text, each once more where memory is
+/// wanting.
 fn is_written<T: Serialize>(alloc: Global, value: &T, text: &[u8]) -> bool {
     let is_appended = match appended(alloc, value, text) {
         Err(Answer::OutOfMemory) => appended(alloc, value, text).is_ok(),

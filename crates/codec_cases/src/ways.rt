@@ -1,5 +1,5 @@
-//! The ways in which a value is read: from a slice, and from sources that give so many bytes a read.
-//! What is refused for want of memory is read once more.
+//! The ways in which a value is read: from a slice, and from sources that give so many bytes a
+//! read. What is refused for want of memory is read once more.
 
 use crate::answer::{Answer, is_refused};
 use crate::kind::{Kind, Lent, Own, Owned};

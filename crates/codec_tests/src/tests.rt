@@ -1,7 +1,7 @@
 //! A file a family of types or calls, written and read; `answer`, `asked`, `bytes`, `calls`,
-//! `made`, `pieces`, `puts` and `written` hold what the tests of all families call. A row of `calls`
-//! or `puts` is one call of the codec, which stands there once: its contract is dear in each function
-//! that calls it.
+//! `made`, `pieces`, `puts` and `written` hold what the tests of all families call. A row of
+//! `calls` or `puts` is one call of the codec, which stands there once: its contract is dear in
+//! each function that calls it.
 
 mod answer;
 mod array_calls;

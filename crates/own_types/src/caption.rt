@@ -24,7 +24,8 @@ impl Typed for Caption {
     ghost meaning = { struct_of (row_of (
         at (codes "title") ⟦<String as Typed>⟧.meaning (λ v. v.title) ∷
         at (codes "picture") ⟦<Ignored as Typed>⟧.meaning (λ v. v.picture) ∷
-        at (codes "tags") ⟦<BTreeMap<Symbol, Ignored> as Typed>⟧.meaning (λ v. v.tags) ∷ [])) };
+        at (codes "tags") ⟦<BTreeMap<Symbol, Ignored> as Typed>⟧.meaning (λ v. v.tags) ∷
+        [])) };
 }
 
 impl<R: Read> Deserialize<R> for Caption {

@@ -52,7 +52,8 @@ impl FromVariant for Enumeration {
 
     fn from_variant(found: Self::Found) -> Enumeration {
         variant_of!(found, Enumeration {
-            UnitVariant, NewTypeVariant(value), TupleVariant(a, b, c), StructVariant { id, is_true },
+            UnitVariant, NewTypeVariant(value),
+            TupleVariant(a, b, c), StructVariant { id, is_true },
         })
     }
 }

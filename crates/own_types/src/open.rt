@@ -30,8 +30,10 @@ impl Typed for Open {
     ghost meaning = { described_list_of (code 0x10) (row_of (
         at (codes "container_id") ⟦<String as Typed>⟧.meaning (λ v. v.container_id) ∷
         at (codes "hostname") ⟦<Option<String> as Typed>⟧.meaning (λ v. v.hostname) ∷
-        at (codes "max_frame_size") ⟦<Option<u32> as Typed>⟧.meaning (λ v. v.max_frame_size) ∷
-        at (codes "channel_max") ⟦<Option<u16> as Typed>⟧.meaning (λ v. v.channel_max) ∷ [])) };
+        at (codes "max_frame_size") ⟦<Option<u32> as Typed>⟧.meaning
+        (λ v. v.max_frame_size) ∷
+        at (codes "channel_max") ⟦<Option<u16> as Typed>⟧.meaning (λ v. v.channel_max) ∷
+        [])) };
 }
 
 impl RoundTrip for Open {

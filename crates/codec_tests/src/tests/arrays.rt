@@ -1,5 +1,5 @@
-//! Arrays as they are written, and the most elements that are read. Every form and refusal is a line
-//! of the stored runs.
+//! Arrays as they are written, and the most elements that are read. Every form and refusal is a
+//! line of the stored runs.
 
 use super::answer::Answer;
 use super::bytes::{is_array, is_made_as, is_made_read, is_read_as, is_unwritten, refuses};

@@ -1,5 +1,5 @@
-//! Described values as they are written, alone, in arrays and in each other. What is read as one, and
-//! what isn't, are lines of the stored runs.
+//! Described values as they are written, alone, in arrays and in each other. What is read as one,
+//! and what isn't, are lines of the stored runs.
 
 use super::answer::Answer;
 use super::bytes::{is_made_as, is_made_read, is_unwritten};

@@ -1,5 +1,5 @@
-//! Lists: `Vec` as it is written, the most elements that are read, and lists part by part. Every form
-//! and refusal is a line of the stored runs.
+//! Lists: `Vec` as it is written, the most elements that are read, and lists part by part. Every
+//! form and refusal is a line of the stored runs.
 
 use super::answer::Answer;
 use super::bytes::{is_front, is_made_as, refuses};

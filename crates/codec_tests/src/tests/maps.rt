@@ -1,5 +1,5 @@
-//! Maps, `OrderedMap` and `BTreeMap`, as they are written, and the most pairs that are read. Every form
-//! and refusal, and what becomes of a repeated key, are lines of the stored runs.
+//! Maps, `OrderedMap` and `BTreeMap`, as they are written, and the most pairs that are read. Every
+//! form and refusal, and what becomes of a repeated key, are lines of the stored runs.
 
 use super::answer::{Answer, told};
 use super::asked::{Asked, taken};
@@ -83,6 +83,16 @@ const UINTS: &[(&[(u32, u32)], &[u8])] = &[
     ),
 ];
 
+/// These pairs sorted, the last of those with one key.
+fn sorted_uints(alloc: Global, pairs: &[(u32, u32)]) -> Option<BTreeMap<u32, u32>> {
+    let mut map = BTreeMap::new(alloc);
+    let mut are_taken = true;
+    for (key, value) in pairs {
+        are_taken = map.insert(*key, *value).is_ok() && are_taken;
+    }
+    if are_taken { Some(map) } else { None }
+}
+
 #[test]
 fn a_map_keeps_the_order_of_its_keys(rt: HostRuntime) {
     let alloc = rt.alloc();
@@ -90,6 +100,9 @@ fn a_map_keeps_the_order_of_its_keys(rt: HostRuntime) {
         assert!(rt; is_made_as(alloc, map(alloc, pairs), bytes));
     }
     assert!(rt; is_made_as(alloc, map(alloc, &[(0u32, true)]), b"\xc1\x03\x02\x43\x41"));
+    let in_order = b"\xc1\x0c\x06\x52\x05\x52\x01\x52\x06\x52\x02\x52\x07\x43";
+    let again = sorted_uints(alloc, &[(7, 3), (5, 1), (6, 2), (7, 0)]);
+    assert!(rt; is_made_as(alloc, again, in_order));
 }
 
 /// A map32 of so many pairs, from each number to null.

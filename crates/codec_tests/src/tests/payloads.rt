@@ -1,5 +1,5 @@
-//! Binaries, strings and symbols, as they are written and by their calls. Every form and refusal is a
-//! line of the stored runs.
+//! Binaries, strings and symbols, as they are written and by their calls. Every form and refusal is
+//! a line of the stored runs.
 
 use super::bytes::{is_made_as, is_read_as, is_written_as};
 use super::calls::{Call, goes};

@@ -1,5 +1,5 @@
-//! Booleans, characters and null, as they are written and by their calls. Every form and refusal is a
-//! line of the stored runs.
+//! Booleans, characters and null, as they are written and by their calls. Every form and refusal is
+//! a line of the stored runs.
 
 use super::bytes::are_written;
 use super::calls::{Call, goes};

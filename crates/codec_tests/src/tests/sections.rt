@@ -1,5 +1,6 @@
 //! Sections of messages (part 3, section 3.2), as types of one's own: a value and a map behind a
-//! descriptor, as they are written. What is read as one, and what isn't, are lines of the stored runs.
+//! descriptor, as they are written. What is read as one, and what isn't, are lines of the stored
+//! runs.
 
 use super::bytes::is_made_as;
 use super::made::{array, both, list, string};

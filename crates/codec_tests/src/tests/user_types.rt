@@ -1,5 +1,5 @@
-//! Types of one's own, by the public contracts alone. What is read as one, and what isn't, are lines
-//! of the stored runs; here stand the fields of those that are read.
+//! Types of one's own, by the public contracts alone. What is read as one, and what isn't, are
+//! lines of the stored runs; here stand the fields of those that are read.
 
 use super::answer::Answer;
 use super::bytes::{is_made_as, is_written_as};
