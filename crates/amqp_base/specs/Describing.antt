@@ -70,6 +70,21 @@ describing_at custom bare s = byte_at s >>= λ b. describing_behind custom b.0 b
 describing_at custom (under e) s = Err InvalidFormatCode
 describing_at custom (under_pair d e) s = Ok (record { descriptor = d; stands = under e }, s)
 
+-- no descriptor is seen there
+abbrev pub undescribed : Refusing
+undescribed c s e = describing_at InvalidFormatCode c s ≡ Err e
+
+-- a descriptor is seen there, and this is so of it
+pub record DescriptorStands (later : Descriptor → Type 0) (c : Constructor) (s : List ℕ) : Type 0 where
+  pub found : BehindDescriptor
+  pub rest : List ℕ
+  pub header : describing_at InvalidFormatCode c s ≡ Ok (found, rest)
+  pub behind : later found.descriptor
+
+-- as no descriptor is seen there, or as an item behind this one is refused
+unfoldable pub by_descriptor_refusal : (Descriptor → Refusing) → Refusing
+by_descriptor_refusal refuses c s e = undescribed c s e ⊎ DescriptorStands (λ d. refuses d c s e) c s
+
 -- a descriptor stands there, and what follows it is so
 pub record DescribedThen (later : BehindDescriptor → List ℕ → Type 0) (c : Constructor) (s : List ℕ) : Type 0 where
   pub found : BehindDescriptor

@@ -7,8 +7,10 @@ use Rattle.amqp_base.specs.declared.format_code.EncodingCodes.{EncodingCodes}
 use Rattle.amqp_base.specs.declared.format_code.EncodingCodes.TheVariants.{List0}
 use Rattle.amqp_base.specs.declared.shape.Shape.{Shape}
 use Rattle.amqp_base.specs.Codes.{Kind, row}
+use Rattle.amqp_base.specs.Describing.{by_descriptor_refusal}
 use Rattle.amqp_base.specs.Item.{Item, Scalar, scalar, list, map, array, described, uint, ulong, string, symbol, Items, none, more, in_turn}
 use Rattle.amqp_base.specs.Parse.{code_at, list_data, map_data}
+use Rattle.amqp_base.specs.Refusals.{IsMessage}
 use Rattle.amqp_base.specs.Refusing.{Refusing, PartsRefusing, scalar_refusal, opened_refusal, one_or_other}
 use Rattle.amqp_base.specs.Shapes.{whole}
 use Rattle.amqp_base.specs.Wire.{Constructor, bare, Wire, lenient}
@@ -136,12 +138,18 @@ pair_refusal other held n s e = one_or_other (n == 2) (key_refusal bare s e ⊎ 
 abbrev pub alone_refusal : (Key → Error → Type 0) → Refusing
 alone_refusal alone c s e = key_refusal c s e ⊎ KeyThen c (λ key rest. alone key e) s
 
--- an enum: by its code; a map and a list as a pair; any other item as a key alone
+-- a described item is none of an enum's: by its descriptor, or as a message where one stands there
+abbrev pub no_variant_refusal : Refusing
+no_variant_refusal = by_descriptor_refusal (λ d c s e. IsMessage e)
+
+-- an enum: by its code; a map and a list as a pair; a described item by its descriptor; any other item as a key alone
 pub data EnumRefused (alone : Key → Error → Type 0) (held : Key → Refusing) (c : Constructor) (s : List ℕ) (e : Error) : Type 0 where
   no_item : code_at c s ≡ Err e → EnumRefused alone held c s e
   of_map : (x : EncodingCodes) (rest : List ℕ) → code_at c s ≡ Ok (x, rest) → (row x).kind ≡ Kind.map → opened_refusal map_data (pair_refusal InvalidLength held) c s e → EnumRefused alone held c s e
   of_list : (x : EncodingCodes) (rest : List ℕ) → code_at c s ≡ Ok (x, rest) → (row x).kind ≡ Kind.list → opened_refusal list_data (pair_refusal (not_two x) held) c s e → EnumRefused alone held c s e
-  of_key : (x : EncodingCodes) (rest : List ℕ) → code_at c s ≡ Ok (x, rest) → ((row x).kind ≡ Kind.map → ⊥) → ((row x).kind ≡ Kind.list → ⊥) → alone_refusal alone c s e → EnumRefused alone held c s e
+  of_described : (x : EncodingCodes) (rest : List ℕ) → code_at c s ≡ Ok (x, rest) → (row x).kind ≡ Kind.described → no_variant_refusal c s e → EnumRefused alone held c s e
+  of_key : (x : EncodingCodes) (rest : List ℕ) → code_at c s ≡ Ok (x, rest) → ((row x).kind ≡ Kind.map → ⊥) → ((row x).kind ≡ Kind.list → ⊥) → ((row x).kind ≡ Kind.described → ⊥) → alone_refusal alone c s e
+      → EnumRefused alone held c s e
 
 abbrev pub enum_refusal : (Key → Error → Type 0) → (Key → Refusing) → Refusing
 enum_refusal alone held = EnumRefused alone held

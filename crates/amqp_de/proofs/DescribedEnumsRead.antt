@@ -5,7 +5,7 @@ use Rattle.amqp_base.specs.declared.error.Error.TheVariants.{InvalidFormatCode}
 use Rattle.amqp_base.specs.declared.format_code.EncodingCodes.{EncodingCodes}
 use Rattle.amqp_base.specs.declared.format_code.EncodingCodes.TheVariants.{DescribedType}
 use Rattle.amqp_base.specs.Codes.{row, code_of}
-use Rattle.amqp_base.specs.Describing.{is_described, describing_at}
+use Rattle.amqp_base.specs.Describing.{is_described, describing_at, undescribed, DescriptorStands, by_descriptor_refusal}
 use Rattle.amqp_base.specs.Item.{Item, scalar, list, map, array, described, Descriptor}
 use Rattle.amqp_base.specs.Parse.{Parsed, ◌>>=◌, with_rest, any_code, code_or_refusal, code_at}
 use Rattle.amqp_base.specs.Wire.{Constructor, bare, under, under_pair, Wire, lenient}
@@ -13,7 +13,7 @@ use Rattle.amqp_data.specs.Excuses.{Excused}
 use Rattle.amqp_data.proofs.Readings.{advances_then, stayed, excused_more}
 use Rattle.amqp_data.proofs.Received.{keeps_known, may_known, may_be_taken}
 use Rattle.amqp_de.specs.Decoding.{Decoding, stands_under, as_ended}
-use Rattle.amqp_de.specs.DescribedEnums.{VariantsBehind, takes_by_descriptor, means_by_descriptor, undescribed, DescriptorStands, by_descriptor_refusal, BehindRead, BehindRefused, BehindNamed, DescribedRead, DescribedRefused, DescribedNamed}
+use Rattle.amqp_de.specs.DescribedEnums.{VariantsBehind, takes_by_descriptor, means_by_descriptor, BehindRead, BehindRefused, BehindNamed, DescribedRead, DescribedRefused, DescribedNamed}
 use Rattle.amqp_de.specs.Identifies.{any_item, DescriptorUnseen, IsBehind, ShowsDescribed}
 use Rattle.amqp_de.specs.Law.{Front, Missed, Named, Spent, free, refused_free}
 use Rattle.amqp_de.specs.Look.{Looks, LooksNot}

@@ -13,13 +13,14 @@ use Rattle.amqp_base.specs.Item.{Item, Scalar, null, scalar, list, map, array, d
 use Rattle.amqp_base.specs.Parse.{Parsed, code_at, list_data, map_data}
 use Rattle.amqp_base.specs.Refusals.{IsDevice}
 use Rattle.amqp_base.specs.Refusing.{Refusing, PartsRefusing, opened_refusal}
-use Rattle.amqp_base.specs.VariantItems.{Key, key_of, by_key, takes_two, means_two, takes_enum, means_enum, is_first, key_refusal, pair_refusal, alone_refusal, not_two, enum_refusal, no_item, of_map, of_list, of_key}
+use Rattle.amqp_base.specs.VariantItems.{Key, key_of, by_key, takes_two, means_two, takes_enum, means_enum, is_first, key_refusal, pair_refusal, alone_refusal, not_two, enum_refusal, no_variant_refusal, no_item, of_map, of_list, of_described, of_key}
 use Rattle.amqp_base.specs.Wire.{Constructor, bare, Wire, lenient}
 use Rattle.amqp_data.specs.Excuses.{Excused, no_memory}
 use Rattle.amqp_data.specs.Parts.{HasParts, HasPairs}
 use Rattle.amqp_data.proofs.Readings.{behind, excused_more}
 use Rattle.amqp_de.specs.Access.{Listing, Opens, OpensExactly, Part, Plain, AllRead}
 use Rattle.amqp_de.specs.Decoding.{Decoding, stands_under, as_ended}
+use Rattle.amqp_de.specs.DescribedEnums.{none_behind, takes_by_descriptor}
 use Rattle.amqp_de.specs.Law.{Front, Found, Missed, Named}
 use Rattle.amqp_de.specs.Look.{item_kind, Looks, LooksNot}
 use Rattle.amqp_de.specs.ReadParts.{PartsRead}
@@ -218,6 +219,10 @@ scalar_no_list : (v : Scalar) → Kind.list ≡ kind_of v → ⊥
 scalar_no_list null h = absurd cc
 scalar_no_list _ h = absurd cc
 
+scalar_not_described : (v : Scalar) → Kind.described ≡ kind_of v → ⊥
+scalar_not_described null h = absurd cc
+scalar_not_described _ h = absurd cc
+
 -- ---- the three forms
 
 module _ {S : Type 0} (row : Variants S) where
@@ -298,6 +303,14 @@ module _ {S : Type 0} (row : Variants S) where
   enum_in_list k (array is) a h t = absurd cc
   enum_in_list k (described d x) a h t = absurd cc
 
+  enum_behind : (k : Kind) (i : Item) → k ≡ Kind.described → k ≡ item_kind i → IsTrue (takes_enum row.takes i) → IsTrue (takes_by_descriptor none_behind.takes i)
+  unfolding takes_enum
+  enum_behind k (described d x) a h t = absurd cc
+  enum_behind k (scalar x) a h t = absurd (scalar_not_described x (sym a ∙ h))
+  enum_behind k (list is) a h t = let q : Kind.described ≡ Kind.list = sym a ∙ h in absurd cc q
+  enum_behind k (map ps) a h t = let q : Kind.described ≡ Kind.map = sym a ∙ h in absurd cc q
+  enum_behind k (array is) a h t = absurd cc
+
   -- an enum that was looked at first
   module _ (buffers : Bool) (old mid new : Decoding) (x : EncodingCodes) (l : Looks old mid x) where
     pub found_alone : (s : S) → AloneRead row s mid new → VariantRead row s old new
@@ -316,6 +329,9 @@ module _ {S : Type 0} (row : Variants S) where
       pub missed_in_map : (codes.row x).kind ≡ Kind.map → Missed (takes_in_map row.takes) true buffers mid new e → VariantRefused row buffers old new e
       missed_in_map a m = missed_of_kind (takes_in_map row.takes) (takes_enum row.takes) true true buffers old mid new x e (λ h. h) (λ i h t. enum_in_map (codes.row x).kind i a h t) l m
 
+      pub missed_behind : (codes.row x).kind ≡ Kind.described → Missed (takes_by_descriptor none_behind.takes) true buffers mid new e → VariantRefused row buffers old new e
+      missed_behind a m = missed_of_kind (takes_by_descriptor none_behind.takes) (takes_enum row.takes) true true buffers old mid new x e (λ h. h) (λ i h t. enum_behind (codes.row x).kind i a h t) l m
+
       pub missed_in_list : (codes.row x).kind ≡ Kind.list → Missed (takes_in_list row.takes) true buffers mid new e → VariantRefused row buffers old new e
       missed_in_list a m = missed_of_kind (takes_in_list row.takes) (takes_enum row.takes) true true buffers old mid new x e (λ h. h) (λ i h t. enum_in_list (codes.row x).kind i a h t) l m
 
@@ -329,11 +345,14 @@ module _ {S : Type 0} (row : Variants S) where
           tell s rest c (inl p) = inl (wider (stands_under old) s rest c p)
           tell s rest c (inr y) = inr y
 
-      pub named_alone : ((codes.row x).kind ≡ Kind.map → ⊥) → ((codes.row x).kind ≡ Kind.list → ⊥) → Named (alone_refusal row.refuses_alone) true buffers mid new e → VariantNamed row buffers old new e
-      named_alone a b n = looked (alone_refusal row.refuses_alone) (λ c s rest h p. of_key x rest h a b p) n
+      pub named_alone : ((codes.row x).kind ≡ Kind.map → ⊥) → ((codes.row x).kind ≡ Kind.list → ⊥) → ((codes.row x).kind ≡ Kind.described → ⊥) → Named (alone_refusal row.refuses_alone) true buffers mid new e → VariantNamed row buffers old new e
+      named_alone a b d n = looked (alone_refusal row.refuses_alone) (λ c s rest h p. of_key x rest h a b d p) n
 
       pub named_in_map : (codes.row x).kind ≡ Kind.map → Named (opened_refusal map_data (pair_refusal InvalidLength row.refuses)) true buffers mid new e → VariantNamed row buffers old new e
       named_in_map a n = looked (opened_refusal map_data (pair_refusal InvalidLength row.refuses)) (λ c s rest h p. of_map x rest h a p) n
+
+      pub named_behind_none : (codes.row x).kind ≡ Kind.described → Named no_variant_refusal true buffers mid new e → VariantNamed row buffers old new e
+      named_behind_none a n = looked no_variant_refusal (λ c s rest h p. of_described x rest h a p) n
 
       pub named_in_list : (codes.row x).kind ≡ Kind.list → Named (opened_refusal list_data (pair_refusal (not_two x) row.refuses)) true buffers mid new e → VariantNamed row buffers old new e
       named_in_list a n = looked (opened_refusal list_data (pair_refusal (not_two x) row.refuses)) (λ c s rest h p. of_list x rest h a p) n

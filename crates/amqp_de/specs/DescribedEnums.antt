@@ -1,21 +1,19 @@
 -- An enum whose variants stand behind descriptors of their own, by which they are told (1.1.2, 1.2).
-use Rattle.std.specs.Prelude.{if◌then◌else◌, ◌≡◌, ◌⊎◌, ℕ, Bool, true, false, ◌&&◌, IsTrue, List, Option, Some, None, Ok, Err}
+use Rattle.std.specs.Prelude.{if◌then◌else◌, ◌≡◌, Bool, true, false, ◌&&◌, IsTrue, Option, Some, None}
 use Rattle.std.proofs.Common.{refl}
 use Rattle.amqp_base.specs.declared.error.Error.{Error}
-use Rattle.amqp_base.specs.declared.error.Error.TheVariants.{InvalidFormatCode}
 use Rattle.amqp_base.specs.declared.one_of.OneOf.{OneOf}
 use Rattle.amqp_base.specs.declared.one_of.OneOf.TheVariants.{This, Other}
 use Rattle.amqp_base.specs.declared.one_of.NoVariant.{NoVariant}
 use Rattle.amqp_base.specs.declared.shape.Setting.TheVariants.{Plain}
 use Rattle.amqp_base.specs.Canon.{same_descriptor}
-use Rattle.amqp_base.specs.Describing.{BehindDescriptor, describing_at, same_as_itself}
+use Rattle.amqp_base.specs.Describing.{same_as_itself, by_descriptor_refusal}
 use Rattle.amqp_base.specs.Enums.{of_one, same_one, takes_one, means_one, one_in, sound_one}
 use Rattle.amqp_base.specs.Item.{Descriptor, Item, scalar, list, map, array, described}
 use Rattle.amqp_base.specs.Meaning.{Meaning, first_of, second_of}
 use Rattle.amqp_base.specs.Refusals.{IsMessage}
 use Rattle.amqp_base.specs.Refusing.{Refusing, one_or_other}
 use Rattle.amqp_base.specs.Typing.{OneValue, is_null}
-use Rattle.amqp_base.specs.Wire.{Constructor}
 use Rattle.amqp_de.specs.Decoding.{Decoding}
 use Rattle.amqp_de.specs.Law.{Found, Missed, Named}
 
@@ -55,23 +53,6 @@ means_by_descriptor means (scalar v) = ⊥
 means_by_descriptor means (list is) = ⊥
 means_by_descriptor means (map ps) = ⊥
 means_by_descriptor means (array is) = ⊥
-
--- ---- what is refused
-
--- no descriptor stands there
-abbrev pub undescribed : Refusing
-undescribed c s e = describing_at InvalidFormatCode c s ≡ Err e
-
--- a descriptor stands there, and this is so of it
-pub record DescriptorStands (later : Descriptor → Type 0) (c : Constructor) (s : List ℕ) : Type 0 where
-  pub found : BehindDescriptor
-  pub rest : List ℕ
-  pub header : describing_at InvalidFormatCode c s ≡ Ok (found, rest)
-  pub behind : later found.descriptor
-
--- as no descriptor stands there, or as an item behind this one is refused
-unfoldable pub by_descriptor_refusal : (Descriptor → Refusing) → Refusing
-by_descriptor_refusal refuses c s e = undescribed c s e ⊎ DescriptorStands (λ d. refuses d c s e) c s
 
 module _ {S : Type 0} (row : VariantsBehind S) where
   -- the item at the front, behind this descriptor, was read as one of the variants; it was refused, and by name

@@ -1,13 +1,13 @@
 //! Enums whose variants stand behind descriptors of their own, by which they are told.
 
-ghost use Rattle.std.specs.Prelude.{◌≡◌, true, IfOk, IfErr, codes};
-ghost use Rattle.amqp_base.specs.Describing.{is_described, describing_at};
+ghost use Rattle.std.specs.Prelude.{◌≡◌, true, false, IsTrue, IfOk, IfErr, codes};
+ghost use Rattle.amqp_base.specs.Codes.{Kind, row};
+ghost use Rattle.amqp_base.specs.Describing.{is_described, describing_at, undescribed};
 ghost use Rattle.amqp_base.specs.Refusals.{IsCustom};
 ghost use Rattle.amqp_base.specs.declared.error.Error.TheVariants.{InvalidFormatCode};
 ghost use Rattle.amqp_de.specs.DescribedEnums.{none_behind, first_behind};
 ghost use Rattle.amqp_de.specs.DescribedEnums.{BehindRead, BehindRefused, BehindNamed};
 ghost use Rattle.amqp_de.specs.DescribedEnums.{DescribedRead, DescribedRefused, DescribedNamed};
-ghost use Rattle.amqp_de.specs.DescribedEnums.{undescribed};
 ghost use Rattle.amqp_de.specs.Identifies.{ShowsDescribed};
 ghost use Rattle.amqp_de.specs.Law.{Missed, Named};
 ghost use Rattle.amqp_de.specs.Steps.{Stops};
@@ -110,6 +110,18 @@ impl<'d, R: Read, T: Deserialize<R>, Rest: DescribedVariants<R>> DescribedVarian
             Ok(other) => Ok(OneOf::Other(other)),
             Err(e) => Err(e),
         }
+    }
+}
+
+/// Whether a code is that of a described item.
+#[inline(always)]
+pub(crate) fn is_described(code: EncodingCodes) -> bool
+    ensures yes { IsTrue result → (row code).kind ≡ Kind.described }
+    ensures no { result ≡ false → (row code).kind ≡ Kind.described → ⊥ }
+{
+    match code {
+        EncodingCodes::DescribedType => true,
+        _ => false,
     }
 }
 

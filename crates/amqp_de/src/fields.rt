@@ -1,7 +1,8 @@
 //! The fields of a struct, read by their names or in order.
 
 ghost use Rattle.std.specs.Prelude.{◌≡◌, ◌+◌, ◌≤◌, ◌<◌, Bool, false, ◌||◌};
-ghost use Rattle.std.specs.Prelude.{IsTrue, Option, Some, None, List, [], ◌∷◌, ◌++◌, length, IfErr, OnOk};
+ghost use Rattle.std.specs.Prelude.{IsTrue, Option, Some, None, List, [], ◌∷◌, ◌++◌};
+ghost use Rattle.std.specs.Prelude.{length, IfErr, OnOk};
 ghost use Rattle.amqp_base.specs.Item.{Item, Items};
 ghost use Rattle.amqp_base.specs.Fields.{takes_fields};
 ghost use Rattle.amqp_de.specs.Decoding.{Decoding};

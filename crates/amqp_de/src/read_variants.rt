@@ -13,6 +13,7 @@ ghost use Rattle.amqp_de.specs.ReadVariants.{VariantRefused, VariantNamed, PairR
 ghost use Rattle.amqp_de.specs.Seq.{at_open};
 ghost use Rattle.amqp_de.specs.Steps.{Stops};
 
+use crate::described_enums::is_described;
 use crate::described_fields::is_list;
 use crate::list::Open;
 use crate::structs::is_map;
@@ -38,12 +39,14 @@ impl<R: Read> Deserializer<R> {
     /// its name, a string or a symbol.
     ///
     /// In this order: `Io(UnexpectedEof)` where there is no byte, `InvalidFormatCode` where it is
-    /// no code or that of another item, also list0; of a pair the refusals of `deserialize_map` or
-    /// of a list's header, and `InvalidLength` where its parts aren't two. Then those of the key,
-    /// and `InvalidFormatCode` where it is none, `Message` where no variant has it. Then
-    /// `InvalidFormatCode` where the key of a variant that holds a value stands alone,
-    /// `SequenceLengthMismatch` where something stands behind that of a variant that holds nothing,
-    /// else the refusals of what it holds. A refusal ends the deserializer.
+    /// no code or that of another item, also list0; of a described item, which is no variant, the
+    /// refusals of its descriptor as `deserialize_described_enum` looks at it, and `Message` where
+    /// one stands there; of a pair the refusals of `deserialize_map` or of a list's header, and
+    /// `InvalidLength` where its parts aren't two. Then those of the key, and `InvalidFormatCode`
+    /// where it is none, `Message` where no variant has it. Then `InvalidFormatCode` where the key
+    /// of a variant that holds a value stands alone, `SequenceLengthMismatch` where something
+    /// stands behind that of a variant that holds nothing, else the refusals of what it holds. A
+    /// refusal ends the deserializer.
     #[inline(always)]
     pub fn deserialize_variants<S: Variants<R>>(
         &mut self,
@@ -67,6 +70,11 @@ impl<R: Read> Deserializer<R> {
                 } else if is_list(code) {
                     match self.read_in_list(alloc, code, &variants) {
                         Ok(value) => Ok(value),
+                        Err(e) => Err(e),
+                    }
+                } else if is_described(code) {
+                    match self.deserialize_described_enum(alloc, ()) {
+                        Ok(none) => match none {},
                         Err(e) => Err(e),
                     }
                 } else {

@@ -1,7 +1,7 @@
 //! A reader over a source, which gives its bytes piece by piece.
 
-ghost use Rattle.std.specs.Prelude.{◌≡◌, ◌⊎◌, ◌<◌, ◌≤◌, ◌+◌, ◌^◌, ℕ};
-ghost use Rattle.std.specs.Prelude.{Bool, true, false, List, [], ◌∷◌, length, take};
+ghost use Rattle.std.specs.Prelude.{◌≡◌, ◌⊎◌, ◌<◌, ◌≤◌, ◌+◌, ◌^◌};
+ghost use Rattle.std.specs.Prelude.{ℕ, Bool, true, false, List, [], ◌∷◌, length, take};
 ghost use Rattle.std.specs.Prelude.{IfOk, IfErr, OnOk, OnErr, IsTrue, MatchOption};
 ghost use Rattle.std.specs.Prelude.{Some, None, slice_get, string_bytes};
 ghost use Rattle.amqp_read.specs.Texts.{NoText};

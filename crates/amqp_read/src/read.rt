@@ -2,7 +2,8 @@
 
 ghost use Rattle.std.specs.Prelude.{◌≡◌, ◌≢◌, ◌⊎◌, ◌+◌, ◌^◌, ◌<◌};
 ghost use Rattle.std.specs.Prelude.{◌≤◌, ℕ, Bool, true, false, IsTrue, List, [], ◌∷◌};
-ghost use Rattle.std.specs.Prelude.{length, take, OnOk, OnErr, IfOk, IfErr, MatchOption, string_bytes};
+ghost use Rattle.std.specs.Prelude.{length, take, OnOk, OnErr, IfOk, IfErr};
+ghost use Rattle.std.specs.Prelude.{MatchOption, string_bytes};
 ghost use Rattle.amqp_read.specs.Reading.{Reading, Stays, Takes};
 ghost use Rattle.amqp_read.specs.Steps.{Shows, MayCome, Ended, IsShort, Fails, NotTaken};
 ghost use Rattle.amqp_read.specs.Steps.{PassesCount, Holds, Looked, AtHand, ShowsBehind, NotSeen};
