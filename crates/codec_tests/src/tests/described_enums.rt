@@ -7,7 +7,7 @@ use super::made::{array, both, list, string};
 use super::pieces::cut;
 use Answer::{InvalidFormatCode, InvalidUtf8Encoding, Message};
 use own_types::{Data, Header, Section, Shipment, kept};
-use serde_amqp::de::{DescribedVariant, OneOf};
+use serde_amqp::de::{DescribedVariant, DescribedVariants, OneOf};
 use serde_amqp::primitives::{Array, Binary};
 use serde_amqp::{Counted, Descriptor, Deserializer, Error, Read, from_reader, from_slice};
 use std::alloc::Global;
@@ -227,6 +227,28 @@ impl Asked for OnlyData {
             Err(_) => false,
         }
     }
+}
+
+/// What is read behind a descriptor that was seen, by the call of the variants.
+struct Seen(u64);
+
+impl Asked for Seen {
+    fn is_answered<R: Read>(&self, alloc: Global, de: &mut Deserializer<R>) -> bool {
+        let wanted = Descriptor::Code(0x75);
+        let seen = Descriptor::Code(self.0);
+        match only_data(&wanted).behind(alloc, &seen, de) {
+            Ok(OneOf::This(data)) => data.0.as_slice() == TWO_BYTES,
+            Ok(OneOf::Other(none)) => match none {},
+            Err(_) => false,
+        }
+    }
+}
+
+#[test]
+fn a_variant_is_read_behind_the_descriptor_that_was_seen(rt: HostRuntime) {
+    let alloc = rt.alloc();
+    assert!(rt; taken(alloc, DATA, &Seen(0x75)) == Some(7));
+    assert!(rt; taken(alloc, DATA, &Seen(0x70)).is_none());
 }
 
 #[test]

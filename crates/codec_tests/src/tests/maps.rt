@@ -105,6 +105,31 @@ fn a_map_keeps_the_order_of_its_keys(rt: HostRuntime) {
     assert!(rt; is_made_as(alloc, again, in_order));
 }
 
+/// The key is there, and the value is taken under it.
+fn puts(map: &mut BTreeMap<String, i32>, key: Option<String>, value: i32) -> bool {
+    match key {
+        Some(key) => map.insert(key, value).is_ok(),
+        None => false,
+    }
+}
+
+/// {a: 1, m: 2, p: 4, q: 3}
+fn letters(alloc: Global) -> Option<BTreeMap<String, i32>> {
+    let mut map = BTreeMap::new(alloc);
+    let p = puts(&mut map, string(alloc, "p"), 4);
+    let a = puts(&mut map, string(alloc, "a"), 1);
+    let q = puts(&mut map, string(alloc, "q"), 3);
+    let m = puts(&mut map, string(alloc, "m"), 2);
+    if a && m && p && q { Some(map) } else { None }
+}
+
+#[test]
+fn a_sorted_map_of_strings_is_written_by_their_bytes(rt: HostRuntime) {
+    let alloc = rt.alloc();
+    let bytes = b"\xc1\x15\x08\xa1\x01a\x54\x01\xa1\x01m\x54\x02\xa1\x01p\x54\x04\xa1\x01q\x54\x03";
+    assert!(rt; is_made_as(alloc, letters(alloc), bytes));
+}
+
 /// A map32 of so many pairs, from each number to null.
 fn wide(alloc: Global, pairs: u32) -> Option<Vec<u8>> {
     let mut bytes = Vec::new(alloc);
