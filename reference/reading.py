@@ -354,11 +354,15 @@ class Described:
         return ("described", (descriptor, value))
 
 
-class Struct:
-    """A struct, out of the list of its fields or a map from their names."""
+class Fields:
+    """Fields by their names, in order."""
 
     def __init__(self, **fields):
         self.fields = fields
+
+
+class Struct(Fields):
+    """A struct, out of the list of its fields or a map from their names."""
 
     def read(self, reader):
         if reader.kind() == "map":
@@ -366,11 +370,8 @@ class Struct:
         return ("list", read_row(reader, list(self.fields.values())))
 
 
-class Leading:
+class Leading(Fields):
     """What stands behind a struct's descriptor: the list of its fields, of which the last may be left out."""
-
-    def __init__(self, **fields):
-        self.fields = fields
 
     def read(self, reader):
         if reader.kind() != "list":
@@ -388,11 +389,8 @@ class Leading:
         return ("list", found + [it.read(nulls) for it in types[count:]])
 
 
-class Named:
+class Named(Fields):
     """What stands behind a struct's descriptor: the map from the names of its fields."""
-
-    def __init__(self, **fields):
-        self.fields = fields
 
     def read(self, reader):
         if reader.kind() != "map":
