@@ -1,1 +1,2 @@
 pub mod OrderedMapsAlike
+pub mod MapOrder

@@ -1,6 +1,9 @@
 -- What is said of ordered maps.
 use Rattle.std.specs.Prelude.{◌≡◌, Bool, true, false, if◌then◌else◌, List, [], ◌∷◌, ◌++◌}
 use Rattle.std.proofs.Common.{refl, ap, ◌∙◌}
+use Rattle.std.specs.Prelude.{Option}
+use Rattle.std.specs.declared.cmp.Ordering.{Ordering}
+use Rattle.std.specs.Ordering.{ordering_then, partial_ordering_then}
 use Rattle.std.specs.List.{AllByRecursion, IsDistinct}
 use Rattle.std.specs.Map.{keys_of}
 use Rattle.indexmap.specs.IndexMap.{insert_entry}
@@ -10,6 +13,16 @@ use Rattle.amqp_base.specs.MapsReadBack.{EachBehind, put_again}
 -- values that are the same are equal
 abbrev pub SameAreEqual : {K : Type 0} → (K → K → Type 0) → (K → K → Bool) → Type 0
 SameAreEqual {K} same eq = (k l : K) → same k l → eq k l ≡ true
+
+-- ---- order
+
+-- the order of two pairs: that of their keys, and of their values where the keys are equal
+abbrev pub keys_first : {K V : Type 0} → (K → K → Ordering) → (V → V → Ordering) → K × V → K × V → Ordering
+keys_first P Q p q = ordering_then (P p.0 q.0) (Q p.1 q.1)
+
+-- the same where some have none
+abbrev pub keys_first_partly : {K V : Type 0} → (K → K → Option Ordering) → (V → V → Option Ordering) → K × V → K × V → Option Ordering
+keys_first_partly P Q p q = partial_ordering_then (P p.0 q.0) (Q p.1 q.1)
 
 -- ---- keys that differ
 

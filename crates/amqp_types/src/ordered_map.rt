@@ -7,8 +7,11 @@ ghost use Rattle.std.specs.Prelude.{◌≡◌, ◌==◌, ◌&&◌, ℕ, List, []
 ghost use Rattle.std.specs.Prelude.{option_copied, is_some, IfOk, OnOk, IfErr, OnErr, true, refl};
 ghost use Rattle.std.specs.Cmp.{on_per, and_per, on_equiv, and_equiv};
 ghost use Rattle.std.specs.Cmp.Lexicographic.{pointwise, lists_per, lists_equiv};
-ghost use Rattle.std.specs.List.{IsDistinct};
-ghost use Rattle.std.specs.Map.{lookup, lookup_key, keys_of, values_of};
+ghost use Rattle.std.specs.List.{IsDistinct, AllZip};
+ghost use Rattle.std.specs.Borrow.{LendsSo, sem};
+ghost use Rattle.std.specs.Option.{option_copied_mut};
+ghost use Rattle.amqp_types.specs.contracts.ordered_map.OrderedMap.{the_row};
+ghost use Rattle.std.specs.Map.{lookup, lookup_key, keys_of, values_of, set_value};
 ghost use Rattle.std.specs.Option.{option_map};
 ghost use Rattle.indexmap.specs.IndexMap.{insert_entry, insert_all};
 ghost use Rattle.indexmap.specs.IndexMap.{swap_remove_entry, shift_remove_entry};
@@ -228,6 +231,35 @@ impl<K: Eq + Hash, V> OrderedMap<K, V> {
         ensures { result.now.entries ≡ self.now }
     {
         &self.pairs
+    }
+
+    /// Another map of clones of the pairs, in the same order; `OutOfMemory` where they find no
+    /// memory, or where a key's clone isn't equal to it.
+    pub fn clone(&self, alloc: Global) -> Result<OrderedMap<K, V>, Error>
+    where
+        K: Clone,
+        V: Clone,
+        ensures ok { IfOk result (λ m.
+            AllZip (λ p q. K.is_clone p.0 q.0 × V.is_clone p.1 q.1) self.now m) }
+        ensures keys_differ { IfOk result (λ m. IsDistinct K.eq (keys_of m)) }
+        ensures err { IfErr result (λ e. e ≡ OutOfMemory) }
+    {
+        let _ = alloc;
+        Ok(OrderedMap {
+            pairs: self.pairs.clone()?,
+        })
+    }
+
+    /// The value at a key, lent to be changed.
+    pub fn get_mut(&mut self, key: &K) -> Option<&mut V>
+        ensures value { option_copied_mut result ≡ lookup (K.eq key.now) self.old }
+        ensures* writes_back { sem 𝓛 (LendsSo
+            (the_row K.row V.row K.PartialEq (record { hash_input = K.hash_input }))
+            V.row self.entry result
+            (λ n w. n ≡ set_value (K.eq key.now) self.entry.now w)
+            (λ n. n ≡ self.entry.now)) }
+    {
+        self.pairs.get_mut(key)
     }
 
     /// The map that keeps the pairs.

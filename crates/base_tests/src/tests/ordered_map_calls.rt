@@ -3,6 +3,8 @@
 use super::ordered_map::{are_pairs, inserts, is_at};
 use amqp_types::OrderedMap;
 use std::alloc::Global;
+use std::cmp::Ordering;
+use std::hash::{DefaultHasher, Hash, Hasher};
 
 /// A map without a pair takes the values 1 to 4 under 10, 20, 30 and 40.
 fn takes_four(map: &mut OrderedMap<u32, u32>) -> bool {
@@ -153,4 +155,68 @@ fn keys_values_and_pairs_of_an_ordered_map_are_in_order(rt: HostRuntime) {
     assert!(rt; gives_values(alloc, &[1, 2, 3, 4]));
     assert!(rt; gives_pairs(alloc, &pairs));
     assert!(rt; is_kept_by_another(alloc, &pairs));
+}
+
+/// A map of two pairs, put in this order.
+fn puts_two(map: &mut OrderedMap<u32, u32>, one: (u32, u32), two: (u32, u32)) -> bool {
+    let first = inserts(map, one.0, one.1, None);
+    let second = inserts(map, two.0, two.1, None);
+    first && second
+}
+
+/// How a map of the pairs 1 to 5 and 2 to 6 stands to the map of these two.
+fn stands_to(alloc: Global, one: (u32, u32), two: (u32, u32)) -> Option<Ordering> {
+    let mut first = OrderedMap::new(alloc);
+    let mut second = OrderedMap::new(alloc);
+    let is_made = puts_two(&mut first, (1, 5), (2, 6)) && puts_two(&mut second, one, two);
+    let order = first.cmp(&second);
+    if is_made && first.partial_cmp(&second) == Some(order) {
+        Some(order)
+    } else {
+        None
+    }
+}
+
+#[test]
+fn the_first_pairs_that_differ_decide_the_order_of_maps(rt: HostRuntime) {
+    let alloc = rt.alloc();
+    assert!(rt; stands_to(alloc, (1, 5), (2, 6)) == Some(Ordering::Equal));
+    assert!(rt; stands_to(alloc, (2, 6), (1, 5)) == Some(Ordering::Less));
+    assert!(rt; stands_to(alloc, (1, 4), (2, 9)) == Some(Ordering::Greater));
+    assert!(rt; stands_to(alloc, (1, 5), (2, 7)) == Some(Ordering::Less));
+}
+
+/// What a map of two pairs hashes as.
+fn hashed(alloc: Global, one: (u32, u32), two: (u32, u32)) -> Option<u64> {
+    let mut map = OrderedMap::new(alloc);
+    if !puts_two(&mut map, one, two) {
+        return None;
+    }
+    let mut state = DefaultHasher::new();
+    map.hash(&mut state);
+    Some(state.finish())
+}
+
+/// A value is written at its key, and the clone that was made before has the old one.
+fn is_written_at_its_key(alloc: Global) -> bool {
+    let mut map = OrderedMap::new(alloc);
+    let is_made = puts_two(&mut map, (1, 5), (2, 6));
+    let Ok(before) = map.clone(alloc) else {
+        return false;
+    };
+    if let Some(value) = map.get_mut(&2) {
+        *value = 9;
+    }
+    let has_no_third = map.get_mut(&3).is_none();
+    let is_kept = are_pairs(&before, &[(1, 5), (2, 6)]);
+    is_made && has_no_third && is_kept && are_pairs(&map, &[(1, 5), (2, 9)])
+}
+
+#[test]
+fn maps_are_hashed_cloned_and_written(rt: HostRuntime) {
+    let alloc = rt.alloc();
+    let same = hashed(alloc, (1, 5), (2, 6));
+    assert!(rt; same.is_some() && same == hashed(alloc, (1, 5), (2, 6)));
+    assert!(rt; same != hashed(alloc, (2, 6), (1, 5)));
+    assert!(rt; is_written_at_its_key(alloc));
 }
