@@ -214,6 +214,7 @@ impl Source for &[u8] {
 
     ghost origin = { λ _. [] };
 
+    #[inline(always)]
     fn read_some(&mut self, buf: &mut [u8]) -> Result<usize, io::ErrorKind> {
         let n = buf.len().min(self.len());
         let (front, rest) = self.split_at(n);
@@ -238,6 +239,7 @@ impl<S: Source> Source for &mut S {
 
     ghost origin = { λ s. s.ghost_name ∷ S.origin s.now };
 
+    #[inline(always)]
     fn read_some(&mut self, buf: &mut [u8]) -> Result<usize, io::ErrorKind> {
         (**self).read_some(buf)
     }

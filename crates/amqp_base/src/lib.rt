@@ -1,6 +1,8 @@
 //! The AMQP 1.0 wire: its format codes, what bytes mean, and what a type has to say of itself.
 #![tactic(auto)]
 
+#[doc(hidden)]
+pub mod codes;
 mod constants;
 mod count;
 mod encoding;

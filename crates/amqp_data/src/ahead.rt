@@ -8,7 +8,7 @@ ghost use Rattle.amqp_data.specs.Ahead.{NumberAhead, TextAhead, DataAhead, Shows
 ghost use Rattle.amqp_data.specs.Ahead.{Unseen, RejectsAhead};
 ghost use Rattle.amqp_types.specs.Descriptors.{descriptor_of};
 
-use amqp_base::Error;
+use amqp_base::{Error, codes};
 use amqp_read::Read;
 use amqp_types::{Descriptor, Symbol};
 use std::alloc::Global;
@@ -111,11 +111,11 @@ fn data_ahead<R: Read>(alloc: Global, reader: &mut R, code: u8) -> Result<Descri
         (R.reading reader.old) (R.reading reader.new) e) }
 {
     match code {
-        0xa3 => symbol_ahead(alloc, reader, code, 1),
-        0xb3 => symbol_ahead(alloc, reader, code, 4),
-        0x80 => ulong_ahead(reader, code, 8),
-        0x53 => ulong_ahead(reader, code, 1),
-        0x44 => Ok(Descriptor::Code(0)),
+        codes::SYM8 => symbol_ahead(alloc, reader, code, 1),
+        codes::SYM32 => symbol_ahead(alloc, reader, code, 4),
+        codes::ULONG => ulong_ahead(reader, code, 8),
+        codes::SMALL_ULONG => ulong_ahead(reader, code, 1),
+        codes::ULONG0 => Ok(Descriptor::Code(0)),
         _ => Err(Error::InvalidFormatCode),
     }
 }

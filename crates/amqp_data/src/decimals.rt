@@ -6,7 +6,7 @@ ghost use Rattle.amqp_data.specs.Decimals.{decimal_at, decimal};
 ghost use Rattle.amqp_base.specs.Parse.{behind_byte};
 ghost use Rattle.amqp_data.specs.Steps.{IsData, Rejects};
 
-use amqp_base::Error;
+use amqp_base::{Error, codes};
 use amqp_read::{Read, read_const_bytes};
 use amqp_types::{Dec32, Dec64, Dec128, Decimal};
 
@@ -19,15 +19,15 @@ pub fn decimal_data<R: Read>(reader: &mut R, code: u8) -> Result<Decimal, Error>
         (R.reading reader.old) (R.reading reader.new) e) }
 {
     match code {
-        0x74 => match read_const_bytes::<R, 4>(reader) {
+        codes::DECIMAL32 => match read_const_bytes::<R, 4>(reader) {
             Ok(bytes) => Ok(Decimal::Dec32(Dec32::from(bytes))),
             Err(e) => Err(e),
         },
-        0x84 => match read_const_bytes::<R, 8>(reader) {
+        codes::DECIMAL64 => match read_const_bytes::<R, 8>(reader) {
             Ok(bytes) => Ok(Decimal::Dec64(Dec64::from(bytes))),
             Err(e) => Err(e),
         },
-        0x94 => match read_const_bytes::<R, 16>(reader) {
+        codes::DECIMAL128 => match read_const_bytes::<R, 16>(reader) {
             Ok(bytes) => Ok(Decimal::Dec128(Dec128::from(bytes))),
             Err(e) => Err(e),
         },

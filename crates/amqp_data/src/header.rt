@@ -9,7 +9,7 @@ ghost use Rattle.amqp_base.specs.Parse.{map_data};
 ghost use Rattle.amqp_data.specs.Steps.{Rejects, ParsesAs};
 
 use crate::numbers::number;
-use amqp_base::{Error, MAX_ARRAY_COUNT};
+use amqp_base::{Error, MAX_ARRAY_COUNT, codes};
 use amqp_read::Read;
 
 /// The most elements of a list or an array, and keys and values of a map.
@@ -80,12 +80,12 @@ pub fn list_count<R: Read>(reader: &mut R, code: u8) -> Result<u32, Error>
         (R.reading reader.old) (R.reading reader.new) e) }
 {
     match code {
-        0x45 => Ok(0),
-        0xc0 => match header(reader, 1, false) {
+        codes::LIST0 => Ok(0),
+        codes::LIST8 => match header(reader, 1, false) {
             Ok((_, count)) => Ok(count),
             Err(e) => Err(e),
         },
-        0xd0 => match header(reader, 4, false) {
+        codes::LIST32 => match header(reader, 4, false) {
             Ok((_, count)) => Ok(count),
             Err(e) => Err(e),
         },
@@ -126,11 +126,11 @@ pub fn map_count<R: Read>(reader: &mut R, code: u8) -> Result<u32, Error>
         (R.reading reader.old) (R.reading reader.new) e) }
 {
     match code {
-        0xc1 => match map_header(reader, 1) {
+        codes::MAP8 => match map_header(reader, 1) {
             Ok((_, count)) => Ok(count),
             Err(e) => Err(e),
         },
-        0xd1 => match map_header(reader, 4) {
+        codes::MAP32 => match map_header(reader, 4) {
             Ok((_, count)) => Ok(count),
             Err(e) => Err(e),
         },

@@ -16,7 +16,7 @@ use crate::leaf::Leaf;
 use crate::numbers::byte;
 use crate::payloads::AsSymbol;
 use crate::unsigned::AsUlong;
-use amqp_base::{EncodingCodes, Error};
+use amqp_base::{EncodingCodes, Error, codes};
 use amqp_read::Read;
 use amqp_types::{Descriptor, Symbol};
 use std::alloc::Global;
@@ -73,11 +73,11 @@ fn descriptor_behind<R: Read>(alloc: Global, reader: &mut R, code: u8) -> Result
         (R.reading reader.old) (R.reading reader.new) e) }
 {
     match code {
-        0xa3 => symbol_descriptor(alloc, reader, code),
-        0xb3 => symbol_descriptor(alloc, reader, code),
-        0x80 => ulong_descriptor(reader, code),
-        0x53 => ulong_descriptor(reader, code),
-        0x44 => ulong_descriptor(reader, code),
+        codes::SYM8 => symbol_descriptor(alloc, reader, code),
+        codes::SYM32 => symbol_descriptor(alloc, reader, code),
+        codes::ULONG => ulong_descriptor(reader, code),
+        codes::SMALL_ULONG => ulong_descriptor(reader, code),
+        codes::ULONG0 => ulong_descriptor(reader, code),
         _ => match EncodingCodes::try_from(code) {
             Ok(_) => Err(Error::custom(alloc, "expected a descriptor")),
             Err(e) => Err(e),
@@ -107,7 +107,7 @@ pub fn descriptor<R: Read>(alloc: Global, reader: &mut R) -> Result<Descriptor, 
 fn primitive(byte: u8) -> Result<EncodingCodes, Error>
     ensures { PrimitiveOf byte result }
 {
-    if byte == 0 {
+    if byte == codes::DESCRIBED_TYPE {
         return Err(Error::InvalidFormatCode);
     }
     EncodingCodes::try_from(byte)
@@ -140,7 +140,7 @@ fn element_constructor<R: Read>(alloc: Global, reader: &mut R) -> Result<Constru
 {
     match byte(reader) {
         Ok(first) => {
-            if first == 0 {
+            if first == codes::DESCRIBED_TYPE {
                 return match descriptor(alloc, reader) {
                     Ok(name) => match primitive_code(reader) {
                         Ok(code) => Ok(Constructor::UnderPair(name, code)),
@@ -221,8 +221,8 @@ pub fn seq_heading<R: Read>(alloc: Global, reader: &mut R, code: u8) -> Result<H
         (R.reading reader.old) (R.reading reader.new) e) }
 {
     match code {
-        0xe0 => array_heading(alloc, reader, code, 1),
-        0xf0 => array_heading(alloc, reader, code, 4),
+        codes::ARRAY8 => array_heading(alloc, reader, code, 1),
+        codes::ARRAY32 => array_heading(alloc, reader, code, 4),
         _ => match list_count(reader, code) {
             Ok(left) => Ok(Heading {
                 is_array: false,

@@ -10,7 +10,7 @@ ghost use Rattle.amqp_data.specs.Steps.{IsData, Rejects};
 use crate::leaf::Leaf;
 use crate::payloads::{AsString, AsSymbol};
 use crate::unsigned::{AsUint, AsUlong};
-use amqp_base::Error;
+use amqp_base::{Error, codes};
 use amqp_read::Read;
 use std::alloc::Global;
 
@@ -91,16 +91,16 @@ pub fn key_data<R: Read>(alloc: Global, reader: &mut R, code: u8) -> Result<Key,
         (R.reading reader.old) (R.reading reader.new) e) }
 {
     match code {
-        0x70 => uint_key(reader, code),
-        0x52 => uint_key(reader, code),
-        0x43 => uint_key(reader, code),
-        0x80 => ulong_key(reader, code),
-        0x53 => ulong_key(reader, code),
-        0x44 => ulong_key(reader, code),
-        0xa1 => string_key(alloc, reader, code),
-        0xb1 => string_key(alloc, reader, code),
-        0xa3 => symbol_key(alloc, reader, code),
-        0xb3 => symbol_key(alloc, reader, code),
+        codes::UINT => uint_key(reader, code),
+        codes::SMALL_UINT => uint_key(reader, code),
+        codes::UINT0 => uint_key(reader, code),
+        codes::ULONG => ulong_key(reader, code),
+        codes::SMALL_ULONG => ulong_key(reader, code),
+        codes::ULONG0 => ulong_key(reader, code),
+        codes::STR8 => string_key(alloc, reader, code),
+        codes::STR32 => string_key(alloc, reader, code),
+        codes::SYM8 => symbol_key(alloc, reader, code),
+        codes::SYM32 => symbol_key(alloc, reader, code),
         _ => Err(Error::InvalidFormatCode),
     }
 }

@@ -9,7 +9,7 @@ ghost use Rattle.amqp_data.specs.LentTexts.{IsText};
 ghost use Rattle.amqp_data.specs.Steps.{Payload, Text, IsData, Rejects};
 
 use crate::numbers::number;
-use amqp_base::Error;
+use amqp_base::{Error, codes};
 use amqp_read::SliceReader;
 
 /// A length of so many bytes, and as many bytes as it says.
@@ -52,8 +52,8 @@ pub fn lent_bytes<'s>(reader: &mut SliceReader<'s>, code: u8) -> Result<&'s [u8]
         (behind_byte (data_at Kind.binary) code) reader.old reader.new e) }
 {
     match code {
-        0xa0 => payload(reader, 1),
-        0xb0 => payload(reader, 4),
+        codes::VBIN8 => payload(reader, 1),
+        codes::VBIN32 => payload(reader, 4),
         _ => Err(Error::InvalidFormatCode),
     }
 }
@@ -66,10 +66,10 @@ pub fn lent_text<'s>(reader: &mut SliceReader<'s>, code: u8) -> Result<&'s str, 
         (behind_byte text_data code) reader.old reader.new e) }
 {
     match code {
-        0xa1 => text(reader, 1),
-        0xb1 => text(reader, 4),
-        0xa3 => text(reader, 1),
-        0xb3 => text(reader, 4),
+        codes::STR8 => text(reader, 1),
+        codes::STR32 => text(reader, 4),
+        codes::SYM8 => text(reader, 1),
+        codes::SYM32 => text(reader, 4),
         _ => Err(Error::InvalidFormatCode),
     }
 }

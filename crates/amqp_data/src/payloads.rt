@@ -6,7 +6,7 @@ ghost use Rattle.amqp_data.specs.Steps.{Payload, Text, Rejects, BytesFirst};
 
 use crate::leaf::Leaf;
 use crate::numbers::number;
-use amqp_base::Error;
+use amqp_base::{Error, codes};
 use amqp_read::Read;
 use std::alloc::Global;
 
@@ -69,8 +69,8 @@ impl Leaf for AsString {
     #[inline(always)]
     fn read<R: Read>(self, reader: &mut R, code: u8) -> Result<String, Error> {
         match code {
-            0xa1 => text(self.0, reader, 1),
-            0xb1 => text(self.0, reader, 4),
+            codes::STR8 => text(self.0, reader, 1),
+            codes::STR32 => text(self.0, reader, 4),
             _ => Err(Error::InvalidFormatCode),
         }
     }
@@ -97,8 +97,8 @@ impl Leaf for AsSymbol {
 
     fn read<R: Read>(self, reader: &mut R, code: u8) -> Result<String, Error> {
         match code {
-            0xa3 => text(self.0, reader, 1),
-            0xb3 => text(self.0, reader, 4),
+            codes::SYM8 => text(self.0, reader, 1),
+            codes::SYM32 => text(self.0, reader, 4),
             _ => Err(Error::InvalidFormatCode),
         }
     }
@@ -125,8 +125,8 @@ impl Leaf for AsBinary {
 
     fn read<R: Read>(self, reader: &mut R, code: u8) -> Result<Vec<u8>, Error> {
         match code {
-            0xa0 => payload(self.0, reader, 1),
-            0xb0 => payload(self.0, reader, 4),
+            codes::VBIN8 => payload(self.0, reader, 1),
+            codes::VBIN32 => payload(self.0, reader, 4),
             _ => Err(Error::InvalidFormatCode),
         }
     }

@@ -3,7 +3,7 @@
 
 use crate::leaf::{Leaf, fixed};
 use crate::numbers::byte;
-use amqp_base::{EncodingCodes, Error};
+use amqp_base::{EncodingCodes, Error, codes};
 use amqp_read::Read;
 use amqp_types::{Timestamp, Uuid};
 
@@ -30,7 +30,7 @@ impl Leaf for AsNull {
     fn read<R: Read>(self, reader: &mut R, code: u8) -> Result<(), Error> {
         let _ = reader;
         match code {
-            0x40 => Ok(()),
+            codes::NULL => Ok(()),
             _ => Err(Error::InvalidFormatCode),
         }
     }
@@ -58,7 +58,7 @@ impl Leaf for AsBoolean {
     #[inline(always)]
     fn read<R: Read>(self, reader: &mut R, code: u8) -> Result<bool, Error> {
         match code {
-            0x56 => match byte(reader) {
+            codes::BOOLEAN => match byte(reader) {
                 Ok(byte) => match byte {
                     0 => Ok(false),
                     1 => Ok(true),
@@ -66,8 +66,8 @@ impl Leaf for AsBoolean {
                 },
                 Err(e) => Err(e),
             },
-            0x41 => Ok(true),
-            0x42 => Ok(false),
+            codes::BOOLEAN_TRUE => Ok(true),
+            codes::BOOLEAN_FALSE => Ok(false),
             _ => Err(Error::InvalidFormatCode),
         }
     }

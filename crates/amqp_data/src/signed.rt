@@ -2,7 +2,7 @@
 #![tactic(auto, unfolding(amqp_base::specs::Codes::row, amqp_base::specs::SameKind::same_kind, amqp_base::specs::SameKind::place, crate::specs::OneCode::is_only))]
 
 use crate::leaf::{Leaf, fixed};
-use amqp_base::{EncodingCodes, Error};
+use amqp_base::{EncodingCodes, Error, codes};
 use amqp_read::{Read, read_const_bytes};
 
 /// The data of a byte.
@@ -83,11 +83,11 @@ impl Leaf for AsInt {
     #[inline(always)]
     fn read<R: Read>(self, reader: &mut R, code: u8) -> Result<i32, Error> {
         match code {
-            0x71 => match read_const_bytes::<R, 4>(reader) {
+            codes::INT => match read_const_bytes::<R, 4>(reader) {
                 Ok(bytes) => Ok(i32::from_be_bytes(bytes)),
                 Err(e) => Err(e),
             },
-            0x54 => match read_const_bytes::<R, 1>(reader) {
+            codes::SMALL_INT => match read_const_bytes::<R, 1>(reader) {
                 Ok(bytes) => Ok(i8::from_be_bytes(bytes) as i32),
                 Err(e) => Err(e),
             },
@@ -118,11 +118,11 @@ impl Leaf for AsLong {
     #[inline(always)]
     fn read<R: Read>(self, reader: &mut R, code: u8) -> Result<i64, Error> {
         match code {
-            0x81 => match read_const_bytes::<R, 8>(reader) {
+            codes::LONG => match read_const_bytes::<R, 8>(reader) {
                 Ok(bytes) => Ok(i64::from_be_bytes(bytes)),
                 Err(e) => Err(e),
             },
-            0x55 => match read_const_bytes::<R, 1>(reader) {
+            codes::SMALL_LONG => match read_const_bytes::<R, 1>(reader) {
                 Ok(bytes) => Ok(i8::from_be_bytes(bytes) as i64),
                 Err(e) => Err(e),
             },

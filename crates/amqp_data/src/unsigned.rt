@@ -3,7 +3,7 @@
 
 use crate::leaf::{Leaf, fixed};
 use crate::numbers::byte;
-use amqp_base::{EncodingCodes, Error};
+use amqp_base::{EncodingCodes, Error, codes};
 use amqp_read::{Read, read_const_bytes};
 
 /// The data of a ubyte.
@@ -84,15 +84,15 @@ impl Leaf for AsUint {
     #[inline(always)]
     fn read<R: Read>(self, reader: &mut R, code: u8) -> Result<u32, Error> {
         match code {
-            0x70 => match read_const_bytes::<R, 4>(reader) {
+            codes::UINT => match read_const_bytes::<R, 4>(reader) {
                 Ok(bytes) => Ok(u32::from_be_bytes(bytes)),
                 Err(e) => Err(e),
             },
-            0x52 => match byte(reader) {
+            codes::SMALL_UINT => match byte(reader) {
                 Ok(byte) => Ok(byte as u32),
                 Err(e) => Err(e),
             },
-            0x43 => Ok(0),
+            codes::UINT0 => Ok(0),
             _ => Err(Error::InvalidFormatCode),
         }
     }
@@ -120,15 +120,15 @@ impl Leaf for AsUlong {
     #[inline(always)]
     fn read<R: Read>(self, reader: &mut R, code: u8) -> Result<u64, Error> {
         match code {
-            0x80 => match read_const_bytes::<R, 8>(reader) {
+            codes::ULONG => match read_const_bytes::<R, 8>(reader) {
                 Ok(bytes) => Ok(u64::from_be_bytes(bytes)),
                 Err(e) => Err(e),
             },
-            0x53 => match byte(reader) {
+            codes::SMALL_ULONG => match byte(reader) {
                 Ok(byte) => Ok(byte as u64),
                 Err(e) => Err(e),
             },
-            0x44 => Ok(0),
+            codes::ULONG0 => Ok(0),
             _ => Err(Error::InvalidFormatCode),
         }
     }

@@ -11,7 +11,7 @@ ghost use Rattle.amqp_write.specs.Describing.{describing, why_undescribed, Stand
 
 use crate::place::{Constructor, LONGEST, Mark, Place};
 use crate::refusal::Refusal;
-use amqp_base::{EncodingCodes, Sink};
+use amqp_base::{EncodingCodes, Sink, codes};
 use amqp_types::Descriptor;
 
 /// Where a value behind a descriptor stands.
@@ -104,7 +104,7 @@ impl Place {
             (why_undescribed (descriptor_of descriptor.now)) (as_error result)
             (stand W.Write W.FaultCount writer.new self.new) }
     {
-        match self.append(writer, &[0x00]) {
+        match self.append(writer, &[codes::DESCRIBED_TYPE]) {
             Ok(()) => {}
             Err(e) => return Err(e),
         }

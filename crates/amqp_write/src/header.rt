@@ -9,7 +9,7 @@ ghost use Rattle.amqp_write.specs.Wholes.{whole_text, shape_code, narrow_of, emp
 
 use crate::place::{LONGEST, Mark, NARROW, Place};
 use crate::refusal::Refusal;
-use amqp_base::{EncodingCodes, Shape, Sink, Size};
+use amqp_base::{EncodingCodes, Shape, Sink, Size, codes};
 use std::io::ErrorKind;
 
 /// The code with a size and a count of four bytes each.
@@ -32,11 +32,11 @@ fn narrow_byte(shape: Shape) -> u8
     ensures { result ≡ narrow_of shape }
 {
     match shape {
-        Shape::List => 0xc0,
-        Shape::Array => 0xe0,
-        Shape::Tuple(_) => 0xc0,
-        Shape::Map => 0xc1,
-        Shape::Fields => 0xc1,
+        Shape::List => codes::LIST8,
+        Shape::Array => codes::ARRAY8,
+        Shape::Tuple(_) => codes::LIST8,
+        Shape::Map => codes::MAP8,
+        Shape::Fields => codes::MAP8,
     }
 }
 
@@ -74,7 +74,7 @@ impl Place {
         match mark {
             Mark::Unmarked => {
                 if is_empty_list(shape, size.length) {
-                    return self.append(writer, &[0x45]);
+                    return self.append(writer, &[codes::LIST0]);
                 }
                 if size.length <= NARROW {
                     return self.append(
@@ -171,7 +171,7 @@ impl Place {
     {
         let len = body.len();
         if is_empty_list(shape, len) {
-            return self.append(writer, &[0x45]);
+            return self.append(writer, &[codes::LIST0]);
         }
         if len <= NARROW {
             let head = [narrow_byte(shape), (len + 1) as u8, (count % 256) as u8];

@@ -8,7 +8,7 @@ ghost use Rattle.amqp_base.specs.declared.format_code.EncodingCodes.TheVariants.
 ghost use Rattle.amqp_write.specs.State.{Mark, unmarked, other};
 ghost use Rattle.amqp_write.specs.NumberTexts.{HasTextOf, IsFront, Puts};
 
-use amqp_base::{Setting, Typed};
+use amqp_base::{Setting, Typed, codes};
 
 /// Where a number's text stands, and so what it is.
 pub trait Texts<T: Typed> {
@@ -138,9 +138,9 @@ fn int_text(v: i32) -> (u8, u32, u32)
 {
     let bits = v.cast_unsigned();
     if v >= -128 && v <= 127 {
-        return (0x54, bits << 24, 2);
+        return (codes::SMALL_INT, bits << 24, 2);
     }
-    (0x71, bits, 5)
+    (codes::INT, bits, 5)
 }
 
 /// The text of an uint outside arrays, likewise. Each of its tests chooses a value and no way, so
@@ -150,7 +150,7 @@ fn uint_text(v: u32) -> (u8, u32, u32)
     ensures text { IsFront (scalar (uint v)) (result.0 ∷ bytes_high_first 4 result.1) result.2 }
 {
     let (some, data, len) = some_uint_text(v);
-    let code = if v == 0 { 0x43 } else { some };
+    let code = if v == 0 { codes::UINT0 } else { some };
     let len = if v == 0 { 1 } else { len };
     (code, data, len)
 }
@@ -162,9 +162,9 @@ fn some_uint_text(v: u32) -> (u8, u32, u32)
         IsFront (scalar (uint v)) (result.0 ∷ bytes_high_first 4 result.1) result.2 }
 {
     if v < 256 {
-        return (0x52, v << 24, 2);
+        return (codes::SMALL_UINT, v << 24, 2);
     }
-    (0x70, v, 5)
+    (codes::UINT, v, 5)
 }
 
 /// The text of a ulong outside arrays, as the front of a code and eight bytes, highest first.
@@ -173,7 +173,7 @@ fn ulong_text(v: u64) -> (u8, u64, u32)
     ensures text { IsFront (scalar (ulong v)) (result.0 ∷ bytes_high_first 8 result.1) result.2 }
 {
     let (some, data, len) = some_ulong_text(v);
-    let code = if v == 0 { 0x44 } else { some };
+    let code = if v == 0 { codes::ULONG0 } else { some };
     let len = if v == 0 { 1 } else { len };
     (code, data, len)
 }
@@ -185,7 +185,7 @@ fn some_ulong_text(v: u64) -> (u8, u64, u32)
         IsFront (scalar (ulong v)) (result.0 ∷ bytes_high_first 8 result.1) result.2 }
 {
     if v < 256 {
-        return (0x53, v << 56, 2);
+        return (codes::SMALL_ULONG, v << 56, 2);
     }
-    (0x80, v, 9)
+    (codes::ULONG, v, 9)
 }

@@ -9,7 +9,7 @@ ghost use Rattle.amqp_write.specs.Appending.{PaysItem, PaysUnder, payload_at, as
 
 use crate::place::{LONGEST, Mark, NARROW, Place};
 use crate::refusal::Refusal;
-use amqp_base::{EncodingCodes, Setting, Sink};
+use amqp_base::{EncodingCodes, Setting, Sink, codes};
 use std::io::ErrorKind;
 
 impl Place {
@@ -60,8 +60,13 @@ impl Place {
             (stand W.Write W.FaultCount writer.new self.new) }
     {
         match self.setting {
-            Setting::Symbol => self.payload_text(writer, 0xa3, EncodingCodes::Sym32, v.as_bytes()),
-            _ => self.payload_text(writer, 0xa1, EncodingCodes::Str32, v.as_bytes()),
+            Setting::Symbol => self.payload_text(
+                writer,
+                codes::SYM8,
+                EncodingCodes::Sym32,
+                v.as_bytes(),
+            ),
+            _ => self.payload_text(writer, codes::STR8, EncodingCodes::Str32, v.as_bytes()),
         }
     }
 
@@ -77,7 +82,7 @@ impl Place {
             (scalar (symbol v.now)) (unwritten (length v.now)) (as_error result)
             (stand W.Write W.FaultCount writer.new self.new) }
     {
-        self.payload_text(writer, 0xa3, EncodingCodes::Sym32, v.as_bytes())
+        self.payload_text(writer, codes::SYM8, EncodingCodes::Sym32, v.as_bytes())
     }
 
     /// Bytes as binary (section 1.6.19). Outside arrays up to 254 of them stand behind one byte of
@@ -92,6 +97,6 @@ impl Place {
             (scalar (binary v.now)) (unwritten (length v.now)) (as_error result)
             (stand W.Write W.FaultCount writer.new self.new) }
     {
-        self.payload_text(writer, 0xa0, EncodingCodes::Vbin32, v)
+        self.payload_text(writer, codes::VBIN8, EncodingCodes::Vbin32, v)
     }
 }

@@ -7,7 +7,7 @@ ghost use Rattle.amqp_write.specs.Appending.{PaysItem, as_error};
 
 use crate::place::{Mark, Place};
 use crate::refusal::Refusal;
-use amqp_base::{EncodingCodes, Error, Sink};
+use amqp_base::{EncodingCodes, Error, Sink, codes};
 use amqp_types::Uuid;
 
 impl Place {
@@ -20,7 +20,7 @@ impl Place {
     {
         let mark = self.mark;
         match mark {
-            Mark::Unmarked => self.append(writer, &[0x40]),
+            Mark::Unmarked => self.append(writer, &[codes::NULL]),
             _ => {
                 self.ended = true;
                 Err(Refusal::InvalidValue)
@@ -38,8 +38,8 @@ impl Place {
     {
         let mark = self.mark;
         match mark {
-            Mark::Unmarked if v => self.append(writer, &[0x41]),
-            Mark::Unmarked => self.append(writer, &[0x42]),
+            Mark::Unmarked if v => self.append(writer, &[codes::BOOLEAN_TRUE]),
+            Mark::Unmarked => self.append(writer, &[codes::BOOLEAN_FALSE]),
             _ => self.one_byte(writer, EncodingCodes::Boolean, u8::from(v)),
         }
     }

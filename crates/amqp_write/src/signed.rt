@@ -8,7 +8,7 @@ ghost use Rattle.amqp_write.specs.Appending.{PaysItem, as_error};
 
 use crate::place::{Mark, Place};
 use crate::refusal::Refusal;
-use amqp_base::{EncodingCodes, Error, Sink};
+use amqp_base::{EncodingCodes, Error, Sink, codes};
 
 impl Place {
     /// A byte (section 1.6.7): 51 and a byte; in an array the byte. Under another constructor than
@@ -58,7 +58,7 @@ impl Place {
             Error.InvalidValue (as_error result) (stand W.Write W.FaultCount writer.new self.new) }
     {
         match i8::try_from(v) {
-            Ok(small) => self.append(writer, &[0x54, small.cast_unsigned()]),
+            Ok(small) => self.append(writer, &[codes::SMALL_INT, small.cast_unsigned()]),
             Err(_) => self.plain_four_bytes(writer, EncodingCodes::Int, v.to_be_bytes()),
         }
     }
@@ -75,7 +75,7 @@ impl Place {
         let mark = self.mark;
         match mark {
             Mark::Unmarked => match i8::try_from(v) {
-                Ok(small) => self.append(writer, &[0x55, small.cast_unsigned()]),
+                Ok(small) => self.append(writer, &[codes::SMALL_LONG, small.cast_unsigned()]),
                 Err(_) => self.eight_bytes(writer, EncodingCodes::Long, v.to_be_bytes()),
             },
             _ => self.eight_bytes(writer, EncodingCodes::Long, v.to_be_bytes()),

@@ -7,7 +7,7 @@ ghost use Rattle.amqp_write.specs.Appending.{PaysItem, as_error};
 
 use crate::place::{Mark, Place};
 use crate::refusal::Refusal;
-use amqp_base::{EncodingCodes, Error, Sink};
+use amqp_base::{EncodingCodes, Error, Sink, codes};
 
 impl Place {
     /// A ubyte (section 1.6.3): 50 and a byte; in an array the byte. Under another constructor than
@@ -43,8 +43,8 @@ impl Place {
     {
         let mark = self.mark;
         match mark {
-            Mark::Unmarked if v == 0 => self.append(writer, &[0x43]),
-            Mark::Unmarked if v < 256 => self.append(writer, &[0x52, v as u8]),
+            Mark::Unmarked if v == 0 => self.append(writer, &[codes::UINT0]),
+            Mark::Unmarked if v < 256 => self.append(writer, &[codes::SMALL_UINT, v as u8]),
             _ => self.four_bytes(writer, EncodingCodes::Uint, v.to_be_bytes()),
         }
     }
@@ -60,8 +60,8 @@ impl Place {
     {
         let mark = self.mark;
         match mark {
-            Mark::Unmarked if v == 0 => self.append(writer, &[0x44]),
-            Mark::Unmarked if v < 256 => self.append(writer, &[0x53, v as u8]),
+            Mark::Unmarked if v == 0 => self.append(writer, &[codes::ULONG0]),
+            Mark::Unmarked if v < 256 => self.append(writer, &[codes::SMALL_ULONG, v as u8]),
             _ => self.eight_bytes(writer, EncodingCodes::Ulong, v.to_be_bytes()),
         }
     }
