@@ -12,10 +12,13 @@ use amqp_data::least_width;
 use amqp_read::Read;
 
 /// So few bytes cost less where they are asked for one by one.
-const FEW: usize = 64;
+const FEW: usize = 4;
+
+/// With so many bytes at hand the next part may be there as a whole.
+const ENOUGH: usize = 9;
 
 impl<R: Read, F> Access<'_, R, F> {
-    /// Receives some bytes of the parts that are left, where none is at hand, and no byte behind
+    /// Receives some bytes of the parts that are left, where few are at hand, and no byte behind
     /// them. No part is read.
     ///
     /// The errors are a fault of the source, and `OutOfMemory` where the bytes find no memory.
@@ -39,7 +42,7 @@ impl<R: Read> Deserializer<R> {
         ensures why { IfErr result (λ e.
             AheadFails R.buffers (at_open self.old inner.now) (at_open self.new inner.now) e) }
     {
-        if inner.left == 0 || self.reader.at_hand() > 0 {
+        if inner.left == 0 || self.reader.at_hand() >= ENOUGH {
             return Ok(());
         }
         let least = (inner.left as usize).saturating_mul(least_width(&self.inherited));

@@ -14,7 +14,7 @@ ghost use Rattle.amqp_de.specs.Seq.{at_open};
 
 use crate::list::{Access, Elements, Open};
 use crate::{Deserialize, Deserializer};
-use amqp_base::{EncodingCodes, Error, Typed};
+use amqp_base::{EncodingCodes, Error, Typed, codes};
 use amqp_data::{Constructor, Limit};
 use amqp_read::Read;
 
@@ -26,6 +26,9 @@ const ROOM: usize = 256;
 
 /// The most bytes of a number with its own constructor.
 const LONGEST: usize = 9;
+
+/// So many of such numbers fit into the room, however long they are.
+const MANY_LONG: usize = 28;
 
 /// A number whose data take `W` bytes under its widest code.
 pub(crate) trait Wide<const W: usize>: Typed + Copy {
@@ -70,8 +73,8 @@ impl Wide<4> for i32 {
     #[inline(always)]
     fn at_front(bytes: &[u8]) -> (i32, usize) {
         match bytes[0] {
-            0x71 => (Self::of_data(&bytes[1..5]), 5),
-            0x54 => (i8::from_be_bytes([bytes[1]]) as i32, 2),
+            codes::INT => (Self::of_data(&bytes[1..5]), 5),
+            codes::SMALL_INT => (i8::from_be_bytes([bytes[1]]) as i32, 2),
             _ => (0, 0),
         }
     }
@@ -98,9 +101,9 @@ impl Wide<4> for u32 {
     #[inline(always)]
     fn at_front(bytes: &[u8]) -> (u32, usize) {
         match bytes[0] {
-            0x70 => (Self::of_data(&bytes[1..5]), 5),
-            0x52 => (bytes[1] as u32, 2),
-            0x43 => (0, 1),
+            codes::UINT => (Self::of_data(&bytes[1..5]), 5),
+            codes::SMALL_UINT => (bytes[1] as u32, 2),
+            codes::UINT0 => (0, 1),
             _ => (0, 0),
         }
     }
@@ -127,9 +130,9 @@ impl Wide<8> for u64 {
     #[inline(always)]
     fn at_front(bytes: &[u8]) -> (u64, usize) {
         match bytes[0] {
-            0x80 => (Self::of_data(&bytes[1..9]), 9),
-            0x53 => (bytes[1] as u64, 2),
-            0x44 => (0, 1),
+            codes::ULONG => (Self::of_data(&bytes[1..9]), 9),
+            codes::SMALL_ULONG => (bytes[1] as u64, 2),
+            codes::ULONG0 => (0, 1),
             _ => (0, 0),
         }
     }
@@ -162,26 +165,29 @@ fn push_all<T: Wide<W>, const W: usize>(bytes: &[u8], many: usize, items: &mut V
     }
 }
 
-/// Puts the numbers that stand at the front of a block, each with its own constructor, behind the
-/// others, as long as there are such, so many at most, for which there is room: how many they are,
-/// and how many bytes.
+/// Puts the numbers that stand at the front of the first `shown` bytes of a block, each with its own
+/// constructor, behind the others, as long as there are such, so many at most, for which there is
+/// room: how many they are, and how many bytes. What stands behind the first bytes says nothing.
 #[inline(always)]
 fn push_front<T: Wide<W>, const W: usize>(
     block: &[u8],
+    shown: usize,
     most: usize,
     items: &mut Vec<T>,
 ) -> (usize, usize)
+    requires shown { shown ≤ length block.now }
+    requires long { most * 9 ≤ length block.now }
     requires room { vec_len items.old + most ≤ vec_capacity items.old }
     ensures few { result.0 ≤ most }
-    ensures within { result.1 ≤ length block.now }
-    ensures put { PutBehind T.meaning bare (take result.1 block.now) result.0 items.old.items
-        items.new.items }
+    ensures within { result.1 ≤ shown }
+    ensures put { PutBehind T.meaning bare (take result.1 (take shown block.now)) result.0
+        items.old.items items.new.items }
 {
     let mut many = 0;
     let mut at = 0;
-    while many < most && block.len() - at >= LONGEST {
+    while many < most {
         let (number, len) = T::at_front(&block[at..at + LONGEST]);
-        if len == 0 {
+        if len == 0 || len > shown - at {
             break;
         }
         items.push_reserved(number);
@@ -314,16 +320,17 @@ impl<R: Read> Deserializer<R> {
         ensures { ReadsMany T.meaning (at_open self.old inner.old) items.old.items result
             (at_open self.new inner.new) items.new.items }
     {
-        if inner.limit.is_some() || self.reader.at_hand() < LONGEST {
+        if inner.limit.is_some() || self.reader.at_hand() < 2 {
             return Ok(false);
         }
+        let most = most.min(MANY_LONG);
         if items.reserve(most).is_err() {
             return Err(Error::OutOfMemory);
         }
         let mut block = [0u8; ROOM];
         let shown = self.reader.show_at_hand(&mut block);
         let before = items.len();
-        let (found, len) = push_front::<T, W>(&block[..shown], most, items);
+        let (found, len) = push_front::<T, W>(&block, shown, most, items);
         let mut taken = [0u8; ROOM];
         if found == 0 || !self.reader.take_at_hand(&mut taken[..len]) {
             items.truncate(before);

@@ -16,7 +16,7 @@ ghost use Rattle.amqp_base.specs.Parse.{item_at};
 ghost use Rattle.amqp_de.specs.Steps.{Exact, Stops};
 
 use crate::{Deserialize, Deserializer};
-use amqp_base::{EncodingCodes, Error};
+use amqp_base::{EncodingCodes, Error, codes};
 use amqp_data::decimal_data;
 use amqp_read::Read;
 use amqp_types::{Dec32, Dec64, Dec128, Decimal};
@@ -75,7 +75,9 @@ fn of_width<R: Read>(
     match de.deserialize_any() {
         Ok(code) => {
             let byte = code.byte();
-            if (byte == 0x74 || byte == 0x84 || byte == 0x94) && byte != wanted.byte() {
+            if (byte == codes::DECIMAL32 || byte == codes::DECIMAL64 || byte == codes::DECIMAL128)
+                && byte != wanted.byte()
+            {
                 return Err(Error::custom(alloc, refusal));
             }
             match de.deserialize_decimal() {

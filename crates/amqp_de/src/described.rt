@@ -9,7 +9,7 @@ ghost use Rattle.amqp_de.specs.Steps.{Stops};
 ghost use Rattle.amqp_types.specs.Descriptors.{descriptor_of};
 
 use crate::{Deserialize, Deserializer};
-use amqp_base::Error;
+use amqp_base::{Error, codes};
 use amqp_data::{Constructor, byte, descriptor};
 use amqp_read::Read;
 use amqp_types::{Described, Descriptor};
@@ -25,7 +25,7 @@ fn describing<R: Read>(alloc: Global, reader: &mut R) -> Result<Descriptor, Erro
 {
     match byte(reader) {
         Ok(first) => {
-            if first != 0 {
+            if first != codes::DESCRIBED_TYPE {
                 return Err(Error::InvalidFormatCode);
             }
             match descriptor(alloc, reader) {

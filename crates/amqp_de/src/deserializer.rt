@@ -5,7 +5,7 @@ ghost use Rattle.amqp_base.specs.Wire.{bare};
 ghost use Rattle.amqp_de.specs.Decoding.{Decoding};
 ghost use Rattle.amqp_de.specs.Steps.{Begins, BeginsNot};
 
-use amqp_base::{Count, Error};
+use amqp_base::{Count, Error, codes};
 use amqp_data::{Constructor, byte};
 use amqp_read::Read;
 use std::marker::Model;
@@ -104,7 +104,7 @@ impl<R: Read> Deserializer<R> {
                 if described {
                     return Ok(code.byte());
                 }
-                Ok(0)
+                Ok(codes::DESCRIBED_TYPE)
             }
         }
     }

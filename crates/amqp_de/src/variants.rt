@@ -23,7 +23,7 @@ use crate::Deserializer;
 use crate::identifiers::{Identifier, described_by, is_key, named_by};
 use crate::list::{Access, Open};
 use crate::structs::unread;
-use amqp_base::{DESCRIPTOR, EncodingCodes, Error, UNTAGGED_ENUM, VALUE};
+use amqp_base::{DESCRIPTOR, EncodingCodes, Error, UNTAGGED_ENUM, VALUE, codes};
 use amqp_data::{Constructor, byte};
 use amqp_read::Read;
 use std::alloc::Global;
@@ -379,7 +379,7 @@ impl<R: Read> Deserializer<R> {
                 self.begun.tick();
                 match byte(&mut self.reader) {
                     Ok(first) => {
-                        if first != 0 {
+                        if first != codes::DESCRIBED_TYPE {
                             return Err(Error::InvalidFormatCode);
                         }
                         self.ended = false;

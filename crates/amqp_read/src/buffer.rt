@@ -2,7 +2,8 @@
 
 ghost use Rattle.std.specs.Prelude.{◌≡◌, ◌<◌, ◌≤◌, ◌+◌, ◌-◌, ◌*◌};
 ghost use Rattle.std.specs.Prelude.{◌++◌, max, true, List, [], ℕ, length};
-ghost use Rattle.std.specs.Prelude.{take, drop, OnOk, OnErr, IfOk, IfErr, IsTrue, MatchOption};
+ghost use Rattle.std.specs.Prelude.{take, drop, OnOk, OnErr, IfOk, IfErr, IfSome, IsTrue, None};
+ghost use Rattle.std.specs.Prelude.{MatchOption};
 ghost use Rattle.std.specs.Io.KnownBytes.{IsAtEnd, ReadConsumes};
 ghost use Rattle.amqp_base.specs.declared.error.Error.TheVariants.{OutOfMemory};
 ghost use Rattle.amqp_base.specs.Faults.{Counts, Remembers};
@@ -15,6 +16,12 @@ use amqp_base::{Count, Error, Source};
 use std::alloc::Global;
 use std::io::ErrorKind;
 use std::marker::Model;
+
+/// The most bytes that a source is asked for at once.
+pub(crate) const PIECE: usize = 4096;
+
+/// The least room that a vector which is short of it grows by.
+const LEAST: usize = 64;
 
 /// Received bytes in one vector; from an index on they are unread.
 #[derive(Drop)]
@@ -106,9 +113,33 @@ impl Buffer {
         }
     }
 
-    /// Finds room for `n` bytes more, and moves the unread bytes to the front where they begin in
-    /// the second half.
-    pub(crate) fn make_room(&mut self, n: usize) -> Result<(), Error>
+    /// Finds room for `n` bytes more, and at once for as many as are held where `most` are to come.
+    /// Small vectors grow as every vector does, by 64 bytes at least, and large ones no further
+    /// than for `most`.
+    fn grow(&mut self, n: usize, most: usize) -> Result<(), Error>
+        ensures unread { self.new.unread ≡ self.old.unread }
+        ensures start { self.new.start ≡ self.old.start }
+        ensures length { self.new.length ≡ self.old.length }
+        ensures counts { (self.new.moved ≡ self.old.moved) × (self.new.most ≡ self.old.most) }
+        ensures ok { OnOk result (n ≤ self.new.room) }
+        ensures err { IfErr result (λ e. e ≡ OutOfMemory) }
+    {
+        let held = self.bytes.len();
+        let grown = if held < PIECE || most < held / 4 {
+            self.bytes.reserve(n.max(LEAST))
+        } else {
+            self.bytes.reserve_exact(held.min(most).max(n))
+        };
+        match grown {
+            Ok(()) => Ok(()),
+            Err(_) => Err(Error::OutOfMemory),
+        }
+    }
+
+    /// Finds room for `n` bytes more of `most` that are to come, and moves the unread bytes to the
+    /// front where they begin in the second half.
+    #[inline(always)]
+    pub(crate) fn make_room(&mut self, n: usize, most: usize) -> Result<(), Error>
         ensures front { Fronted self.old self.new }
         ensures first_half { 2 * self.new.start ≤ self.new.length }
         ensures seen { length self.new.unread ≤ self.new.most }
@@ -116,16 +147,27 @@ impl Buffer {
         ensures ok { OnOk result (n ≤ self.new.room) }
         ensures err { IfErr result (λ e. e ≡ OutOfMemory) }
     {
+        if self.start > 0 {
+            self.move_to_front();
+        }
+        if n <= self.bytes.capacity() - self.bytes.len() {
+            return Ok(());
+        }
+        self.grow(n, most)
+    }
+
+    /// Moves the unread bytes to the front where they begin in the second half.
+    fn move_to_front(&mut self)
+        ensures front { Fronted self.old self.new }
+        ensures first_half { 2 * self.new.start ≤ self.new.length }
+        ensures moved { self.new.moved + self.new.start ≤ self.old.moved + self.old.start }
+    {
         let unread = self.bytes.len() - self.start;
         if self.start >= unread {
             self.bytes.copy_within(self.start.., 0);
             self.bytes.truncate(unread);
             self.start = 0;
             self.moved.ticks(unread);
-        }
-        match self.bytes.reserve(n) {
-            Ok(()) => Ok(()),
-            Err(_) => Err(Error::OutOfMemory),
         }
     }
 
@@ -141,8 +183,39 @@ impl Buffer {
         self.most.sees(self.bytes.len() - self.start);
     }
 
-    /// Asks a source for `n` bytes at most and keeps what it gives: how many. Memory is asked for
-    /// first.
+    /// Keeps what was received, with the memory that holds it, where nothing is unread.
+    pub(crate) fn take_over(&mut self, received: Vec<u8>)
+        requires { self.old.unread ≡ [] }
+        ensures unread { self.new.unread ≡ received.items }
+        ensures start { self.new.start ≡ 0 }
+        ensures moved { self.new.moved ≡ self.old.moved }
+        ensures most { self.new.most ≡ max self.old.most (length self.new.unread) }
+    {
+        self.most.sees(received.len());
+        self.start = 0;
+        self.bytes = received;
+    }
+
+    /// All that is unread with the memory that holds it, where that is `n` bytes, many, and nothing
+    /// stands in front of them.
+    pub(crate) fn hand_over(&mut self, alloc: Global, n: usize) -> Option<Vec<u8>>
+        ensures given { IfSome result (λ v.
+            (v.items ≡ take n self.old.unread) × (length v.items ≡ n)) }
+        ensures used_up { IfSome result (λ _. (self.new.unread ≡ drop n self.old.unread)
+            × (self.new.start ≡ 0) × (self.new.length ≡ 0)) }
+        ensures else_kept { result ≡ None → self.new ≡ self.old }
+        ensures counts { (self.new.moved ≡ self.old.moved) × (self.new.most ≡ self.old.most) }
+    {
+        if n < PIECE || self.start != 0 || self.bytes.len() != n {
+            return None;
+        }
+        let mut bytes = std::mem::replace(&mut self.bytes, Vec::new(alloc));
+        bytes.shrink_to_fit();
+        Some(bytes)
+    }
+
+    /// Asks a source once for some of `n` bytes and keeps what it gives: how many. Memory is asked
+    /// for first.
     pub(crate) fn receive<S: Source>(&mut self, source: &mut S, n: usize) -> Result<usize, Error>
         ensures stays { Stays
             (reads self.old.unread (S.remaining source.old) 0 (S.faults source.old)
@@ -164,9 +237,10 @@ impl Buffer {
             (reads self.new.unread (S.remaining source.new) 0 (S.faults source.new)
             (S.last_fault source.new) (S.is_honest source.new) (S.origin source.new)) e) }
     {
-        self.make_room(n)?;
+        let piece = n.min(PIECE);
+        self.make_room(piece, n)?;
         let have = self.bytes.len();
-        let Some(wanted) = have.checked_add(n) else {
+        let Some(wanted) = have.checked_add(piece) else {
             return Err(Error::OutOfMemory);
         };
         self.bytes.resize(wanted, 0)?;

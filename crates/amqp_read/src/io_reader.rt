@@ -2,7 +2,7 @@
 
 ghost use Rattle.std.specs.Prelude.{◌≡◌, ◌⊎◌, ◌<◌, ◌≤◌, ◌+◌, ◌^◌};
 ghost use Rattle.std.specs.Prelude.{ℕ, Bool, true, false, List, [], ◌∷◌, length, take};
-ghost use Rattle.std.specs.Prelude.{IfOk, IfErr, OnOk, OnErr, IsTrue, MatchOption};
+ghost use Rattle.std.specs.Prelude.{IfOk, IfErr, IfSome, OnOk, OnErr, IsTrue, MatchOption};
 ghost use Rattle.std.specs.Prelude.{Some, None, slice_get, string_bytes};
 ghost use Rattle.amqp_read.specs.Texts.{NoText};
 ghost use Rattle.std.specs.declared.io.ErrorKind.TheVariants.{UnexpectedEof};
@@ -13,16 +13,13 @@ ghost use Rattle.amqp_read.specs.Steps.{PassesSome, PassesCount};
 ghost use Rattle.amqp_read.specs.Streaming.{IsLean, SawMore, reads};
 
 use crate::Read;
-use crate::buffer::Buffer;
+use crate::buffer::{Buffer, PIECE};
 use crate::read::sealed::Sealed;
 use crate::read::text_of;
 use amqp_base::{Error, Source};
 use std::alloc::Global;
 use std::io::ErrorKind;
 use std::marker::Model;
-
-/// The most bytes that a buffer grows by before its source is asked for them.
-const PIECE: usize = 4096;
 
 /// The most bytes that are read straight from the source where none was received.
 const SMALL: usize = 16;
@@ -111,7 +108,7 @@ impl<S: Source> IoReader<S> {
         ensures most { SawMore self.old self.new }
     {
         let lacking = n - self.buffer.len();
-        let got = self.buffer.receive(&mut self.source, lacking.min(PIECE))?;
+        let got = self.buffer.receive(&mut self.source, lacking)?;
         Ok(got != 0)
     }
 
@@ -211,6 +208,96 @@ impl<S: Source> IoReader<S> {
         }
     }
 
+    /// The next `n` bytes, which were received: with the buffer's memory where they are all of it,
+    /// else copied.
+    fn take_front(&mut self, alloc: Global, n: usize) -> Result<Vec<u8>, Error>
+        requires received { n ≤ length self.old.reading.received }
+        requires counted { self.old.reading.taken + n < 2 ^ 64 }
+        ensures len { IfOk result (λ v. length v.items ≡ n) }
+        ensures ok { IfOk result (λ v. Takes self.old.reading self.new.reading v.items) }
+        ensures kept { OnErr result (self.new.reading ≡ self.old.reading) }
+        ensures err { IfErr result (λ e. e ≡ OutOfMemory) }
+    {
+        match self.buffer.hand_over(alloc, n) {
+            Some(bytes) => {
+                self.taken += n;
+                return Ok(bytes);
+            }
+            None => {}
+        }
+        let bytes = self.front_copied(alloc, n)?;
+        self.consume(n);
+        Ok(bytes)
+    }
+
+    /// Asks the source once for `n` bytes, not many, where nothing was received: the bytes, where
+    /// it gave them all. What it gave else is kept.
+    fn read_whole(&mut self, alloc: Global, n: usize) -> Result<Option<Vec<u8>>, Error>
+        requires received { self.old.reading.received ≡ [] }
+        requires some { 0 < n }
+        requires counted { self.old.reading.taken + n < 2 ^ 64 }
+        ensures len { IfOk result (λ o. IfSome o (λ v. length v.items ≡ n)) }
+        ensures taken { IfOk result (λ o. IfSome o (λ v.
+            Takes self.old.reading self.new.reading v.items)) }
+        ensures else_kept { IfOk result (λ o. o ≡ None →
+            Looked n self.old.reading self.new.reading) }
+        ensures err { OnErr result (Stays self.old.reading self.new.reading) }
+        ensures why { IfErr result (λ e.
+            Fails true true self.old.reading self.new.reading e) }
+    {
+        let mut bytes = match Vec::from_elem(alloc, 0, n) {
+            Ok(bytes) => bytes,
+            Err(_) => return Err(Error::OutOfMemory),
+        };
+        match self.source.read_some(&mut bytes) {
+            Ok(got) => {
+                if got == n {
+                    self.taken += n;
+                    return Ok(Some(bytes));
+                }
+                bytes.truncate(got);
+                self.buffer.take_over(bytes);
+                Ok(None)
+            }
+            Err(kind) => Err(Error::from(kind)),
+        }
+    }
+
+    /// Asks the source once for a payload of `n` bytes, where nothing was received and they aren't
+    /// many: the bytes, where it gave them all.
+    fn read_whole_at_once(&mut self, alloc: Global, n: usize) -> Result<Option<Vec<u8>>, Error>
+        ensures len { IfOk result (λ o. IfSome o (λ v. length v.items ≡ n)) }
+        ensures taken { IfOk result (λ o. IfSome o (λ v.
+            Takes self.old.reading self.new.reading v.items)) }
+        ensures else_kept { IfOk result (λ o. o ≡ None →
+            Looked n self.old.reading self.new.reading) }
+        ensures err { OnErr result (Stays self.old.reading self.new.reading) }
+        ensures why { IfErr result (λ e.
+            Fails true true self.old.reading self.new.reading e) }
+    {
+        if self.received() == 0 && 0 < n && n <= PIECE && n <= usize::MAX - self.bytes_consumed() {
+            return self.read_whole(alloc, n);
+        }
+        Ok(None)
+    }
+
+    /// The next `n` bytes, by the buffer.
+    fn read_bytes_buffered(&mut self, alloc: Global, n: usize) -> Result<Vec<u8>, Error>
+        ensures len { IfOk result (λ v. length v.items ≡ n) }
+        ensures ok { IfOk result (λ v. Takes self.old.reading self.new.reading v.items) }
+        ensures err { OnErr result (Stays self.old.reading self.new.reading) }
+        ensures why { IfErr result (λ e.
+            NotTaken true true n self.old.reading self.new.reading e) }
+    {
+        match self.receive_all(n) {
+            Ok(()) => match self.take_front(alloc, n) {
+                Ok(bytes) => Ok(bytes),
+                Err(e) => Err(e),
+            },
+            Err(e) => Err(e),
+        }
+    }
+
     /// The next `n` bytes as a text, which were received.
     fn front_text(&self, alloc: Global, n: usize) -> Result<String, Error>
         requires { n ≤ length self.now.reading.received }
@@ -263,7 +350,7 @@ impl<S: Source> IoReader<S> {
             Fails true true self.old.reading self.new.reading e) }
     {
         let n = block.len();
-        match self.buffer.make_room(n) {
+        match self.buffer.make_room(n, n) {
             Ok(()) => {}
             Err(e) => return Err(e),
         }
@@ -502,13 +589,13 @@ impl<S: Source> Read for IoReader<S> {
     }
 
     fn read_bytes(&mut self, alloc: Global, n: usize) -> Result<Vec<u8>, Error> {
-        match self.receive_all(n) {
-            Ok(()) => match self.front_copied(alloc, n) {
-                Ok(bytes) => {
-                    self.consume(n);
-                    Ok(bytes)
-                }
-                Err(e) => Err(e),
+        match self.read_whole_at_once(alloc, n) {
+            Ok(whole) => match whole {
+                Some(bytes) => Ok(bytes),
+                None => match self.read_bytes_buffered(alloc, n) {
+                    Ok(bytes) => Ok(bytes),
+                    Err(e) => Err(e),
+                },
             },
             Err(e) => Err(e),
         }
@@ -571,7 +658,7 @@ impl<S: Source> Read for IoReader<S> {
 
     #[inline(always)]
     fn receive_ahead(&mut self, n: usize) -> Result<(), Error> {
-        if n == 0 || self.received() > 0 {
+        if n <= self.received() {
             return Ok(());
         }
         let asked = self.more(n);

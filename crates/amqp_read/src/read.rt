@@ -15,7 +15,7 @@ ghost use Rattle.amqp_read.specs.Texts.{NoText, NotText};
 ghost use Rattle.amqp_base.specs.declared.error.Error.TheVariants.{OutOfMemory};
 
 use crate::raw::{Data, data_of};
-use amqp_base::Error;
+use amqp_base::{Error, codes};
 use std::alloc::Global;
 use std::io::ErrorKind;
 
@@ -183,8 +183,8 @@ pub trait Read: sealed::Sealed + Drop {
         ensures taken { IsTrue result → Takes (reading self.old) (reading self.new) block.new }
         ensures else_kept { result ≡ false → reading self.new ≡ reading self.old };
 
-    /// Receives some of the next `n` bytes where none is at hand, so that later calls need not ask
-    /// for each of them alone. All of them stay. Over a slice there is nothing to do.
+    /// Receives some of the next `n` bytes where fewer are at hand, so that later calls need not
+    /// ask for each of them alone. All of them stay. Over a slice there is nothing to do.
     #[doc(hidden)]
     fn receive_ahead(&mut self, n: usize) -> Result<(), Error>
         ensures looked { Looked n (reading self.old) (reading self.new) }
@@ -211,7 +211,7 @@ pub trait Read: sealed::Sealed + Drop {
             ⊎ Fails buffers buffers (reading self.old) (reading self.new) e) }
     {
         match self.peek_byte(0) {
-            Ok(0) => {}
+            Ok(codes::DESCRIBED_TYPE) => {}
             Ok(_) => return self.peek_scalar(0),
             Err(e) => return Err(e),
         }

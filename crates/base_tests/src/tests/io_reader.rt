@@ -1,6 +1,6 @@
 //! The reader over a source that gives its bytes piece by piece.
 
-use super::answer::{Answer, UNEXPECTED_EOF, gave_bytes, is, told};
+use super::answer::{Answer, UNEXPECTED_EOF, gave_bytes, is, name_of, told};
 use amqp_base::{Counted, Error};
 use amqp_read::{IoReader, Read, SliceReader, read_const_bytes};
 use std::alloc::Global;
@@ -152,4 +152,62 @@ fn a_text_is_handed_on_where_it_is_one(rt: HostRuntime) {
     let alloc = rt.alloc();
     assert!(rt; is_text(alloc, b"\xc3\xa9", Answer::Taken, 2));
     assert!(rt; is_text(alloc, b"\xff", Answer::InvalidUtf8Encoding, 0));
+}
+
+/// Gives the bytes of a slice, so many a read at most.
+#[derive(Drop)]
+struct Cut<'a> {
+    rest: &'a [u8],
+    most: usize,
+}
+
+impl io::Read for Cut<'_> {
+    fn read(&mut self, buf: &mut [u8]) -> io::Result<usize> {
+        let n = buf.len().min(self.most).min(self.rest.len());
+        let (given, rest) = self.rest.split_at(n);
+        buf[..n].copy_from_slice(given);
+        self.rest = rest;
+        Ok(n)
+    }
+}
+
+/// The next `n` bytes are these, in a vector that has room for no more.
+fn is_payload<R: Read>(reader: &mut R, alloc: Global, n: usize, want: Option<&[u8]>) -> bool {
+    match reader.read_bytes(alloc, n) {
+        Ok(bytes) => want == Some(bytes.as_slice()) && bytes.capacity() == n,
+        Err(e) => want.is_none() && name_of(&e) == UNEXPECTED_EOF,
+    }
+}
+
+/// A payload of so many bytes behind one byte, looked at before or not, with a short one behind it,
+/// and then one that is cut off, of which no byte is lost.
+fn are_payloads(alloc: Global, bytes: &[u8], n: usize, most: usize, looks: bool) -> bool {
+    let source = Cut { rest: bytes, most };
+    let mut reader = IoReader::new(alloc, Counted::new(source));
+    let behind = n.saturating_add(1);
+    let end = behind.saturating_add(3);
+    let mut is_so = is(reader.next(), Ok(bytes.first().copied()));
+    if looks {
+        is_so = is(reader.peek_at(n), Ok(bytes.get(behind).copied())) && is_so;
+    }
+    is_so = is_payload(&mut reader, alloc, n, bytes.get(1..behind)) && is_so;
+    is_so = is_payload(&mut reader, alloc, 3, bytes.get(behind..end)) && is_so;
+    is_so = is_payload(&mut reader, alloc, bytes.len(), None) && is_so;
+    is_so = bytes.len().checked_sub(end) == Some(reader.at_hand()) && is_so;
+    reader.bytes_consumed() == end && is_so
+}
+
+#[test]
+fn a_long_payload_is_one_vector_however_it_is_cut(rt: HostRuntime) {
+    let alloc = rt.alloc();
+    let mut bytes = [0u8; 12_000];
+    for i in 0..bytes.len() {
+        bytes[i] = (i % 251) as u8;
+    }
+    for n in [300, 4096, 5000, 9000] {
+        for most in [1000, 4096, 20_000] {
+            assert!(rt; are_payloads(alloc, &bytes, n, most, false));
+            assert!(rt; are_payloads(alloc, &bytes, n, most, true));
+        }
+    }
 }

@@ -1,4 +1,4 @@
-use Rattle.std.proofs.Common.{ℕ, ◌≡◌, ◌+◌, ◌-◌, ◌≤◌, length, take, vec_len, vec_capacity}
+use Rattle.std.proofs.Common.{ℕ, ◌≡◌, ◌+◌, ◌-◌, ◌*◌, ◌≤◌, take, vec_len, vec_capacity}
 use Rattle.amqp_base.specs.Wire.{bare}
 use Rattle.amqp_de.specs.Many.{PutBehind}
 use Rattle.amqp_de.proofs.blocks.push_front.Given as goal
@@ -8,7 +8,8 @@ invariant-loop-many g l = record {
   put : PutBehind g.T.Typed.meaning bare (take l.at l.block) l.many l.initial.items.items l.items.items;
   so_many : vec_len l.items ≡ vec_len l.initial.items + l.many;
   room : vec_capacity l.items ≡ vec_capacity l.initial.items;
-  within : l.at ≤ length l.block;
+  within : l.at ≤ l.shown;
+  long : l.at ≤ l.many * 9;
   few : l.many ≤ l.most;
 }
 
