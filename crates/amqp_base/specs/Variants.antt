@@ -9,8 +9,8 @@ use Rattle.amqp_base.specs.declared.format_code.EncodingCodes.TheVariants.{List8
 use Rattle.amqp_base.specs.Codes.{Kind, row}
 use Rattle.amqp_base.specs.SameKind.{same_kind}
 use Rattle.amqp_base.specs.Describing.{describing_at, is_described}
-use Rattle.amqp_base.specs.Identifiers.{Identifier, by_index, by_name, by_descriptor, by_code, IsKey, is_key, is_key_kind, key_data, key_at, identifier_at}
-use Rattle.amqp_base.specs.Item.{Item, scalar, list, map, array, described, Items, none, more, Pairs, no_pairs, pair}
+use Rattle.amqp_base.specs.Identifiers.{Identifier, by_index, by_name, by_descriptor, by_code, IsKey, is_key, is_key_kind, key_at, identifier_at}
+use Rattle.amqp_base.specs.Item.{Item, list, map, none, more, no_pairs, pair}
 use Rattle.amqp_base.specs.Parse.{Parsed, ◌>>=◌, byte_at, item_at, code_at, is_descriptor_kind, list_data, map_data}
 use Rattle.amqp_base.specs.Wire.{Constructor, bare, under, under_pair}
 

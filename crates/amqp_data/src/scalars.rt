@@ -1,5 +1,9 @@
 //! The data of null, booleans, characters, timestamps and uuids.
-#![tactic(auto, unfolding(amqp_base::specs::Codes::row, amqp_base::specs::SameKind::same_kind, amqp_base::specs::SameKind::place, crate::specs::OneCode::is_only))]
+#![tactic(auto, unfolding(amqp_base::specs::Codes::row,
+// which codes are of one kind
+amqp_base::specs::SameKind::same_kind, amqp_base::specs::SameKind::place,
+// where that is its only code
+crate::specs::OneCode::is_only))]
 
 use crate::leaf::{Leaf, fixed};
 use crate::numbers::byte;

@@ -6,6 +6,7 @@ ghost use Rattle.amqp_de.specs.ReadParts.{open_list};
 ghost use Rattle.amqp_de.specs.Seq.{at_open};
 
 use crate::Deserializer;
+use crate::blocks::LONGEST;
 use crate::list::{Access, Open};
 use amqp_base::Error;
 use amqp_data::least_width;
@@ -13,9 +14,6 @@ use amqp_read::Read;
 
 /// So few bytes cost less where they are asked for one by one.
 const FEW: usize = 4;
-
-/// With so many bytes at hand the next part may be there as a whole.
-const ENOUGH: usize = 9;
 
 impl<R: Read, F> Access<'_, R, F> {
     /// Receives some bytes of the parts that are left, where few are at hand, and no byte behind
@@ -42,7 +40,7 @@ impl<R: Read> Deserializer<R> {
         ensures why { IfErr result (λ e.
             AheadFails R.buffers (at_open self.old inner.now) (at_open self.new inner.now) e) }
     {
-        if inner.left == 0 || self.reader.at_hand() >= ENOUGH {
+        if inner.left == 0 || self.reader.at_hand() >= LONGEST {
             return Ok(());
         }
         let least = (inner.left as usize).saturating_mul(least_width(&self.inherited));

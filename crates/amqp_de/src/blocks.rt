@@ -25,7 +25,7 @@ const MANY: usize = 32;
 const ROOM: usize = 256;
 
 /// The most bytes of a number with its own constructor.
-const LONGEST: usize = 9;
+pub(crate) const LONGEST: usize = 9;
 
 /// So many of such numbers fit into the room, however long they are.
 const MANY_LONG: usize = 28;
@@ -165,9 +165,9 @@ fn push_all<T: Wide<W>, const W: usize>(bytes: &[u8], many: usize, items: &mut V
     }
 }
 
-/// Puts the numbers that stand at the front of the first `shown` bytes of a block, each with its own
-/// constructor, behind the others, as long as there are such, so many at most, for which there is
-/// room: how many they are, and how many bytes. What stands behind the first bytes says nothing.
+/// Puts the numbers that stand at the front of the first `shown` bytes of a block, each with its
+/// own constructor, behind the others, as long as there are such, so many at most, for which there
+/// is room: how many they are, and how many bytes. What stands behind the first bytes says nothing.
 #[inline(always)]
 fn push_front<T: Wide<W>, const W: usize>(
     block: &[u8],

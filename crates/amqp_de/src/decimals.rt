@@ -1,4 +1,7 @@
 //! Decimals.
+#![tactic(auto, unfolding(amqp_base::specs::Codes::row,
+// which codes are of one kind
+amqp_base::specs::SameKind::same_kind, amqp_base::specs::SameKind::place))]
 
 ghost use Rattle.std.specs.Prelude.{◌≡◌, true, false, ◌||◌, IsTrue, IfOk, IfErr};
 ghost use Rattle.amqp_base.specs.Codes.{row, codes};
@@ -93,7 +96,6 @@ impl<R: Read> Deserialize<R> for Dec32 {
     /// A decimal32 (part 1, section 1.6.13). A decimal of another width is a `Message`, before its
     /// data are looked at, and consumes nothing; else the refusals are those of
     /// `deserialize_decimal`.
-    #[tactic(auto, unfolding(amqp_base::specs::Codes::row, amqp_base::specs::SameKind::same_kind, amqp_base::specs::SameKind::place))]
     fn deserialize(alloc: Global, de: &mut Deserializer<R>) -> Result<Dec32, Error> {
         match of_width(alloc, de, EncodingCodes::Decimal32, "expected a decimal32") {
             Ok(decimal) => match decimal {
@@ -109,7 +111,6 @@ impl<R: Read> Deserialize<R> for Dec64 {
     /// A decimal64 (part 1, section 1.6.14). A decimal of another width is a `Message`, before its
     /// data are looked at, and consumes nothing; else the refusals are those of
     /// `deserialize_decimal`.
-    #[tactic(auto, unfolding(amqp_base::specs::Codes::row, amqp_base::specs::SameKind::same_kind, amqp_base::specs::SameKind::place))]
     fn deserialize(alloc: Global, de: &mut Deserializer<R>) -> Result<Dec64, Error> {
         match of_width(alloc, de, EncodingCodes::Decimal64, "expected a decimal64") {
             Ok(decimal) => match decimal {
@@ -125,7 +126,6 @@ impl<R: Read> Deserialize<R> for Dec128 {
     /// A decimal128 (part 1, section 1.6.15). A decimal of another width is a `Message`, before its
     /// data are looked at, and consumes nothing; else the refusals are those of
     /// `deserialize_decimal`.
-    #[tactic(auto, unfolding(amqp_base::specs::Codes::row, amqp_base::specs::SameKind::same_kind, amqp_base::specs::SameKind::place))]
     fn deserialize(alloc: Global, de: &mut Deserializer<R>) -> Result<Dec128, Error> {
         match of_width(
             alloc,

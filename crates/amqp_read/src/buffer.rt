@@ -117,10 +117,7 @@ impl Buffer {
     /// Small vectors grow as every vector does, by 64 bytes at least, and large ones no further
     /// than for `most`.
     fn grow(&mut self, n: usize, most: usize) -> Result<(), Error>
-        ensures unread { self.new.unread ≡ self.old.unread }
-        ensures start { self.new.start ≡ self.old.start }
-        ensures length { self.new.length ≡ self.old.length }
-        ensures counts { (self.new.moved ≡ self.old.moved) × (self.new.most ≡ self.old.most) }
+        ensures others { self.new ≡ record self.old { room = self.new.room } }
         ensures ok { OnOk result (n ≤ self.new.room) }
         ensures err { IfErr result (λ e. e ≡ OutOfMemory) }
     {

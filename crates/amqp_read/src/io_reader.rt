@@ -275,7 +275,7 @@ impl<S: Source> IoReader<S> {
         ensures why { IfErr result (λ e.
             Fails true true self.old.reading self.new.reading e) }
     {
-        if self.received() == 0 && 0 < n && n <= PIECE && n <= usize::MAX - self.bytes_consumed() {
+        if self.can_ask_at_once(n, PIECE) {
             return self.read_whole(alloc, n);
         }
         Ok(None)
@@ -331,6 +331,16 @@ impl<S: Source> IoReader<S> {
         }
     }
 
+    /// Whether nothing was received, and `n` bytes, `most` at most, can be counted.
+    #[inline(always)]
+    fn can_ask_at_once(&self, n: usize, most: usize) -> bool
+        ensures received { IsTrue result → self.now.reading.received ≡ [] }
+        ensures few { IsTrue result → (0 < n) × (n ≤ most) }
+        ensures counted { IsTrue result → self.now.reading.taken + n < 2 ^ 64 }
+    {
+        self.received() == 0 && 0 < n && n <= most && n <= usize::MAX - self.bytes_consumed()
+    }
+
     /// Asks the source once for all of `block`: whether it gave it. What it gave else is kept, and
     /// `block` stays.
     fn read_small(&mut self, block: &mut [u8]) -> Result<bool, Error>
@@ -384,7 +394,7 @@ impl<S: Source> IoReader<S> {
             Fails true true self.old.reading self.new.reading e) }
     {
         let n = block.len();
-        if self.received() == 0 && 0 < n && n <= SMALL && n <= usize::MAX - self.bytes_consumed() {
+        if self.can_ask_at_once(n, SMALL) {
             return self.read_small(block);
         }
         Ok(false)

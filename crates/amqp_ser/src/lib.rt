@@ -1,5 +1,13 @@
 //! Writing values in the AMQP 1.0 encoding (OASIS AMQP 1.0 part 1, sections 1.2 to 1.6).
-#![tactic(auto, unfolding(crate::specs::State::state, amqp_write::specs::State::stand, crate::specs::Compound::open_as, crate::specs::Staged::HasFields, crate::specs::Staged::HasRow, crate::specs::Staged::AwaitsDescriptor, crate::specs::Staged::StaysHeld, crate::specs::Variants::HasVariant, crate::specs::Variants::EndsVariant))]
+#![tactic(auto, unfolding(crate::specs::State::state, amqp_write::specs::State::stand,
+// a compound that is open
+crate::specs::Compound::open_as,
+// one whose descriptor came
+crate::specs::Staged::HasFields, crate::specs::Staged::HasRow,
+// or comes first
+crate::specs::Staged::AwaitsDescriptor, crate::specs::Staged::StaysHeld,
+// an enum's variant
+crate::specs::Variants::HasVariant, crate::specs::Variants::EndsVariant))]
 
 mod blocks;
 mod compound;

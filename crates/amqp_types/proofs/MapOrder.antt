@@ -3,8 +3,8 @@ use Rattle.std.proofs.Common.{◌≡◌, ℕ, zero, suc, ◌+◌, ◌<◌, List,
 use Rattle.std.specs.Prelude.{slice_get}
 use Rattle.std.specs.declared.cmp.Ordering.{Ordering}
 use Rattle.std.specs.declared.cmp.Ordering.TheVariants.{Less}
-use Rattle.std.specs.Ordering.{ordering_then, partial_ordering_then}
-use Rattle.std.specs.Cmp.Lexicographic.{slice_cmp, slice_partial_cmp}
+use Rattle.std.specs.Ordering.{partial_ordering_then}
+use Rattle.std.specs.Cmp.Lexicographic.{slice_partial_cmp}
 use Rattle.std.proofs.lemmas.Option.{none-some, same_Some}
 
 module _ {A : Type 0} where
@@ -36,19 +36,11 @@ module _ {A : Type 0} where
 
   module _ (xs ys : List A) (i : ℕ) (x y : A) (one : Some x ≡ slice_get xs i) (two : Some y ≡ slice_get ys i) where
     -- one turn: what was found of the next two, and behind them the others, is what is found of all
-    pub turn_partly : (P : A → A → Option Ordering) (found whole : Option Ordering) → found ≡ P x y → slice_partial_cmp P (drop i xs) (drop i ys) ≡ whole
+    pub turn : (P : A → A → Option Ordering) (found whole : Option Ordering) → found ≡ P x y → slice_partial_cmp P (drop i xs) (drop i ys) ≡ whole
         → partial_ordering_then found (slice_partial_cmp P (drop (i + 1) xs) (drop (i + 1) ys)) ≡ whole
-    turn_partly P found whole e rest = ap (λ k. partial_ordering_then k (slice_partial_cmp P (drop (i + 1) xs) (drop (i + 1) ys))) e ∙ (both_go_on (slice_partial_cmp P) xs ys i x y one two ∙ rest)
-
-    pub turn : (P : A → A → Ordering) (found whole : Ordering) → found ≡ P x y → slice_cmp P (drop i xs) (drop i ys) ≡ whole
-        → ordering_then found (slice_cmp P (drop (i + 1) xs) (drop (i + 1) ys)) ≡ whole
-    turn P found whole e rest = ap (λ k. ordering_then k (slice_cmp P (drop (i + 1) xs) (drop (i + 1) ys))) e ∙ (both_go_on (slice_cmp P) xs ys i x y one two ∙ rest)
+    turn P found whole e rest = ap (λ k. partial_ordering_then k (slice_partial_cmp P (drop (i + 1) xs) (drop (i + 1) ys))) e ∙ (both_go_on (slice_partial_cmp P) xs ys i x y one two ∙ rest)
 
   -- where items are left of the second list alone, the first is the lesser
-  pub less_partly : (P : A → A → Option Ordering) (ys : List A) → 0 < length ys → Some Less ≡ slice_partial_cmp P [] ys
-  less_partly P [] h = absurd (omega arith)
-  less_partly P (y ∷ ys) h = refl
-
-  pub less : (P : A → A → Ordering) (ys : List A) → 0 < length ys → Less ≡ slice_cmp P [] ys
-  less P [] h = absurd (omega arith)
-  less P (y ∷ ys) h = refl
+  pub is_less : (P : A → A → Option Ordering) (ys : List A) → 0 < length ys → Some Less ≡ slice_partial_cmp P [] ys
+  is_less P [] h = absurd (omega arith)
+  is_less P (y ∷ ys) h = refl

@@ -55,24 +55,12 @@ impl<K: Ord + Hash, V: Ord> Ord for OrderedMap<K, V> {
         both_tied _ _ (K.cmp p.0 q.0) (V.cmp p.1 q.1) (K.matches_eq p.0 q.0)
         (V.matches_eq p.1 q.1)) x y };
 
-    /// As `partial_cmp`.
+    /// As `partial_cmp`, which always answers.
     fn cmp(&self, other: &OrderedMap<K, V>) -> Ordering {
-        let len = self.len();
-        let mut i = 0;
-        'pairs: while let Some(one) = self.as_inner().get_index(i) {
-            match other.as_inner().get_index(i) {
-                Some(two) => match one.cmp(&two) {
-                    Ordering::Equal => i += 1,
-                    Ordering::Less => return Ordering::Less,
-                    Ordering::Greater => return Ordering::Greater,
-                },
-                None => return Ordering::Greater,
-            }
+        match self.partial_cmp(other) {
+            Some(order) => order,
+            None => Ordering::Equal,
         }
-        if len < other.len() {
-            return Ordering::Less;
-        }
-        Ordering::Equal
     }
 }
 

@@ -1,5 +1,7 @@
 //! Values without parts.
-#![tactic(auto, unfolding(crate::specs::State::stand, crate::specs::Texts::why_unwritten, amqp_base::specs::Sizes::sizes))]
+#![tactic(auto, unfolding(crate::specs::State::stand, crate::specs::Texts::why_unwritten,
+// a value without parts has no sizes
+amqp_base::specs::Sizes::sizes))]
 
 ghost use Rattle.std.specs.Prelude.{◌≡◌, false};
 ghost use Rattle.amqp_base.specs.Item.{Item};

@@ -1,55 +1,15 @@
-use Rattle.std.proofs.Common.{◌≡◌, ◌-◌, ◌<◌, Some, None, sym, ◌∙◌, subst, arith, length, drop}
-use Rattle.std.specs.Prelude.{slice_get}
-use Rattle.std.specs.Map.Iter.{deref_pair}
-use Rattle.std.proofs.lemmas.Option.{slice_get_within}
-use Rattle.std.proofs.lemmas.List.{length-drop}
-use Rattle.std.specs.Cmp.Lexicographic.{slice_cmp}
-use Rattle.amqp_types.specs.OrderedMaps.{keys_first}
-use Rattle.amqp_types.proofs.MapOrder.{turn, second_ends, first_ends, less}
+use Rattle.std.proofs.Common.{◌∙◌}
+use Rattle.std.specs.Cmp.{then_agrees}
+use Rattle.std.specs.Cmp.Lexicographic.{lists_agrees}
+use Rattle.std.proofs.lemmas.Option.{none-some, same_Some}
 use Rattle.amqp_types.proofs.map_order.OrderedMapOrd.cmp.Goals as goal
 
-pub overflow_add-i : goal.overflow_add-i
-overflow_add-i g c =
-    let one = subst (λ l. Some (deref_pair c.in-Some.one) ≡ slice_get l c.pairs.i) c.as_inner.ensures c.in-Some.ensures.entry in
-    let within = slice_get_within c.args.self.now c.pairs.i _ (sym one) in
-    omega (arith, within, c.len-len.ensures.len)
-
-pub pairs-preserved : goal.pairs-preserved
-pairs-preserved g c =
-    let one = subst (λ l. Some (deref_pair c.in-Some.one) ≡ slice_get l c.pairs.i) c.as_inner.ensures c.in-Some.ensures.entry in
-    let two = subst (λ l. Some (deref_pair c.in-Some-get_index.two) ≡ slice_get l c.pairs.i) c.as_inner-in-Some.ensures c.in-Some-get_index.ensures.entry in
-    let here = slice_get_within c.args.self.now c.pairs.i _ (sym one) in
-    let there = slice_get_within c.args.other.now c.pairs.i _ (sym two) in
-    record {
-      rest = turn c.args.self.now c.args.other.now c.pairs.i _ _ one two (keys_first g.K.Ord.cmp g.V.Ord.cmp) _ _ c.in-Equal.ensures c.pairs.invariant.rest;
-      here = omega (arith, here);
-      there = omega (arith, there);
-    }
-
-pub returns-in-Less : goal.returns-in-Less
-returns-in-Less g c =
-    let one = subst (λ l. Some (deref_pair c.in-Some.one) ≡ slice_get l c.pairs.i) c.as_inner.ensures c.in-Some.ensures.entry in
-    let two = subst (λ l. Some (deref_pair c.in-Some-get_index.two) ≡ slice_get l c.pairs.i) c.as_inner-in-Some.ensures c.in-Some-get_index.ensures.entry in
-    turn c.args.self.now c.args.other.now c.pairs.i _ _ one two (keys_first g.K.Ord.cmp g.V.Ord.cmp) _ _ c.in-Less.ensures c.pairs.invariant.rest
-
-pub returns-in-Greater : goal.returns-in-Greater
-returns-in-Greater g c =
-    let one = subst (λ l. Some (deref_pair c.in-Some.one) ≡ slice_get l c.pairs.i) c.as_inner.ensures c.in-Some.ensures.entry in
-    let two = subst (λ l. Some (deref_pair c.in-Some-get_index.two) ≡ slice_get l c.pairs.i) c.as_inner-in-Some.ensures c.in-Some-get_index.ensures.entry in
-    turn c.args.self.now c.args.other.now c.pairs.i _ _ one two (keys_first g.K.Ord.cmp g.V.Ord.cmp) _ _ c.in-Greater.ensures c.pairs.invariant.rest
+pub returns-in-Some : goal.returns-in-Some
+returns-in-Some g c =
+    let agrees = lists_agrees (then_agrees (λ p q. g.met.K.Ord.matches_partial_cmp p.0 q.0) (λ p q. g.met.V.Ord.matches_partial_cmp p.1 q.1)) in
+    same_Some _ _ (c.in-Some.ensures ∙ agrees c.args.self.now c.args.other.now)
 
 pub returns-in-None : goal.returns-in-None
 returns-in-None g c =
-    let one = subst (λ l. Some (deref_pair c.in-Some.one) ≡ slice_get l c.pairs.i) c.as_inner.ensures c.in-Some.ensures.entry in
-    let none = subst (λ l. None ≡ slice_get l c.pairs.i) c.as_inner-in-Some.ensures c.in-None.ensures.entry in
-    second_ends (slice_cmp (keys_first g.K.Ord.cmp g.V.Ord.cmp)) c.args.self.now c.args.other.now c.pairs.i _ one none ∙ c.pairs.invariant.rest
-
-pub returns-then-len : goal.returns-then-len
-returns-then-len g c =
-    let P = keys_first g.K.Ord.cmp g.V.Ord.cmp in
-    let ys = c.args.other.now in
-    let none = subst (λ l. None ≡ slice_get l c.pairs.i) c.as_inner.ensures c.in_default.ensures.entry in
-    let long = length-drop c.pairs.i ys in
-    let here = c.pairs.invariant.here in
-    let left : 0 < length (drop c.pairs.i ys) = omega (arith, long, here, c.if-len.true, c.len-len.ensures.len, c.len.ensures.len) in
-    less P (drop c.pairs.i ys) left ∙ (first_ends (slice_cmp P) c.args.self.now ys c.pairs.i none ∙ c.pairs.invariant.rest)
+    let agrees = lists_agrees (then_agrees (λ p q. g.met.K.Ord.matches_partial_cmp p.0 q.0) (λ p q. g.met.V.Ord.matches_partial_cmp p.1 q.1)) in
+    absurd (none-some _ (c.in-None.ensures ∙ agrees c.args.self.now c.args.other.now))

@@ -1,11 +1,11 @@
-use Rattle.std.proofs.Common.{◌≡◌, ◌-◌, ◌<◌, Some, None, sym, ◌∙◌, subst, arith, length, drop}
+use Rattle.std.proofs.Common.{◌≡◌, ◌<◌, Some, None, sym, ◌∙◌, subst, arith, length, drop}
 use Rattle.std.specs.Prelude.{slice_get}
 use Rattle.std.specs.Map.Iter.{deref_pair}
 use Rattle.std.proofs.lemmas.Option.{slice_get_within}
 use Rattle.std.proofs.lemmas.List.{length-drop}
 use Rattle.std.specs.Cmp.Lexicographic.{slice_partial_cmp}
 use Rattle.amqp_types.specs.OrderedMaps.{keys_first_partly}
-use Rattle.amqp_types.proofs.MapOrder.{turn_partly, second_ends, first_ends, less_partly}
+use Rattle.amqp_types.proofs.MapOrder.{turn, second_ends, first_ends, is_less}
 use Rattle.amqp_types.proofs.map_order.OrderedMapPartialOrd.partial_cmp.Goals as goal
 
 pub overflow_add-i : goal.overflow_add-i
@@ -21,7 +21,7 @@ pairs-preserved g c =
     let here = slice_get_within c.args.self.now c.pairs.i _ (sym one) in
     let there = slice_get_within c.args.other.now c.pairs.i _ (sym two) in
     record {
-      rest = turn_partly c.args.self.now c.args.other.now c.pairs.i _ _ one two (keys_first_partly g.K.PartialOrd.partial_cmp g.V.PartialOrd.partial_cmp) _ _ (rw c.in-Some-Equal.field-0-is at c.in-Some-Equal.ensures) c.pairs.invariant.rest;
+      rest = turn c.args.self.now c.args.other.now c.pairs.i _ _ one two (keys_first_partly g.K.PartialOrd.partial_cmp g.V.PartialOrd.partial_cmp) _ _ (rw c.in-Some-Equal.field-0-is at c.in-Some-Equal.ensures) c.pairs.invariant.rest;
       here = omega (arith, here);
       there = omega (arith, there);
     }
@@ -30,19 +30,19 @@ pub returns-in-Some-Less : goal.returns-in-Some-Less
 returns-in-Some-Less g c =
     let one = subst (λ l. Some (deref_pair c.in-Some.one) ≡ slice_get l c.pairs.i) c.as_inner.ensures c.in-Some.ensures.entry in
     let two = subst (λ l. Some (deref_pair c.in-Some-get_index.two) ≡ slice_get l c.pairs.i) c.as_inner-in-Some.ensures c.in-Some-get_index.ensures.entry in
-    turn_partly c.args.self.now c.args.other.now c.pairs.i _ _ one two (keys_first_partly g.K.PartialOrd.partial_cmp g.V.PartialOrd.partial_cmp) _ _ (rw c.in-Some-Less.field-0-is at c.in-Some-Less.ensures) c.pairs.invariant.rest
+    turn c.args.self.now c.args.other.now c.pairs.i _ _ one two (keys_first_partly g.K.PartialOrd.partial_cmp g.V.PartialOrd.partial_cmp) _ _ (rw c.in-Some-Less.field-0-is at c.in-Some-Less.ensures) c.pairs.invariant.rest
 
 pub returns-in-Some-Greater : goal.returns-in-Some-Greater
 returns-in-Some-Greater g c =
     let one = subst (λ l. Some (deref_pair c.in-Some.one) ≡ slice_get l c.pairs.i) c.as_inner.ensures c.in-Some.ensures.entry in
     let two = subst (λ l. Some (deref_pair c.in-Some-get_index.two) ≡ slice_get l c.pairs.i) c.as_inner-in-Some.ensures c.in-Some-get_index.ensures.entry in
-    turn_partly c.args.self.now c.args.other.now c.pairs.i _ _ one two (keys_first_partly g.K.PartialOrd.partial_cmp g.V.PartialOrd.partial_cmp) _ _ (rw c.in-Some-Greater.field-0-is at c.in-Some-Greater.ensures) c.pairs.invariant.rest
+    turn c.args.self.now c.args.other.now c.pairs.i _ _ one two (keys_first_partly g.K.PartialOrd.partial_cmp g.V.PartialOrd.partial_cmp) _ _ (rw c.in-Some-Greater.field-0-is at c.in-Some-Greater.ensures) c.pairs.invariant.rest
 
 pub returns-in-None-partial_cmp : goal.returns-in-None-partial_cmp
 returns-in-None-partial_cmp g c =
     let one = subst (λ l. Some (deref_pair c.in-Some.one) ≡ slice_get l c.pairs.i) c.as_inner.ensures c.in-Some.ensures.entry in
     let two = subst (λ l. Some (deref_pair c.in-Some-get_index.two) ≡ slice_get l c.pairs.i) c.as_inner-in-Some.ensures c.in-Some-get_index.ensures.entry in
-    turn_partly c.args.self.now c.args.other.now c.pairs.i _ _ one two (keys_first_partly g.K.PartialOrd.partial_cmp g.V.PartialOrd.partial_cmp) _ _ c.in-None-partial_cmp.ensures c.pairs.invariant.rest
+    turn c.args.self.now c.args.other.now c.pairs.i _ _ one two (keys_first_partly g.K.PartialOrd.partial_cmp g.V.PartialOrd.partial_cmp) _ _ c.in-None-partial_cmp.ensures c.pairs.invariant.rest
 
 pub returns-in-None : goal.returns-in-None
 returns-in-None g c =
@@ -58,4 +58,4 @@ returns-then-len g c =
     let long = length-drop c.pairs.i ys in
     let here = c.pairs.invariant.here in
     let left : 0 < length (drop c.pairs.i ys) = omega (arith, long, here, c.if-len.true, c.len-len.ensures.len, c.len.ensures.len) in
-    less_partly P (drop c.pairs.i ys) left ∙ (first_ends (slice_partial_cmp P) c.args.self.now ys c.pairs.i none ∙ c.pairs.invariant.rest)
+    is_less P (drop c.pairs.i ys) left ∙ (first_ends (slice_partial_cmp P) c.args.self.now ys c.pairs.i none ∙ c.pairs.invariant.rest)
