@@ -4,11 +4,16 @@ ghost use Rattle.amqp_base.specs.Meaning.{map_of};
 ghost use Rattle.amqp_base.specs.ReadBack.{both};
 ghost use Rattle.std.specs.Cmp.{IsEquivalence};
 ghost use Rattle.std.specs.Prelude.{◌≡◌, ◌==◌, ◌&&◌, ℕ, List, [], length};
+ghost use Rattle.std.specs.Prelude.{◌≤◌, slice_range};
 ghost use Rattle.std.specs.Prelude.{option_copied, is_some, IfOk, OnOk, IfErr, OnErr, true, refl};
 ghost use Rattle.std.specs.Cmp.{on_per, and_per, on_equiv, and_equiv};
 ghost use Rattle.std.specs.Cmp.Lexicographic.{pointwise, lists_per, lists_equiv};
 ghost use Rattle.std.specs.List.{IsDistinct, AllZip};
-ghost use Rattle.std.specs.Borrow.{LendsSo, sem};
+ghost use Rattle.std.specs.Borrow.{Lends, LendsSo, follows, sem};
+ghost use Rattle.std.specs.List.{remove_range};
+ghost use Rattle.indexmap.specs.Drain.{drain_rest, drain_kept, drain_lender};
+ghost use Rattle.amqp_types.specs.Drains.{HandsOver};
+ghost use Rattle.amqp_types.specs.Rows.{pairs_row};
 ghost use Rattle.std.specs.Option.{option_copied_mut};
 ghost use Rattle.amqp_types.specs.contracts.ordered_map.OrderedMap.{the_row};
 ghost use Rattle.std.specs.Map.{lookup, lookup_key, keys_of, values_of, set_value};
@@ -22,10 +27,11 @@ ghost use Rattle.std.specs.Iterator.{Drains, IsFinite};
 
 use amqp_base::{Error, NeverNull, RoundTrip, Typed};
 use indexmap::IndexMap;
-use indexmap::map::{IntoIter, IntoKeys, IntoValues, Iter, Keys, Values};
+use indexmap::map::{Drain, IntoIter, IntoKeys, IntoValues, Iter, Keys, Values};
 use std::alloc::{AllocError, Global};
 use std::hash::Hash;
 use std::marker::Model;
+use std::ops::Range;
 
 /// A map as the list of its pairs, whose keys differ, in the order in which the keys came (part 1,
 /// section 1.6.23: the order of a map's pairs counts). A contract sees that list.
@@ -189,6 +195,26 @@ impl<K: Eq + Hash, V> OrderedMap<K, V> {
         self.pairs.clear();
     }
 
+    /// The pairs whose places are in `range`, each handed over when it is asked for, in order or
+    /// from the back. Once the `Drain` is dropped the map has the others, in order, however many
+    /// were asked for; its memory stays.
+    pub fn drain(&mut self, range: Range<usize>) -> Drain<'_, K, V>
+    where
+        K: Drop,
+        V: Drop,
+        requires ends { range.start ≤ range.end }
+        requires in_bounds { range.end ≤ length self.old }
+        ensures rest { drain_rest result ≡ slice_range self.old range.start range.end }
+        ensures kept { drain_kept result ≡ remove_range self.old range.start range.end }
+        ensures hands_over { HandsOver result }
+        ensures* writes_back { sem 𝓛 (follows
+            (the_row K.row V.row K.PartialEq (record { hash_input = K.hash_input }))
+            (pairs_row K.row V.row K.PartialEq (record { hash_input = K.hash_input }))
+            self.entry.ghost_name (drain_lender result) (λ m. m.entries)) }
+    {
+        self.pairs.drain(range)
+    }
+
     /// Gives back the memory that the pairs don't need.
     pub fn shrink_to_fit(&mut self)
         ensures { self.new ≡ self.old }
@@ -260,6 +286,17 @@ impl<K: Eq + Hash, V> OrderedMap<K, V> {
             (λ n. n ≡ self.entry.now)) }
     {
         self.pairs.get_mut(key)
+    }
+
+    /// The map that keeps the pairs, lent to be written.
+    pub fn as_inner_mut(&mut self) -> &mut IndexMap<K, V>
+        ensures shows { result.now.entries ≡ self.old }
+        ensures* writes_back { sem 𝓛 (Lends
+            (the_row K.row V.row K.PartialEq (record { hash_input = K.hash_input }))
+            (pairs_row K.row V.row K.PartialEq (record { hash_input = K.hash_input }))
+            self.entry result (λ m. m.entries)) }
+    {
+        &mut self.pairs
     }
 
     /// The map that keeps the pairs.

@@ -1,25 +1,17 @@
 -- From a descriptor and the value behind it to a described item that is written.
-use Rattle.std.proofs.Common.{◌≡◌, ℕ, ◌<◌, ◌≤◌, ◌^◌, ◌==◌, nat_lt, nat_le, if◌then◌else◌, Bool, true, false, List, [], ◌∷◌, ◌++◌, length, Option, Some, None, Result, Ok, Err, OnOk, IfErr, refl, sym, ap, subst, ◌∙◌, arith, inl, inr, ◌⊎◌}
+use Rattle.std.proofs.Common.{◌≡◌, ℕ, ◌<◌, ◌≤◌, ◌^◌, ◌==◌, nat_lt, nat_le, if◌then◌else◌, Bool, true, false, List, [], ◌∷◌, length, Option, Some, None, Result, Ok, Err, refl, sym, subst, ◌∙◌, arith, inl, inr}
 use Rattle.std.specs.Str.{is_utf8}
-use Rattle.std.specs.declared.io.ErrorKind.TheVariants.{Other as IoOther}
 use Rattle.std.proofs.lemmas.Bool.{ltb-false, leb-true, leb-false}
 use Rattle.amqp_base.specs.declared.error.Error.{Error}
-use Rattle.amqp_base.specs.declared.error.Error.TheVariants.{InvalidValue, OutOfMemory, Io}
 use Rattle.amqp_base.specs.declared.format_code.EncodingCodes.TheVariants.{Sym32, Ulong}
 use Rattle.amqp_base.specs.Codes.{row, widest}
-use Rattle.amqp_base.specs.declared.shape.Setting.TheVariants.{DescribedBasic}
-use Rattle.amqp_base.specs.Faults.{IsFault}
-use Rattle.amqp_base.specs.Item.{Descriptor, name, code, descriptor_item, Item, scalar, symbol, ulong, described}
-use Rattle.amqp_base.specs.Wire.{Constructor, under, under_pair}
+use Rattle.amqp_base.specs.Item.{Descriptor, name, code, descriptor_item, scalar}
 use Rattle.amqp_base.specs.Canon.{◌>>=◌, or_else, when, limit, kind_code, descriptor_text, canon, scalar_text, short_text, scalar_body, unsigned}
-use Rattle.amqp_base.specs.Sizes.{Size, sizes}
-use Rattle.amqp_types.specs.declared.described.Descriptor.{Descriptor as OwnDescriptor}
-use Rattle.amqp_types.specs.Descriptors.{descriptor_of}
-use Rattle.amqp_write.specs.State.{State, Planned, Mark, unmarked, first, other}
-use Rattle.amqp_write.specs.Texts.{marked, unwritten, payload_length, why_unwritten}
-use Rattle.amqp_write.specs.Law.{fits, is_next, text_for, found_after, plan_after, Goes, Kept, Wrote, Refused, MayRefuse, Unwritten}
-use Rattle.amqp_write.specs.Appending.{Appended, Pays, PaysItem, NotWritten, payload_at}
-use Rattle.amqp_write.specs.Describing.{describing, why_undescribed, IsOwn}
+use Rattle.amqp_write.specs.State.{State, Planned, unmarked}
+use Rattle.amqp_write.specs.Texts.{marked}
+use Rattle.amqp_write.specs.Law.{fits, found_after, plan_after}
+use Rattle.amqp_write.specs.Appending.{Appended, Pays, PaysItem, payload_at}
+use Rattle.amqp_write.specs.Describing.{describing}
 use Rattle.amqp_write.proofs.Steps.{kept_two, fits_nil}
 use Rattle.amqp_write.proofs.Counting.{goes_more}
 use Rattle.amqp_write.proofs.ShortNumbers.{unsigned_fits}

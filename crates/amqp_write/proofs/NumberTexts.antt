@@ -1,7 +1,7 @@
 -- The texts of numbers, many at a time.
 use Rattle.std.proofs.Common.{◌≡◌, ℕ, ℤ, pos, negsuc, ◌+◌, ◌*◌, ◌/◌, ◌%◌, ◌^◌, ◌<◌, ◌==◌, ◌≤◌, List, [], ◌∷◌, ◌++◌, length, length-append, length-take, length-take-le, length-drop, append_assoc, set, suc, zero, get_or, map, take, drop, min, refl, sym, ◌∙◌, ap, subst, arith, Option, Some, true, Result, Ok, Err}
 use Rattle.std.proofs.lemmas.Int.{ints}
-use Rattle.std.proofs.lemmas.List.{take-append-drop, take_all, take_more, map-append, append-nil, take-take, length-set}
+use Rattle.std.proofs.lemmas.List.{take-append-drop, take_more, map-append, append-nil, take-take, length-set}
 use Rattle.std.proofs.lemmas.Grind.{take-set_at}
 use Rattle.std.proofs.lemmas.Slice.{take-put_mid}
 use borrow.Rule.Slice.PartMut.{put_mid}

@@ -1,16 +1,15 @@
 -- An item that has a text of its own can be refused as an element alone.
-use Rattle.std.proofs.Common.{◌≡◌, ℕ, ◌==◌, nat_lt, nat_le, Bool, true, false, List, [], ◌∷◌, ◌++◌, length, Option, Some, None, refl, sym, ap, subst, ◌∙◌, arith, if◌then◌else◌, ◌⊎◌, inl, inr}
+use Rattle.std.proofs.Common.{◌≡◌, ℕ, nat_lt, nat_le, Bool, true, false, List, [], ◌∷◌, ◌++◌, length, Option, Some, None, refl, sym, ap, subst, ◌∙◌, arith, if◌then◌else◌, ◌⊎◌, inl, inr}
 use Rattle.std.specs.Str.{is_utf8}
 use Rattle.std.proofs.lemmas.Bool.{lt-leb, ltb-true, ne_eqb}
-use Rattle.amqp_base.specs.declared.format_code.EncodingCodes.{EncodingCodes}
 use Rattle.std.specs.declared.io.ErrorKind.TheVariants.{Other as IoOther}
 use Rattle.amqp_base.specs.declared.error.Error.{Error}
 use Rattle.amqp_base.specs.declared.error.Error.TheVariants.{InvalidValue, Io}
 use Rattle.amqp_base.specs.declared.shape.Shape.{Shape}
 use Rattle.amqp_base.specs.Codes.{row, widest}
-use Rattle.amqp_base.specs.Item.{Descriptor, descriptor_item, Scalar, null, boolean, ubyte, ushort, uint, ulong, byte, short, int, long, float, double, decimal32, decimal64, decimal128, char, timestamp, uuid, binary, string, symbol, Item, scalar, list, map, array, described, Items, none, more, Pairs, no_pairs, pair, items_of, count, in_turn}
+use Rattle.amqp_base.specs.Item.{descriptor_item, Scalar, null, boolean, ubyte, ushort, uint, ulong, byte, short, int, long, float, double, decimal32, decimal64, decimal128, char, timestamp, uuid, binary, string, symbol, Item, scalar, list, map, array, described, Items, none, more, Pairs, no_pairs, pair, items_of, count, in_turn}
 use Rattle.amqp_base.specs.Shapes.{whole, pairs_of}
-use Rattle.amqp_base.specs.Canon.{◌>>=◌, or_else, when, limit, sized, canon, canons, pair_canons, array_body, descriptor_text, scalar_body, scalar_text, short_text, kind_of, list_text, compound_text, wide_body}
+use Rattle.amqp_base.specs.Canon.{◌>>=◌, or_else, when, limit, sized, canon, canons, pair_canons, array_body, descriptor_text, scalar_body, scalar_text, short_text, list_text, compound_text}
 use Rattle.amqp_write.specs.State.{Mark, unmarked, first}
 use Rattle.amqp_write.specs.Texts.{marked, mark_after, payload_length, unwritten, or_later, or_whole, why_unwritten, why_part, why_pair}
 use Rattle.amqp_write.specs.Wholes.{parts_text, Complete}

@@ -1,5 +1,7 @@
 //! What is taken out of an ordered map, and its keys, values and pairs in order.
 
+ghost use Rattle.std.specs.Prelude.{◌≡◌, ◌≤◌, length, drop, reverse};
+
 use super::ordered_map::{are_pairs, inserts, is_at};
 use amqp_types::OrderedMap;
 use std::alloc::Global;
@@ -46,6 +48,69 @@ fn shift_removes_a_pair(alloc: Global) -> bool {
     is_made && gives_two && are_pairs(&map, &[(10, 1), (30, 3), (40, 4)])
 }
 
+/// Takes out the first two pairs, and asks for none of them.
+fn drops_two(map: &mut OrderedMap<u32, u32>)
+    requires { 2 ≤ length map.old }
+    ensures { map.new ≡ drop 2 map.old }
+{
+    drop(map.drain(0..2));
+}
+
+/// Those behind the first two stay.
+fn keeps_those_behind(alloc: Global) -> bool {
+    let mut map = OrderedMap::new(alloc);
+    let is_made = takes_four(&mut map);
+    if map.len() < 2 {
+        return false;
+    }
+    drops_two(&mut map);
+    is_made && are_pairs(&map, &[(30, 3), (40, 4)])
+}
+
+/// The pairs in a range of places are handed over, and the others stay.
+fn drains_a_range(alloc: Global) -> bool {
+    let mut map = OrderedMap::new(alloc);
+    let is_made = takes_four(&mut map);
+    if map.len() < 3 {
+        return false;
+    }
+    let mut drained = map.drain(1..3);
+    let gives_two = drained.next() == Some((20, 2));
+    let gives_three = drained.next() == Some((30, 3));
+    let gives_no_more = drained.next().is_none();
+    drop(drained);
+    let stay = are_pairs(&map, &[(10, 1), (40, 4)]);
+    is_made && gives_two && gives_three && gives_no_more && stay
+}
+
+/// What isn't asked for goes with the `Drain`.
+fn drains_from_the_back(alloc: Global) -> bool {
+    let mut map = OrderedMap::new(alloc);
+    let is_made = takes_four(&mut map);
+    if map.len() < 3 {
+        return false;
+    }
+    let mut drained = map.drain(1..3);
+    let gives_three = drained.next_back() == Some((30, 3));
+    drop(drained);
+    is_made && gives_three && are_pairs(&map, &[(10, 1), (40, 4)])
+}
+
+/// Turns the pairs round where they stand.
+fn turns_round(map: &mut OrderedMap<u32, u32>)
+    ensures { map.new ≡ reverse map.old }
+{
+    map.as_inner_mut().reverse();
+}
+
+/// The last pair is the first then.
+fn is_turned_round(alloc: Global) -> bool {
+    let mut map = OrderedMap::new(alloc);
+    let is_made = takes_four(&mut map);
+    turns_round(&mut map);
+    is_made && are_pairs(&map, &[(40, 4), (30, 3), (20, 2), (10, 1)])
+}
+
 /// A map has its keys until it is cleared, also where it gives back memory.
 fn has_keys_until_cleared(alloc: Global) -> bool {
     let mut map = OrderedMap::new(alloc);
@@ -79,6 +144,10 @@ fn pairs_are_taken_out_of_an_ordered_map(rt: HostRuntime) {
     assert!(rt; swap_removes_a_pair(alloc));
     assert!(rt; shift_removes(alloc));
     assert!(rt; shift_removes_a_pair(alloc));
+    assert!(rt; keeps_those_behind(alloc));
+    assert!(rt; drains_a_range(alloc));
+    assert!(rt; drains_from_the_back(alloc));
+    assert!(rt; is_turned_round(alloc));
     assert!(rt; has_keys_until_cleared(alloc));
     assert!(rt; is_made_with_room(alloc));
     assert!(rt; is_of_what_is_given(alloc));

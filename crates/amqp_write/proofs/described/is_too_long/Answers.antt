@@ -1,4 +1,3 @@
-use Rattle.std.proofs.Common.{string_bytes}
 use Rattle.std.proofs.lemmas.Str.{is_utf8-from_IsUtf8}
 use Rattle.amqp_write.proofs.DescribedSteps.{name_fits}
 use Rattle.amqp_write.proofs.described.is_too_long.Goals as goal

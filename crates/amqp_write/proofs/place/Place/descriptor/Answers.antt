@@ -2,7 +2,7 @@ use Rattle.std.proofs.Common.{refl, ap, string_bytes}
 use Rattle.amqp_base.specs.Item.{name, code}
 use Rattle.amqp_write.specs.State.{stand}
 use Rattle.amqp_write.specs.Appending.{as_error}
-use Rattle.amqp_write.proofs.DescribedSteps.{pays_behind, pays_no_byte, pays_described}
+use Rattle.amqp_write.proofs.DescribedSteps.{pays_no_byte, pays_described}
 use Rattle.amqp_write.proofs.place.Place.descriptor.Goals as goal
 
 pub returns-in-Err : goal.returns-in-Err
