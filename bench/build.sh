@@ -3,18 +3,29 @@
 set -e
 cd "$(dirname "$0")"
 kit=$(dirname "$(dirname "$(readlink -f "$(command -v rt)")")")
-work=$(mktemp -d)
-trap 'rm -rf "$work"' EXIT
-trap 'exit 1' HUP INT TERM
+# The workspace is a temporary folder; or BENCH_DIR, which stays, so that a later run proves and builds what has changed alone.
+if [ -n "$BENCH_DIR" ]; then
+  mkdir -p "$BENCH_DIR"
+  work=$(cd "$BENCH_DIR" && pwd)
+  [ ! -d "$work/bench" ] || { echo 'bench: BENCH_DIR is a checkout' >&2; exit 1; }
+else
+  work=$(mktemp -d)
+  trap 'rm -rf "$work"' EXIT
+  trap 'exit 1' HUP INT TERM
+fi
 
 say() { echo "bench: $*" >&2; }
 
 # The workspace, with the crate of the exports. Libraries that are built are taken along: of those rt builds what has changed.
 uses='amqp_base amqp_types amqp_read amqp_write amqp_ser amqp_data amqp_de serde_amqp'
 mkdir -p "$work/.git" "$work/crates"
+for it in ../crates/*/; do
+  it=$work/crates/$(basename "$it")
+  rm -rf "$it/src" "$it/specs" "$it/proofs"
+done
 (cd ../crates && tar cf - --exclude='*/out' .) | (cd "$work/crates" && tar xf -)
 for it in $uses; do
-  [ ! -d "../crates/$it/out/rlib" ] || { mkdir "$work/crates/$it/out" && cp -R "../crates/$it/out/rlib" "$work/crates/$it/out/"; }
+  [ -d "$work/crates/$it/out" ] || [ ! -d "../crates/$it/out/rlib" ] || { mkdir "$work/crates/$it/out" && cp -R "../crates/$it/out/rlib" "$work/crates/$it/out/"; }
 done
 cp ../HANDLES "$work/"
 {
@@ -46,6 +57,7 @@ driver -C link-arg="$library" -C link-arg="$kit/c/liblibc_c.a" -o "$work/bench"
 "$work/count" > "$work/counts"
 # Where valgrind is there, instructions too.
 if command -v valgrind > /dev/null; then
+  rm -rf "$work/callgrind"
   mkdir "$work/callgrind"
   valgrind --tool=callgrind --callgrind-out-file="$work/callgrind/out" "$work/bench" 2> "$work/log" ||
     { cat "$work/log" >&2; exit 1; }
