@@ -7,10 +7,11 @@ use Rattle.std.proofs.lemmas.Bool.{cases_lt}
 use Rattle.std.proofs.Math.Seq.{take-add, take-append_seam, take-length}
 use Rattle.std.specs.declared.io.ErrorKind.{ErrorKind}
 use Rattle.std.specs.declared.io.ErrorKind.TheVariants as kinds
-use Rattle.amqp_base.specs.declared.error.Error.TheVariants.{OutOfMemory}
+use Rattle.amqp_base.specs.declared.error.Error.{Error}
+use Rattle.amqp_base.specs.declared.error.Error.TheVariants.{InvalidFormatCode, InvalidLength, InvalidUtf8Encoding, InvalidValue, Io, Message, OutOfMemory, SequenceLengthMismatch}
 use Rattle.amqp_base.specs.Faults.{refusal_of, IsFault}
 use Rattle.amqp_read.specs.Reading.{Reading, Agree, Stays, Steady, Takes}
-use Rattle.amqp_read.specs.Steps.{Looked, IsShort, ShortOf, Passes, PassesSome, MayCome, Admits}
+use Rattle.amqp_read.specs.Steps.{Looked, IsShort, ShortOf, Passes, PassesSome, MayCome, Admits, Fails, Failed}
 use Rattle.amqp_read.specs.Streaming.{reads}
 
 -- bytes that go from the source to the received ones are to come as before
@@ -28,6 +29,21 @@ received_stays u got r r' t f f' l l' h h' o o' c faults honest origin = record 
   received = take-append_seam u got;
   steady = record { honest = honest; origin = origin; faults = omega arith; taken = omega arith };
 }
+
+-- what a buffering reader refuses, by itself
+fault_failed : (last : Option ErrorKind) (e : Error) → IsFault last e → Failed e
+fault_failed last (Io kind) h = tt
+fault_failed last OutOfMemory h = tt
+fault_failed last (Message m) h = absurd h
+fault_failed last InvalidFormatCode h = absurd h
+fault_failed last InvalidValue h = absurd h
+fault_failed last InvalidUtf8Encoding h = absurd h
+fault_failed last SequenceLengthMismatch h = absurd h
+fault_failed last InvalidLength h = absurd h
+
+pub fails_failed : (old new : Reading) (e : Error) → Fails true true old new e → Failed e × IsTrue true
+fails_failed old new e (inl m) = rw m.0 (tt, refl)
+fails_failed old new e (inr f) = (fault_failed new.last_fault e f.0, refl)
 
 -- a fault, as a refusal
 pub fault_fails : {grows : Bool} {old new before : ℕ} {after : Option ErrorKind} (kind : ErrorKind) → old ≡ before → (new ≡ old + 1) ⊎ ((kind ≡ kinds.OutOfMemory) × (grows ≡ true) × (new ≡ old)) → (old < new → after ≡ Some kind) →

@@ -56,6 +56,12 @@ IsShort n r = IsTrue r.honest → ShortOf n r.to_come
 abbrev pub Fails : Bool → Bool → Reading → Reading → Error → Type 0
 Fails grows buffers old new e = ((e ≡ OutOfMemory) × IsTrue grows) ⊎ (IsFault new.last_fault e × (old.faults < new.faults) × IsTrue buffers)
 
+-- want of memory, or a fault of some kind
+abbrev pub Failed : Error → Type 0
+Failed OutOfMemory = ⊤
+Failed (Io kind) = ⊤
+Failed e = ⊥
+
 -- n bytes are to come, where that is known
 abbrev pub HasBytes : ℕ → Option (List ℕ) → Type 0
 HasBytes n None = ⊤

@@ -594,7 +594,7 @@ impl<S: Source> Read for IoReader<S> {
     fn peek_bytes(&mut self, n: usize) -> Result<Option<&[u8]>, Error> {
         match self.fill(n) {
             Ok(_) => Ok(self.buffer.front(n)),
-            Err(e) => Err(e),
+            Err(refusal) => Err(refusal),
         }
     }
 

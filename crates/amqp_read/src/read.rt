@@ -7,7 +7,7 @@ ghost use Rattle.std.specs.Prelude.{MatchOption, string_bytes};
 ghost use Rattle.amqp_read.specs.Reading.{Reading, Stays, Takes};
 ghost use Rattle.amqp_read.specs.Steps.{Shows, MayCome, Ended, IsShort, Fails, NotTaken};
 ghost use Rattle.amqp_read.specs.Steps.{PassesCount, Holds, Looked, AtHand, ShowsBehind, NotSeen};
-ghost use Rattle.amqp_read.specs.Steps.{Passes, PassesSome};
+ghost use Rattle.amqp_read.specs.Steps.{Passes, PassesSome, Failed};
 ghost use Rattle.amqp_read.specs.Raw.{TakesValue, TakesStrict, NoValue, HasValue};
 ghost use Rattle.amqp_read.specs.Raw.{ValuePassesCount, MeasuresValue, Measures, NoScalar};
 ghost use Rattle.amqp_read.specs.Raw.{SeesNumber, Sees};
@@ -83,7 +83,7 @@ pub trait Read: sealed::Sealed + Drop {
     fn peek_bytes(&mut self, n: usize) -> Result<Option<&[u8]>, Error>
         ensures ok { IfOk result (λ o. MatchOption o (IsShort n (reading self.old)) (λ b.
             (length b.now ≡ n) × MayCome (reading self.old) b.now)) }
-        ensures why { OnErr result (IsTrue buffers) };
+        ensures why { IfErr result (λ e. Failed e × IsTrue buffers) };
 
     /// Consumes the next `n` bytes; `Io(UnexpectedEof)` where fewer are to come, `OutOfMemory`
     /// where the vector finds no memory. Memory for it is asked for only after the bytes are there.

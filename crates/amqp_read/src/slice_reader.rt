@@ -11,7 +11,7 @@ ghost use mir.Syntax.{named};
 ghost use Rattle.amqp_read.specs.contracts.slice_reader.SliceReader.{the_row};
 ghost use Rattle.amqp_read.specs.Reading.{Reading, Takes};
 ghost use Rattle.amqp_read.specs.Steps.{ShortOf, MayCome, IsShort, Looked, NotTaken, Passes};
-ghost use Rattle.amqp_read.specs.Steps.{PassesSome};
+ghost use Rattle.amqp_read.specs.Steps.{PassesSome, Failed};
 
 use crate::Read;
 use crate::read::sealed::Sealed;
@@ -149,7 +149,7 @@ impl<'s> Read for SliceReader<'s> {
     fn peek_bytes(&mut self, n: usize) -> Result<Option<&[u8]>, Error>
         ensures ok { IfOk result (λ o. MatchOption o (IsShort n self.old) (λ b.
             (length b.now ≡ n) × MayCome self.old b.now)) }
-        ensures why { OnErr result (IsTrue false) }
+        ensures why { IfErr result (λ e. Failed e × IsTrue false) }
         ensures* lent { sem 𝓛 (Rests (the_row (record { mir = named 1; lft = [] })) self.entry
             (λ last. Looked n self.old last)) }
     {

@@ -13,9 +13,8 @@ ghost use Rattle.std.specs.Borrow.{Lends, LendsSo, follows, sem};
 ghost use Rattle.std.specs.List.{remove_range};
 ghost use Rattle.indexmap.specs.Drain.{drain_rest, drain_kept, drain_lender};
 ghost use Rattle.amqp_types.specs.Drains.{HandsOver};
-ghost use Rattle.amqp_types.specs.Rows.{pairs_row};
+ghost use Rattle.amqp_types.specs.Rows.{map_row, pairs_row};
 ghost use Rattle.std.specs.Option.{option_copied_mut};
-ghost use Rattle.amqp_types.specs.contracts.ordered_map.OrderedMap.{the_row};
 ghost use Rattle.std.specs.Map.{lookup, lookup_key, keys_of, values_of, set_value};
 ghost use Rattle.std.specs.Option.{option_map};
 ghost use Rattle.indexmap.specs.IndexMap.{insert_entry, insert_all};
@@ -197,7 +196,7 @@ impl<K: Eq + Hash, V> OrderedMap<K, V> {
 
     /// The pairs whose places are in `range`, each handed over when it is asked for, in order or
     /// from the back. Once the `Drain` is dropped the map has the others, in order, however many
-    /// were asked for; its memory stays.
+    /// were asked for. The caller shows that `range` lies in the map.
     pub fn drain(&mut self, range: Range<usize>) -> Drain<'_, K, V>
     where
         K: Drop,
@@ -208,8 +207,8 @@ impl<K: Eq + Hash, V> OrderedMap<K, V> {
         ensures kept { drain_kept result ≡ remove_range self.old range.start range.end }
         ensures hands_over { HandsOver result }
         ensures* writes_back { sem 𝓛 (follows
-            (the_row K.row V.row K.PartialEq (record { hash_input = K.hash_input }))
-            (pairs_row K.row V.row K.PartialEq (record { hash_input = K.hash_input }))
+            (map_row K.row V.row K.PartialEq K.hash_input)
+            (pairs_row K.row V.row K.PartialEq K.hash_input)
             self.entry.ghost_name (drain_lender result) (λ m. m.entries)) }
     {
         self.pairs.drain(range)
@@ -280,7 +279,7 @@ impl<K: Eq + Hash, V> OrderedMap<K, V> {
     pub fn get_mut(&mut self, key: &K) -> Option<&mut V>
         ensures value { option_copied_mut result ≡ lookup (K.eq key.now) self.old }
         ensures* writes_back { sem 𝓛 (LendsSo
-            (the_row K.row V.row K.PartialEq (record { hash_input = K.hash_input }))
+            (map_row K.row V.row K.PartialEq K.hash_input)
             V.row self.entry result
             (λ n w. n ≡ set_value (K.eq key.now) self.entry.now w)
             (λ n. n ≡ self.entry.now)) }
@@ -292,8 +291,8 @@ impl<K: Eq + Hash, V> OrderedMap<K, V> {
     pub fn as_inner_mut(&mut self) -> &mut IndexMap<K, V>
         ensures shows { result.now.entries ≡ self.old }
         ensures* writes_back { sem 𝓛 (Lends
-            (the_row K.row V.row K.PartialEq (record { hash_input = K.hash_input }))
-            (pairs_row K.row V.row K.PartialEq (record { hash_input = K.hash_input }))
+            (map_row K.row V.row K.PartialEq K.hash_input)
+            (pairs_row K.row V.row K.PartialEq K.hash_input)
             self.entry result (λ m. m.entries)) }
     {
         &mut self.pairs

@@ -1,8 +1,9 @@
 //! The writers of a value that is measured first and then written once.
 
-ghost use Rattle.std.specs.Prelude.{◌≡◌, ◌+◌, ◌≤◌, ◌++◌, [], Some, None, drop};
-ghost use Rattle.std.specs.Prelude.{true, length, IfOk, IsOk, OnOk, vec_len, vec_capacity};
+ghost use Rattle.std.specs.Prelude.{◌≡◌, ◌+◌, ◌≤◌, ◌++◌, ◌∷◌, [], Some, None, drop};
+ghost use Rattle.std.specs.Prelude.{true, length, IfOk, IfSome, IsOk, OnOk, vec_len, vec_capacity};
 ghost use Rattle.amqp_write.specs.Passes.{listed};
+ghost use Rattle.amqp_write.specs.State.{size_in};
 
 use crate::sizes::Sizes;
 use amqp_base::{FaultCount, Pass, Sink, Size};
@@ -23,7 +24,10 @@ pub struct Measure {
 
 impl Measure {
     /// The size of the compound that opened so many compounds behind the first.
-    pub fn size(&self, at: usize) -> Option<Size> {
+    pub fn size(&self, at: usize) -> Option<Size>
+        ensures { IfSome result (λ z. drop at (listed self.now.sizes) ≡
+            size_in z ∷ drop (at + 1) (listed self.now.sizes)) }
+    {
         self.sizes.get(at)
     }
 }

@@ -1,4 +1,4 @@
-use Rattle.std.proofs.Common.{◌≡◌, ◌∙◌, ap, take}
+use Rattle.std.proofs.Common.{◌∙◌, ap, take}
 use Rattle.amqp_read.specs.Reading.{Reading}
 use Rattle.amqp_read.specs.Streaming.{Streaming}
 use Rattle.amqp_read.proofs.Streams.{consumed}
