@@ -49,10 +49,14 @@ fn few_lengths<P: Texts<T>, T: Typed + Copy>(values: &[T]) -> u32
 
 /// The bytes of the texts, as far as a usize counts. Four bytes hold the sum of a few, so that the
 /// loop over them takes many at a time.
+#[inline(always)]
 fn lengths<P: Texts<T>, T: Typed + Copy>(values: &[T]) -> usize
     ensures texts { HaveTextsOf P.mark (map (λ v. T.meaning.item v Setting.Plain) values.now)
         result }
 {
+    if values.len() <= SUMMED {
+        return few_lengths::<P, T>(values) as usize;
+    }
     let mut sum: usize = 0;
     let mut rest = values;
     while !rest.is_empty() {
@@ -79,7 +83,8 @@ impl Place {
             (stand W.Write W.FaultCount writer.old self.old) (as_error result)
             (stand W.Write W.FaultCount writer.new self.new) }
     {
-        match writer.pass() {
+        // Of the writer itself: a reference to it is a sink, too, whose parts are buffered.
+        match (*writer).pass() {
             Pass::Measures => {
                 if writer.counts(lengths::<P, T>(values)) {
                     return Ok(());
