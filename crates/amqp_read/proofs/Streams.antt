@@ -30,7 +30,7 @@ received_stays u got r r' t f f' l l' h h' o o' c faults honest origin = record 
   steady = record { honest = honest; origin = origin; faults = omega arith; taken = omega arith };
 }
 
--- what a buffering reader refuses, by itself
+-- a fault is want of memory, or the source's
 fault_failed : (last : Option ErrorKind) (e : Error) → IsFault last e → Failed e
 fault_failed last (Io kind) h = tt
 fault_failed last OutOfMemory h = tt
@@ -41,6 +41,7 @@ fault_failed last InvalidUtf8Encoding h = absurd h
 fault_failed last SequenceLengthMismatch h = absurd h
 fault_failed last InvalidLength h = absurd h
 
+-- what a buffering reader refuses, by itself
 pub fails_failed : (old new : Reading) (e : Error) → Fails true true old new e → Failed e × IsTrue true
 fails_failed old new e (inl m) = rw m.0 (tt, refl)
 fails_failed old new e (inr f) = (fault_failed new.last_fault e f.0, refl)

@@ -9,7 +9,7 @@ crate::specs::Staged::AwaitsDescriptor, crate::specs::Staged::StaysHeld,
 // an enum's variant
 crate::specs::Variants::HasVariant, crate::specs::Variants::EndsVariant))]
 
-mod blocks;
+mod at_once;
 mod compound;
 mod decimals;
 mod described;
@@ -47,7 +47,7 @@ pub use map::MapSerializer;
 pub use measured::{measure, measured_size, measured_vec, write_measured};
 pub use paired::Paired;
 pub use seq::SeqSerializer;
-pub use serialize::{Numbers, Serialize};
+pub use serialize::{AtOnce, Serialize};
 pub use serializer::Serializer;
 pub use staged::Staged;
 pub use structs::{StructSerializer, WholeStruct};

@@ -15,3 +15,4 @@ pub mod Lengths
 pub mod Heads
 pub mod NumberTexts
 pub mod NumberCounts
+pub mod StringTexts

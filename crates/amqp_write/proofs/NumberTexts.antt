@@ -135,15 +135,20 @@ flat_two (i ∷ is) js h k =
 pub texts_two : (m : Mark) (is js : List Item) (a b : List ℕ) → AreTexts m is a → AreTexts m js b → AreTexts m (is ++ js) (a ++ b)
 texts_two m is js a b h k = record { text = joined m is js a b h.text k.text; flat = flat_two is js h.flat k.flat }
 
-text_one : (m : Mark) (i : Item) (b : List ℕ) → IsText m i b → AreTexts m (i ∷ []) b
+-- of one alone
+pub text_alone : (m : Mark) (i : Item) (b : List ℕ) → marked m i ≡ Some b → sizes i ≡ [] → AreTexts m (i ∷ []) b
 unfolding texts_at sizes_in
-text_one m i b h = record { text = rw h.text (ap Some (append-nil b)); flat = rw h.flat refl }
+text_alone m i b text flat = record { text = rw text (ap Some (append-nil b)); flat = rw flat refl }
 
 -- of one value more
+pub one_more : {X : Type 0} (vs : List X) (k : ℕ) (v : X) → k < length vs → v ≡ get_or vs k v → take (k + 1) vs ≡ take k vs ++ v ∷ []
+one_more vs k v h e = take_more vs k v h ∙ ap (λ x. take k vs ++ x ∷ []) (sym e)
+
+pub texts_more : {X : Type 0} (m : Mark) (f : X → Item) (vs : List X) (k : ℕ) (v : X) (a b : List ℕ) → k < length vs → v ≡ get_or vs k v → AreTexts m (map f (take k vs)) a → AreTexts m (f v ∷ []) b → AreTexts m (map f (take (k + 1) vs)) (a ++ b)
+texts_more m f vs k v a b h e front text = subst (λ is. AreTexts m is (a ++ b)) (sym (ap (map f) (one_more vs k v h e) ∙ map-append f (take k vs) (v ∷ []))) (texts_two m (map f (take k vs)) (f v ∷ []) a b front text)
+
 pub texts_next : {X : Type 0} (m : Mark) (f : X → Item) (vs : List X) (k : ℕ) (v : X) (a b : List ℕ) → k < length vs → v ≡ get_or vs k v → AreTexts m (map f (take k vs)) a → IsText m (f v) b → AreTexts m (map f (take (k + 1) vs)) (a ++ b)
-texts_next m f vs k v a b h e front text =
-    let next : take (k + 1) vs ≡ take k vs ++ v ∷ [] = take_more vs k v h ∙ ap (λ x. take k vs ++ x ∷ []) (sym e) in
-    subst (λ is. AreTexts m is (a ++ b)) (sym (ap (map f) next ∙ map-append f (take k vs) (v ∷ []))) (texts_two m (map f (take k vs)) (f v ∷ []) a b front (text_one m (f v) b text))
+texts_next m f vs k v a b h e front text = texts_more m f vs k v a b h e front (text_alone m (f v) b text.text text.flat)
 
 -- of a front, and of the values behind it
 pub texts_behind : {X : Type 0} (m : Mark) (f : X → Item) (front now : List X) (a b : List ℕ) → AreTexts m (map f front) a → AreTexts m (map f now) b → AreTexts m (map f (front ++ now)) (a ++ b)
@@ -170,10 +175,10 @@ pub record Written (m : Mark) (is : List Item) (s t : State) : Type 0 where
   pub front : AreTexts m is bytes
   pub appended : Appended {A = ℕ} s bytes (Ok 0) t
 
-same_bad : {A B : Type 0} (s t : State) (b : List ℕ) (e : Error) → Appended {A = A} s b (Err e) t → Appended {A = B} s b (Err e) t
+pub same_bad : {A B : Type 0} (s t : State) (b : List ℕ) (e : Error) → Appended {A = A} s b (Err e) t → Appended {A = B} s b (Err e) t
 same_bad s t b e h = record { kept = h.kept; device = h.device; ok = tt; err = h.err; refused = h.refused; spares = h.spares }
 
-same_done : {A B : Type 0} (s t : State) (b : List ℕ) (x : A) (y : B) → Appended s b (Ok x) t → Appended s b (Ok y) t
+pub same_done : {A B : Type 0} (s t : State) (b : List ℕ) (x : A) (y : B) → Appended s b (Ok x) t → Appended s b (Ok y) t
 same_done s t b x y h = record { kept = h.kept; device = tt; ok = h.ok; err = tt; refused = tt; spares = tt }
 
 pub written_none : (m : Mark) (s : State) → s.measure ≡ measure_after s.measure [] 0 → Written m [] s s
@@ -209,7 +214,7 @@ take_behind (x ∷ xs) ys (suc at) n h = rw (suc_plus at n) (ap (λ zs. x ∷ zs
     suc_plus : (at n : ℕ) → suc at + n ≡ suc (at + n)
     suc_plus at n = omega arith
 
-put_length : (xs ys : List ℕ) (a k : ℕ) → a + k ≤ length xs → length ys ≡ k → length (put_mid a k xs ys) ≡ length xs
+pub put_length : (xs ys : List ℕ) (a k : ℕ) → a + k ≤ length xs → length ys ≡ k → length (put_mid a k xs ys) ≡ length xs
 put_length xs ys a k h e = simp (length-append, length-take, length-drop) (omega (arith, h, e))
 
 pub puts_front : (i : Item) (at n k code : ℕ) (xs bs : List ℕ) → at + 10 ≤ length xs → length bs ≤ 8 → k ≡ length bs → IsFront i (code ∷ bs) n → Puts unmarked i at xs (at + n) (put_mid (at + 1) k (set xs at code) bs)

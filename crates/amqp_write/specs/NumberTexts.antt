@@ -1,5 +1,5 @@
--- The texts of numbers where they stand, one after the other.
-use Rattle.std.specs.Prelude.{◌≡◌, ◌⊎◌, ℕ, ◌+◌, ◌≤◌, List, [], ◌∷◌, ◌++◌, length, take, min, Option, Some, Result, OnOk}
+-- The texts of numbers and of strings where they stand, one after the other.
+use Rattle.std.specs.Prelude.{◌≡◌, ◌⊎◌, ℕ, ◌+◌, ◌≤◌, List, [], ◌∷◌, ◌++◌, length, take, min, Option, Some, Result, Ok, Err, OnOk}
 use Rattle.amqp_base.specs.Item.{Item, items_of}
 use Rattle.amqp_base.specs.Canon.{◌>>=◌}
 use Rattle.amqp_base.specs.Sizes.{sizes, sizes_in}
@@ -33,6 +33,11 @@ HasTextOf m i n = (b : List ℕ) × IsText m i b × (n ≡ length b)
 abbrev pub HaveTextsOf : Mark → List Item → ℕ → Type 0
 HaveTextsOf m is n = (b : List ℕ) × AreTexts m is b × (n ≡ min (length b) 18446744073709551615)
 
+-- how many were written, where none was refused
+abbrev pub how_many : {E : Type 0} → Result ℕ E → ℕ
+how_many (Ok n) = n
+how_many (Err e) = 0
+
 -- so many bytes at the front of b are the number's text outside arrays
 abbrev pub IsFront : Item → List ℕ → ℕ → Type 0
 IsFront i b n = IsText unmarked i (take n b) × (n ≤ length b)
@@ -43,6 +48,15 @@ pub record Puts (m : Mark) (i : Item) (at : ℕ) (old : List ℕ) (end : ℕ) (n
   pub text : IsText m i bytes
   pub ends : end ≡ at + length bytes
   pub long : length new ≡ length old
+  pub front : take end new ≡ take at old ++ bytes
+
+-- the item's text stands in a block from at to end, behind what stood there
+pub record PutsText (m : Mark) (i : Item) (at : ℕ) (old : List ℕ) (end : ℕ) (new : List ℕ) : Type 0 where
+  pub bytes : List ℕ
+  pub texts : AreTexts m (i ∷ []) bytes
+  pub ends : end ≡ at + length bytes
+  pub long : length new ≡ length old
+  pub within : end ≤ length new
   pub front : take end new ≡ take at old ++ bytes
 
 -- the texts of the numbers stand at the front of a block, up to end

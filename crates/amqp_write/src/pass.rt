@@ -1,6 +1,7 @@
 //! The writers of a value that is measured first and then written once.
 
-ghost use Rattle.std.specs.Prelude.{◌≡◌, ◌+◌, ◌≤◌, ◌++◌, ◌∷◌, [], Some, None, drop};
+ghost use Rattle.std.specs.Prelude.{◌≡◌, ◌+◌, ◌≤◌, ◌++◌, ◌∷◌, []};
+ghost use Rattle.std.specs.Prelude.{Some, None, drop};
 ghost use Rattle.std.specs.Prelude.{true, length, IfOk, IfSome, IsOk, OnOk, vec_len, vec_capacity};
 ghost use Rattle.amqp_write.specs.Passes.{listed};
 ghost use Rattle.amqp_write.specs.State.{size_in};

@@ -1,6 +1,6 @@
--- The numbers outside arrays, which are counted behind the last.
-use Rattle.std.proofs.Common.{◌≡◌, refl, map, length, sym, ap, ◌∙◌, subst, arith, true}
-use Rattle.std.proofs.lemmas.List.{length-map}
+-- Values that are written many at a time, and counted behind the last.
+use Rattle.std.proofs.Common.{◌≡◌, [], refl, map, take, length, length-take-le, sym, ap, ◌∙◌, subst, arith, true}
+use Rattle.std.proofs.lemmas.List.{length-map, take-map}
 use Rattle.amqp_base.specs.declared.shape.Setting.TheVariants.{Plain}
 use Rattle.amqp_base.specs.Shapes.{whole}
 use Rattle.amqp_ser.specs.State.{State, state}
@@ -11,22 +11,20 @@ use Rattle.amqp_write.proofs.PartTexts.{true_false}
 use Rattle.amqp_write.proofs.Steps.{kept_two}
 use Rattle.amqp_ser.proofs.Compounds.{keeps_lives, kept_open, full_refuses, inner_lives, inner_answers, broken_lives}
 use Rattle.amqp_ser.proofs.NumberParts.{kept_numbers, kept_refused, numbers_more, numbers_refused}
-use Rattle.amqp_ser.proofs.blocks.SeqSerializer+W.each_number.Goals as goal
+use Rattle.amqp_ser.proofs.at_once.SeqSerializer+W.each_at_once.Goals as goal
 
 pub returns-in-Err-clause-law : goal.returns-in-Err-clause-law
 unfolding state stand open_as
 returns-in-Err-clause-law g c =
-    let item = λ (x : g.row.T.Denot). g.T.Typed.meaning.item x Plain in
-    let is = map item c.args.values.now in
     let live = c.requires.direct in
     let q = c.args.self.now in
     let o = state g.W.Write g.W.FaultCount q.ser.now in
-    let t = state g.W.Write g.W.FaultCount c.append_numbers.new.self in
+    let t = state g.W.Write g.W.FaultCount c.append_many.new.self in
     let law = c.in-Err.ensures.law in
     record {
       ok = tt;
-      err = λ s shape xs all h begins. subst (λ e. Refused s (whole shape all) e t) (sym c.refused.ensures) (numbers_refused s shape xs is all g.P.Texts.mark _ (open_state g.W.Write g.W.FaultCount q) (outer_in q.parts.outer) o t refl law h);
-      kept = keeps_lives _ _ q.parts.opened (outer_in q.parts.outer) o t refl refl (kept_refused g.P.Texts.mark is o t _ law) law.appended.err;
+      err = λ s shape xs all h begins. subst (λ e. Refused s (whole shape all) e t) (sym c.refused.ensures) (numbers_refused s shape xs [] all g.P.Many.mark _ (open_state g.W.Write g.W.FaultCount q) (outer_in q.parts.outer) o t refl law h);
+      kept = keeps_lives _ _ q.parts.opened (outer_in q.parts.outer) o t refl refl (kept_refused g.P.Many.mark [] o t _ law) law.appended.err;
       stops = record {
         err = broken_lives _ t _ live refl;
         ended = λ h. absurd (true_false (sym h ∙ (inner_answers _ _ _ ∙ c.requires.answers)));
@@ -37,35 +35,36 @@ pub returns-in-Some-clause-law : goal.returns-in-Some-clause-law
 unfolding state stand open_as
 returns-in-Some-clause-law g c =
     let item = λ (x : g.row.T.Denot). g.T.Typed.meaning.item x Plain in
-    let vs = c.args.values.now in
+    let n = c.in-Ok.written in
+    let vs = take n c.args.values.now in
     let live = c.requires.direct in
     let q = c.args.self.now in
     let o = state g.W.Write g.W.FaultCount q.ser.now in
-    let w = state g.W.Write g.W.FaultCount c.append_numbers.new.self in
+    let w = state g.W.Write g.W.FaultCount c.append_many.new.self in
     let t : State = record w { ended = true } in
     let law = c.in-Ok.ensures.law in
-    let len : length (map item vs) ≡ length vs = length-map vs item in
-    record {
-      ok = λ s shape xs h. numbers_more s shape xs (map item vs) g.P.Texts.mark (open_state g.W.Write g.W.FaultCount q) _ (outer_in q.parts.outer) o w t _ live c.requires.stand (inner_lives _ o _ live ∙ ap (λ z. record o { ended = z }) c.requires.answers) refl law refl (inner_lives _ t _ live ∙ ap (λ z. record t { ended = z }) c.requires.answers) refl refl refl refl (omega (arith, c.in-Some.ensures.1, len)) h;
+    let len : length (map item vs) ≡ n = length-map vs item ∙ length-take-le n c.args.values.now c.in-Ok.ensures.few in
+    rw (take-map item n c.args.values.now) (record {
+      ok = λ s shape xs h. numbers_more s shape xs (map item vs) g.P.Many.mark (open_state g.W.Write g.W.FaultCount q) _ (outer_in q.parts.outer) o w t _ live c.requires.stand (inner_lives _ o _ live ∙ ap (λ z. record o { ended = z }) c.requires.answers) refl law refl (inner_lives _ t _ live ∙ ap (λ z. record t { ended = z }) c.requires.answers) refl refl refl refl (omega (arith, c.in-Some.ensures.1, len)) h;
       err = tt;
-      kept = keeps_lives _ _ q.parts.opened (outer_in q.parts.outer) o t refl refl (kept_numbers g.P.Texts.mark (map item vs) o w t _ law refl) refl;
+      kept = keeps_lives _ _ q.parts.opened (outer_in q.parts.outer) o t refl refl (kept_numbers g.P.Many.mark (map item vs) o w t _ law refl) refl;
       stops = record {
         err = tt;
         ended = λ h. absurd (true_false (sym h ∙ (inner_answers _ _ _ ∙ c.requires.answers)));
       };
-    }
+    })
 
 pub returns-in-None-clause-law : goal.returns-in-None-clause-law
 unfolding state stand open_as
 returns-in-None-clause-law g c =
     let item = λ (x : g.row.T.Denot). g.T.Typed.meaning.item x Plain in
-    let is = map item c.args.values.now in
+    let is = map item (take c.in-Ok.written c.args.values.now) in
     let live = c.requires.direct in
     let q = c.args.self.now in
     let o = state g.W.Write g.W.FaultCount q.ser.now in
-    let w = state g.W.Write g.W.FaultCount c.append_numbers.new.self in
+    let w = state g.W.Write g.W.FaultCount c.append_many.new.self in
     let t : State = record w { ended = true } in
-    let kept = kept_numbers g.P.Texts.mark is o w t _ c.in-Ok.ensures.law refl in
+    let kept = kept_numbers g.P.Many.mark is o w t _ c.in-Ok.ensures.law refl in
     record {
       ok = tt;
       err = λ s shape xs all h begins. full_refuses s t (whole shape all) _ (kept_two s o t (kept_open s shape xs (open_state g.W.Write g.W.FaultCount q) (outer_in q.parts.outer) o refl h) kept) c.no_memory.ensures;

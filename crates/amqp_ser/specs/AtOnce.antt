@@ -1,0 +1,19 @@
+-- Values that are written many at a time.
+use Rattle.std.specs.Prelude.{◌≡◌, List, map, string_bytes, ⊤}
+use Rattle.amqp_base.specs.Item.{Item, scalar, uint, ulong, int, string}
+use Rattle.amqp_ser.specs.declared.serialize.AtOnce.{AtOnce}
+use Rattle.amqp_ser.specs.declared.compound.Parts.{Parts}
+
+-- the items are these values, where they are such
+abbrev pub AreThese : List Item → AtOnce → Type 0
+AreThese is AtOnce.Other = ⊤
+AreThese is (AtOnce.Ints ns) = is ≡ map (λ n. scalar (int n)) ns.now
+AreThese is (AtOnce.Uints ns) = is ≡ map (λ n. scalar (uint n)) ns.now
+AreThese is (AtOnce.Ulongs ns) = is ≡ map (λ n. scalar (ulong n)) ns.now
+AreThese is (AtOnce.Strings ts) = is ≡ map (λ t. scalar (string (string_bytes t))) ts.now
+
+-- all but their count is as it was
+pub record SameParts (old new : Parts) : Type 0 where
+  pub shape : new.shape ≡ old.shape
+  pub opened : new.opened ≡ old.opened
+  pub answers : new.buffer.place.ended ≡ old.buffer.place.ended

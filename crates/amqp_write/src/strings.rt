@@ -1,0 +1,164 @@
+//! Strings outside arrays, many at a time.
+
+ghost use Rattle.std.specs.Prelude.{◌≤◌, ◌+◌, [], ◌∷◌};
+ghost use Rattle.std.specs.Prelude.{IfOk, length, map, take, string_bytes};
+ghost use Rattle.amqp_base.specs.Canon.{limit};
+ghost use Rattle.amqp_base.specs.Item.{scalar, string};
+ghost use Rattle.amqp_write.specs.State.{stand, unmarked};
+ghost use Rattle.amqp_write.specs.Appending.{as_error};
+ghost use Rattle.amqp_write.specs.NumberTexts.{HaveTextsOf, PutsAll, PutsText, WritesNumbers};
+ghost use Rattle.amqp_write.specs.NumberTexts.{how_many};
+
+use crate::place::{LONGEST, NARROW, Place};
+use crate::refusal::Refusal;
+use amqp_base::{Pass, Sink, codes};
+
+/// Room for the texts of some short strings.
+const ROOM: usize = 512;
+
+/// The bytes of a string's text.
+#[inline(always)]
+fn text_len(value: &str) -> usize
+    requires short { length value.now ≤ limit }
+    ensures text { HaveTextsOf unmarked (scalar (string value.now) ∷ []) result }
+{
+    let len = value.len();
+    if len <= NARROW { 2 + len } else { 5 + len }
+}
+
+/// How many strings, from the front, have texts, and the bytes of these as far as a usize counts:
+/// all, or those before one of more than 4,294,967,291 bytes.
+#[inline(always)]
+fn text_lengths(values: &[String]) -> (usize, usize)
+    ensures few { result.0 ≤ length values.now }
+    ensures texts { HaveTextsOf unmarked
+        (map (λ t. scalar (string (string_bytes t))) (take result.0 values.now)) result.1 }
+{
+    let mut count: usize = 0;
+    let mut sum: usize = 0;
+    for value in values {
+        let text = value.as_str();
+        if text.len() > LONGEST {
+            return (count, sum);
+        }
+        sum = sum.saturating_add(text_len(text));
+        count += 1;
+    }
+    (count, sum)
+}
+
+/// Writes the text of a short string into the block from `at` on: where the next may begin.
+#[inline(always)]
+fn put_string(value: &str, block: &mut [u8], at: usize) -> usize
+    requires short { length value.now ≤ 254 }
+    requires room { at + 2 + length value.now ≤ length block.old }
+    ensures text { PutsText unmarked (scalar (string value.now)) at block.old result block.new }
+{
+    let bytes = value.as_bytes();
+    let len = bytes.len();
+    block[at] = codes::STR8;
+    block[at + 1] = len as u8;
+    block[at + 2..at + 2 + len].copy_from_slice(bytes);
+    at + 2 + len
+}
+
+/// Writes the texts of strings into the block, one after the other, from the front as far as they
+/// are short and there is room: how many strings, and how many bytes.
+#[inline(always)]
+fn put_some(values: &[String], block: &mut [u8]) -> (usize, usize)
+    ensures few { result.0 ≤ length values.now }
+    ensures texts { PutsAll unmarked
+        (map (λ t. scalar (string (string_bytes t))) (take result.0 values.now)) block.old result.1
+        block.new }
+{
+    let mut count: usize = 0;
+    let mut at: usize = 0;
+    for value in values {
+        let text = value.as_str();
+        if text.len() > NARROW || text.len() + 2 > block.len() - at {
+            return (count, at);
+        }
+        at = put_string(text, block, at);
+        count += 1;
+    }
+    (count, at)
+}
+
+impl Place {
+    /// Writes strings, and says how many, from the front: all, or those before one of more than
+    /// 4,294,967,291 bytes. Where they are only counted, no text of theirs is made.
+    pub(crate) fn append_strings<W: Sink>(
+        &mut self,
+        writer: &mut W,
+        values: &[String],
+    ) -> Result<usize, Refusal>
+        ensures few { IfOk result (λ n. n ≤ length values.now) }
+        ensures law { WritesNumbers unmarked
+            (map (λ t. scalar (string (string_bytes t))) (take (how_many result) values.now))
+            (stand W.Write W.FaultCount writer.old self.old) (as_error result)
+            (stand W.Write W.FaultCount writer.new self.new) }
+    {
+        match (*writer).pass() {
+            Pass::Measures => {
+                let (count, len) = text_lengths(values);
+                if writer.counts(len) {
+                    return Ok(count);
+                }
+                self.append_in_turn(writer, values)
+            }
+            _ => self.append_in_turn(writer, values),
+        }
+    }
+
+    /// Writes strings: short ones by blocks, each other one by itself.
+    fn append_in_turn<W: Sink>(
+        &mut self,
+        writer: &mut W,
+        values: &[String],
+    ) -> Result<usize, Refusal>
+        ensures few { IfOk result (λ n. n ≤ length values.now) }
+        ensures law { WritesNumbers unmarked
+            (map (λ t. scalar (string (string_bytes t))) (take (how_many result) values.now))
+            (stand W.Write W.FaultCount writer.old self.old) (as_error result)
+            (stand W.Write W.FaultCount writer.new self.new) }
+    {
+        let mut block = [0u8; ROOM];
+        let mut done: usize = 0;
+        while done < values.len() {
+            let (count, end) = put_some(&values[done..], &mut block);
+            if count == 0 {
+                let text = values[done].as_str();
+                if text.len() > LONGEST {
+                    return Ok(done);
+                }
+                match self.append_string(writer, text) {
+                    Ok(()) => done += 1,
+                    Err(e) => return Err(e),
+                }
+            } else {
+                match self.append(writer, &block[..end]) {
+                    Ok(()) => done += count,
+                    Err(e) => return Err(e),
+                }
+            }
+        }
+        Ok(done)
+    }
+
+    /// Appends a string's text.
+    fn append_string<W: Sink>(&mut self, writer: &mut W, value: &str) -> Result<(), Refusal>
+        requires short { length value.now ≤ limit }
+        ensures law { WritesNumbers unmarked (scalar (string value.now) ∷ [])
+            (stand W.Write W.FaultCount writer.old self.old) (as_error result)
+            (stand W.Write W.FaultCount writer.new self.new) }
+    {
+        let bytes = value.as_bytes();
+        let len = bytes.len();
+        if len <= NARROW {
+            return self.append_two(writer, &[codes::STR8, len as u8], bytes);
+        }
+        let size = (len as u32).to_be_bytes();
+        let head = [codes::STR32, size[0], size[1], size[2], size[3]];
+        self.append_two(writer, &head, bytes)
+    }
+}
