@@ -1,5 +1,5 @@
 -- A compound that was opened in a pass: its end.
-use Rattle.std.proofs.Common.{◌≡◌, ◌<◌, ◌≤◌, ◌+◌, ◌-◌, ℕ, List, [], ◌∷◌, ◌++◌, length, drop, set, min, suc, refl, sym, ◌∙◌, ap, subst, arith, Option, Some, None, true, false, Bool, ◌&&◌, ◌==◌, Result, Ok, Err, OnOk, IfErr, inl, inr, append_assoc, length-append}
+use Rattle.std.proofs.Common.{◌⊎◌, ◌≡◌, ◌<◌, ◌≤◌, ◌+◌, ◌-◌, ℕ, List, [], ◌∷◌, ◌++◌, length, drop, set, min, suc, refl, sym, ◌∙◌, ap, subst, arith, Option, Some, None, true, false, Bool, ◌&&◌, ◌==◌, Result, Ok, Err, OnOk, IfErr, inl, inr, append_assoc, length-append}
 use Rattle.std.proofs.lemmas.List.{append-nil}
 use Rattle.std.proofs.lemmas.Bool.{eq-eqb, eqb-true}
 use Rattle.amqp_base.specs.Item.{Item, items_of, pair, map as map_item}
@@ -14,7 +14,7 @@ use Rattle.amqp_ser.specs.Law.{fits, is_next, begins, same_size, plan_after, mea
 use Rattle.amqp_write.specs.Appending.{Pays}
 use Rattle.amqp_write.specs.declared.pass.Opened.{Opened}
 use Rattle.amqp_base.specs.declared.fault.Size.{Size as CodeSize}
-use Rattle.amqp_ser.specs.Compound.{Open, Back, back, RefusesOpen, Holds, Begun, Measures, Writes, Lent, Complete, is_map, head_text, parts_text, shape_code, back_measured, EndsMeasured, EndsWritten}
+use Rattle.amqp_ser.specs.Compound.{Open, Back, back, RefusesOpen, Holds, Begun, Measures, Writes, Lent, Complete, is_map, head_text, parts_text, shape_code, back_measured, EndsMeasured}
 use Rattle.amqp_write.proofs.Bytes.{none_extends, none_appends}
 use Rattle.amqp_write.proofs.Steps.{fits_nil, wrote_pays, refused_pays, kept_two}
 use Rattle.amqp_write.proofs.WhyTexts.{body_why}
@@ -344,16 +344,14 @@ some_plan s shape xs q size from h how =
     let b = writes s shape q.opened size from q.outer h.start how h.begun in
     (_, h.run.goes.plan ∙ ap (λ x. plan_after x (sizes_in (items_of xs)) h.run.bytes) b.goes_on)
 
-pub wrote_written_each : {A : Type 0} (q : Open) (size : CodeSize) (from : ℕ) (r : Result A Error) (t : State) → q.opened ≡ Opened.Written size from → q.outer.plan ≡ q.inner.plan → q.outer.measure ≡ q.inner.measure → ((p : Planned) → q.inner.plan ≡ Some p → EndsWritten q.count size from p q.outer r t) → OnOk r ((s : State) (shape : Shape) (xs : List Item) → Holds s shape xs q → Complete q.pairs xs → Wrote s (whole shape xs) t)
-wrote_written_each q size from (Ok x) t how at_plan at_measure f = λ s shape xs h complete.
+pub wrote_written_each : (q : Open) (size : CodeSize) (from : ℕ) (t : State) → q.opened ≡ Opened.Written size from → q.outer.plan ≡ q.inner.plan → q.outer.measure ≡ q.inner.measure → ((p : Planned) → q.inner.plan ≡ Some p → (length p.bytes ≡ from + size.length) × (q.count ≡ size.count) × (t ≡ record q.outer { ended = false })) → (s : State) (shape : Shape) (xs : List Item) → Holds s shape xs q → Complete q.pairs xs → Wrote s (whole shape xs) t
+wrote_written_each q size from t how at_plan at_measure f s shape xs h complete =
     let p = some_plan s shape xs q size from h how in
     let d = f p.0 p.1 in
     wrote_written s shape xs q size from p.0 t how h complete p.1 at_plan at_measure d.0 d.1 d.2
-wrote_written_each q size from (Err e) t how at_plan at_measure f = tt
 
-pub refused_written_each : {A : Type 0} (q : Open) (size : CodeSize) (from : ℕ) (r : Result A Error) (t : State) → q.opened ≡ Opened.Written size from → Kept q.outer t → ((p : Planned) → q.inner.plan ≡ Some p → EndsWritten q.count size from p q.outer r t) → IfErr r (λ e. (s : State) (shape : Shape) (xs : List Item) → Holds s shape xs q → Complete q.pairs xs → Refused s (whole shape xs) e t)
-refused_written_each q size from (Ok x) t how kept f = tt
-refused_written_each q size from (Err e) t how kept f = λ s shape xs h complete.
+pub refused_written_each : (q : Open) (size : CodeSize) (from : ℕ) (e : Error) (t : State) → q.opened ≡ Opened.Written size from → Kept q.outer t → ((p : Planned) → q.inner.plan ≡ Some p → (e ≡ Error.OutOfMemory) ⊎ (((length p.bytes ≡ from + size.length) × (q.count ≡ size.count) → ⊥) × (e ≡ Error.InvalidValue))) → (s : State) (shape : Shape) (xs : List Item) → Holds s shape xs q → Complete q.pairs xs → Refused s (whole shape xs) e t
+refused_written_each q size from e t how kept f s shape xs h complete =
     let p = some_plan s shape xs q size from h how in
     let first = kept_two s q.outer t (kept_begun shape s q.opened q.outer h.start h.begun) kept in
     elim (f p.0 p.1) [

@@ -19,6 +19,7 @@ ghost use Rattle.amqp_ser.specs.Staged.{EndRefused, RowEndRefused, EndsHeld};
 ghost use Rattle.amqp_base.specs.Structs.{FieldItem};
 ghost use Rattle.amqp_ser.specs.Variants.{HasVariant, VariantEnded, fields_item};
 
+use crate::answer::answer;
 use crate::paired::end_paired;
 use crate::staged::end_staged;
 use crate::{Serialize, Serializer, StructSerializer, TupleStructSerializer, VariantSerializer};
@@ -111,10 +112,7 @@ impl<'a, W: Sink, F: Drop> Compound<'a, W, F> {
             (state W.Write W.FaultCount self.new.ser.now)
             (open_state W.Write W.FaultCount self.new) }
     {
-        match write_part(&mut *self.ser, &mut self.parts, alloc, value) {
-            Ok(()) => Ok(()),
-            Err(e) => Err(e),
-        }
+        answer!(write_part(&mut *self.ser, &mut self.parts, alloc, value))
     }
 
     /// Writes the whole: its code, its size, the number of its parts, and them (a list without
@@ -148,7 +146,7 @@ impl<'a, W: Sink, F: Drop> Compound<'a, W, F> {
             Some(e) => return Err(e),
             None => {}
         }
-        ser.close(parts)
+        answer!(ser.close(parts))
     }
 }
 
@@ -283,21 +281,18 @@ pub(crate) fn write_part<W: Sink, T: Serialize>(
     }
     match ser.writer.pass() {
         Pass::Buffers => match parts.opened {
-            Opened::Buffered => match parts.write(alloc, value) {
-                Ok(()) => Ok(()),
-                Err(e) => Err(e),
-            },
+            Opened::Buffered => answer!(parts.write(alloc, value)),
             _ => {
                 parts.buffer.place.ended = true;
-                Err(no_memory())
+                return Err(no_memory());
             }
         },
         _ => match parts.opened {
             Opened::Buffered => {
                 parts.buffer.place.ended = true;
-                Err(no_memory())
+                return Err(no_memory());
             }
-            _ => write_direct(ser, parts, alloc, value),
+            _ => answer!(write_direct(ser, parts, alloc, value)),
         },
     }
 }
@@ -331,16 +326,16 @@ fn write_direct<W: Sink, T: Serialize>(
         Ok(()) => match parts.count.checked_add(1) {
             Some(count) => {
                 parts.count = count;
-                Ok(())
+                return Ok(());
             }
             None => {
                 parts.buffer.place.ended = true;
-                Err(no_memory())
+                return Err(no_memory());
             }
         },
         Err(e) => {
             parts.buffer.place.ended = true;
-            Err(handed_on(e))
+            return Err(handed_on(e));
         }
     }
 }
@@ -358,8 +353,8 @@ fn write_on<W: Sink, T: Serialize>(
         (state W.Write W.FaultCount ser.new) }
 {
     match shape {
-        Shape::Array => write_in_array(ser, alloc, value),
-        _ => write_outside(ser, shape, alloc, value),
+        Shape::Array => answer!(write_in_array(ser, alloc, value)),
+        _ => answer!(write_outside(ser, shape, alloc, value)),
     }
 }
 
@@ -407,11 +402,11 @@ pub(crate) fn write_outside<W: Sink, T: Serialize>(
     match value.serialize(alloc, ser) {
         Ok(()) => {
             ser.place.ended = true;
-            Ok(())
+            return Ok(());
         }
         Err(e) => {
             ser.place.ended = true;
-            Err(handed_on(e))
+            return Err(handed_on(e));
         }
     }
 }

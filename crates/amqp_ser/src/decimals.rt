@@ -4,6 +4,7 @@ ghost use Rattle.amqp_base.specs.Item.{scalar, decimal32, decimal64, decimal128}
 ghost use Rattle.amqp_ser.specs.State.{state};
 ghost use Rattle.amqp_ser.specs.Law.{Writes};
 
+use crate::answer::answer;
 use crate::{Serialize, Serializer};
 use amqp_base::{Error, Sink};
 use amqp_types::{Dec32, Dec64, Dec128};
@@ -20,7 +21,7 @@ impl<W: Sink> Serializer<W> {
             (state W.Write W.FaultCount self.new) }
     {
         let _ = alloc;
-        self.leaf(v)
+        answer!(self.leaf(v))
     }
 
     /// Writes a decimal64 (section 1.6.14): 84 and its eight bytes; in an array the eight bytes. It
@@ -33,7 +34,7 @@ impl<W: Sink> Serializer<W> {
             (state W.Write W.FaultCount self.new) }
     {
         let _ = alloc;
-        self.leaf(v)
+        answer!(self.leaf(v))
     }
 
     /// Writes a decimal128 (section 1.6.15): 94 and its sixteen bytes; in an array the sixteen
@@ -46,36 +47,27 @@ impl<W: Sink> Serializer<W> {
             (state W.Write W.FaultCount self.new) }
     {
         let _ = alloc;
-        self.leaf(v)
+        answer!(self.leaf(v))
     }
 }
 
 impl Serialize for Dec32 {
     #[inline(always)]
     fn serialize<W: Sink>(&self, alloc: Global, ser: &mut Serializer<W>) -> Result<(), Error> {
-        match ser.serialize_decimal32(alloc, self) {
-            Ok(()) => Ok(()),
-            Err(e) => Err(e),
-        }
+        answer!(ser.serialize_decimal32(alloc, self))
     }
 }
 
 impl Serialize for Dec64 {
     #[inline(always)]
     fn serialize<W: Sink>(&self, alloc: Global, ser: &mut Serializer<W>) -> Result<(), Error> {
-        match ser.serialize_decimal64(alloc, self) {
-            Ok(()) => Ok(()),
-            Err(e) => Err(e),
-        }
+        answer!(ser.serialize_decimal64(alloc, self))
     }
 }
 
 impl Serialize for Dec128 {
     #[inline(always)]
     fn serialize<W: Sink>(&self, alloc: Global, ser: &mut Serializer<W>) -> Result<(), Error> {
-        match ser.serialize_decimal128(alloc, self) {
-            Ok(()) => Ok(()),
-            Err(e) => Err(e),
-        }
+        answer!(ser.serialize_decimal128(alloc, self))
     }
 }

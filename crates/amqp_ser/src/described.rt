@@ -14,6 +14,7 @@ ghost use Rattle.amqp_base.specs.declared.error.Error.TheVariants.{Io, OutOfMemo
 ghost use Rattle.std.specs.declared.io.ErrorKind.TheVariants.{Other};
 ghost use Rattle.amqp_write.specs.declared.described.Behind.TheVariants.{Another};
 
+use crate::answer::answer;
 use crate::compound::Outer;
 use crate::{Serialize, Serializer};
 use amqp_base::{EncodingCodes, Error, Setting, Sink};
@@ -73,10 +74,7 @@ impl<W: Sink> Serializer<W> {
             return Err(refused(Refusal::InvalidValue));
         }
         match self.place.behind(descriptor) {
-            Behind::Alone => match self.behind(alloc, descriptor, value) {
-                Ok(()) => Ok(()),
-                Err(e) => Err(e),
-            },
+            Behind::Alone => answer!(self.behind(alloc, descriptor, value)),
             Behind::First => self.described_first(alloc, descriptor, value),
             Behind::Another(code) => self.described_again(alloc, code, descriptor, value),
             Behind::Nowhere => Err(self.described_nowhere(alloc, descriptor, value)),
@@ -101,10 +99,7 @@ impl<W: Sink> Serializer<W> {
             return Err(refused(Refusal::InvalidValue));
         }
         match self.place.mark {
-            Mark::Unmarked => match self.place.descriptor(&mut self.writer, descriptor) {
-                Ok(()) => Ok(()),
-                Err(e) => Err(refused(e)),
-            },
+            Mark::Unmarked => answer!(self.place.descriptor(&mut self.writer, descriptor), refused),
             _ => {
                 self.place.ended = true;
                 Err(refused(Refusal::InvalidValue))
@@ -173,10 +168,7 @@ impl<W: Sink> Serializer<W> {
         }
         match self.place.found {
             Some(constructor) => match constructor {
-                Constructor::Under(code) => match self.keep(alloc, code, descriptor) {
-                    Ok(()) => Ok(()),
-                    Err(e) => Err(e),
-                },
+                Constructor::Under(code) => answer!(self.keep(alloc, code, descriptor)),
                 Constructor::UnderPair(_) => Err(self.described_nowhere(alloc, descriptor, value)),
             },
             None => Err(self.described_nowhere(alloc, descriptor, value)),
@@ -281,9 +273,6 @@ impl<W: Sink> Serializer<W> {
 impl<T: Serialize> Serialize for Described<T> {
     #[inline(always)]
     fn serialize<W: Sink>(&self, alloc: Global, ser: &mut Serializer<W>) -> Result<(), Error> {
-        match ser.serialize_described(alloc, &self.descriptor, &self.value) {
-            Ok(()) => Ok(()),
-            Err(e) => Err(e),
-        }
+        answer!(ser.serialize_described(alloc, &self.descriptor, &self.value))
     }
 }

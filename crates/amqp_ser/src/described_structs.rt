@@ -6,6 +6,7 @@ ghost use Rattle.amqp_ser.specs.State.{state};
 ghost use Rattle.amqp_ser.specs.Law.{Wrote, Refused, Stops};
 ghost use Rattle.amqp_ser.specs.Describing.{described_struct, is_body_name, body_setting};
 
+use crate::answer::answer;
 use crate::structs::is_name;
 use crate::{Serialize, Serializer, Struct, StructFields};
 use amqp_base::{DESCRIBED_LIST, DESCRIBED_MAP, Error, Setting, Sink, Typed};
@@ -96,10 +97,7 @@ impl<W: Sink> Serializer<W> {
         let map = is_name(whole.name, DESCRIBED_MAP);
         if map || is_name(whole.name, DESCRIBED_LIST) {
             let fields = &whole.fields;
-            return match self.serialize_described(alloc, descriptor, &Body { fields, map }) {
-                Ok(()) => Ok(()),
-                Err(e) => Err(e),
-            };
+            answer!(self.serialize_described(alloc, descriptor, &Body { fields, map }));
         }
         self.place.ended = true;
         Err(refused(Refusal::InvalidValue))

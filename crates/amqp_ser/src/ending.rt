@@ -10,6 +10,7 @@ ghost use Rattle.amqp_ser.specs.Compound.{open_parts, Holds, Complete, back, out
 ghost use Rattle.amqp_ser.specs.Compound.{EndsMeasured, EndsWritten};
 
 use crate::Serializer;
+use crate::answer::answer;
 use crate::compound::{Outer, Parts};
 use amqp_base::{Error, Pass, Shape, Sink, Size};
 use amqp_write::{Opened, Refusal, no_memory, refused};
@@ -52,24 +53,26 @@ impl<W: Sink> Serializer<W> {
             Pass::Buffers => match opened {
                 Opened::Buffered => {
                     let body = buffer.into_inner();
-                    match self.place.finish(&mut self.writer, shape, count, &body) {
-                        Ok(()) => Ok(()),
-                        Err(e) => Err(refused(e)),
-                    }
+                    answer!(
+                        self.place.finish(&mut self.writer, shape, count, &body),
+                        refused
+                    )
                 }
                 _ => Err(no_memory()),
             },
             Pass::Measures => match opened {
                 Opened::Measured { at, before } => {
-                    match self.close_measured(shape, count, outer, at, before) {
-                        Ok(()) => Ok(()),
-                        Err(e) => Err(refused(e)),
-                    }
+                    answer!(
+                        self.close_measured(shape, count, outer, at, before),
+                        refused
+                    )
                 }
                 _ => Err(no_memory()),
             },
             Pass::Writes => match opened {
-                Opened::Written { size, from } => self.close_written(count, outer, size, from),
+                Opened::Written { size, from } => {
+                    answer!(self.close_written(count, outer, size, from))
+                }
                 _ => Err(no_memory()),
             },
         }

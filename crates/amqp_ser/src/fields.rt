@@ -8,6 +8,7 @@ ghost use Rattle.amqp_ser.specs.State.{State, state};
 ghost use Rattle.amqp_ser.specs.Law.{Wrote, Refused};
 ghost use Rattle.amqp_ser.specs.Compound.{open_state, HoldsFields, BeginsWith};
 
+use crate::answer::answer;
 use crate::compound::write_part;
 use crate::structs::is_name;
 use crate::{Serialize, Serializer, WholeStruct};
@@ -117,19 +118,16 @@ impl<T: Serialize, Rest: StructFields> StructFields for Written<'_, T, Rest> {
         out: &mut WholeStruct<'_, W>,
     ) -> Result<(), Error> {
         match write_part(&mut *out.ser, &mut out.parts, alloc, self.value) {
-            Ok(()) => match self.rest.write_values(alloc, out) {
-                Ok(()) => Ok(()),
-                Err(e) => Err(e),
-            },
-            Err(e) => Err(e),
+            Ok(()) => answer!(self.rest.write_values(alloc, out)),
+            Err(e) => return Err(e),
         }
     }
 
     #[inline(always)]
     fn write<W: Sink>(&self, alloc: Global, out: &mut WholeStruct<'_, W>) -> Result<(), Error> {
         match out.serialize_field(alloc, self.name, self.value) {
-            Ok(()) => self.rest.write(alloc, out),
-            Err(e) => Err(e),
+            Ok(()) => answer!(self.rest.write(alloc, out)),
+            Err(e) => return Err(e),
         }
     }
 }
@@ -160,10 +158,7 @@ impl<W: Sink> Serializer<W> {
             (struct_item (state W.Write W.FaultCount self.old).setting
             (F.items whole.now.fields)) e (state W.Write W.FaultCount self.new)) }
     {
-        match self.write_struct(alloc, whole.name, &whole.fields) {
-            Ok(()) => Ok(()),
-            Err(e) => Err(e),
-        }
+        answer!(self.write_struct(alloc, whole.name, &whole.fields))
     }
 
     /// Writes a struct of this name and these fields.
@@ -183,7 +178,7 @@ impl<W: Sink> Serializer<W> {
             (state W.Write W.FaultCount self.new)) }
     {
         match self.place.setting {
-            Setting::DescribedMap => self.fields_one_by_one(alloc, name, fields),
+            Setting::DescribedMap => answer!(self.fields_one_by_one(alloc, name, fields)),
             _ => {
                 if fields.has_descriptor() {
                     return self.fields_one_by_one(alloc, name, fields);
@@ -193,8 +188,8 @@ impl<W: Sink> Serializer<W> {
                     Err(e) => return Err(e),
                 };
                 match fields.write_values(alloc, &mut out) {
-                    Ok(()) => out.end(),
-                    Err(e) => Err(e),
+                    Ok(()) => answer!(out.end()),
+                    Err(e) => return Err(e),
                 }
             }
         }
@@ -221,8 +216,8 @@ impl<W: Sink> Serializer<W> {
             Err(e) => return Err(e),
         };
         match fields.write(alloc, &mut out) {
-            Ok(()) => out.end(),
-            Err(e) => Err(e),
+            Ok(()) => answer!(out.end()),
+            Err(e) => return Err(e),
         }
     }
 }

@@ -9,6 +9,7 @@ crate::specs::Staged::AwaitsDescriptor, crate::specs::Staged::StaysHeld,
 // an enum's variant
 crate::specs::Variants::HasVariant, crate::specs::Variants::EndsVariant))]
 
+mod answer;
 mod at_once;
 mod compound;
 mod decimals;

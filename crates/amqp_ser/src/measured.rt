@@ -62,7 +62,6 @@ pub fn measured_size<T: Serialize>(alloc: Global, value: &T) -> Result<usize, Er
 /// lists, maps and arrays in it alone, where there are more than four.
 ///
 /// It is refused as `measured_size` is, and as `OutOfMemory` where there is no room.
-#[inline(always)]
 pub fn measured_vec<T: Serialize>(alloc: Global, value: &T) -> Result<Vec<u8>, Error>
     ensures ok { IfOk result (λ v.
         canon (T.meaning.item value.now Setting.Plain) ≡ Some v.items) }

@@ -29,9 +29,9 @@ impl<W: Sink> Serializer<W> {
             return Err(refused(Refusal::InvalidValue));
         }
         match self.writer.pass() {
-            Pass::Buffers => self.begin_buffered(alloc, shape),
-            Pass::Measures => self.begin_measured(alloc, shape),
-            Pass::Writes => self.begin_written(alloc, shape),
+            Pass::Buffers => return self.begin_buffered(alloc, shape),
+            Pass::Measures => return self.begin_measured(alloc, shape),
+            Pass::Writes => return self.begin_written(alloc, shape),
         }
     }
 
@@ -81,10 +81,10 @@ impl<W: Sink> Serializer<W> {
             return Err(no_memory());
         }
         match self.writer.open_measured() {
-            Some(at) => Ok(self.lend(alloc, shape, Opened::Measured { at, before })),
+            Some(at) => return Ok(self.lend(alloc, shape, Opened::Measured { at, before })),
             None => {
                 self.place.ended = true;
-                Err(no_memory())
+                return Err(no_memory());
             }
         }
     }
@@ -115,10 +115,10 @@ impl<W: Sink> Serializer<W> {
             Err(e) => return Err(refused(e)),
         }
         match self.writer.so_far() {
-            Some(from) => Ok(self.lend(alloc, shape, Opened::Written { size, from })),
+            Some(from) => return Ok(self.lend(alloc, shape, Opened::Written { size, from })),
             None => {
                 self.place.ended = true;
-                Err(no_memory())
+                return Err(no_memory());
             }
         }
     }

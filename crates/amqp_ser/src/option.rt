@@ -5,6 +5,7 @@ ghost use Rattle.amqp_base.specs.Item.{scalar, null};
 ghost use Rattle.amqp_ser.specs.State.{state};
 ghost use Rattle.amqp_ser.specs.Law.{Wrote, Refused, Stops, Spares};
 
+use crate::answer::answer;
 use crate::{Serialize, Serializer};
 use amqp_base::{Error, Sink};
 use amqp_write::{Refusal, refused};
@@ -26,7 +27,7 @@ impl<W: Sink> Serializer<W> {
         ensures spares { Spares (state W.Write W.FaultCount self.old) result
             (state W.Write W.FaultCount self.new) }
     {
-        self.serialize_unit(alloc)
+        answer!(self.serialize_unit(alloc))
     }
 
     /// Writes the value itself, as an option that holds it. It is refused as the value's own
@@ -46,10 +47,10 @@ impl<W: Sink> Serializer<W> {
             return Err(refused(Refusal::InvalidValue));
         }
         match value.serialize(alloc, self) {
-            Ok(()) => Ok(()),
+            Ok(()) => return Ok(()),
             Err(e) => {
                 self.place.ended = true;
-                Err(e)
+                return Err(e);
             }
         }
     }
@@ -60,8 +61,8 @@ impl<T: Serialize> Serialize for Option<T> {
     #[inline(always)]
     fn serialize<W: Sink>(&self, alloc: Global, ser: &mut Serializer<W>) -> Result<(), Error> {
         match self {
-            None => ser.serialize_none(alloc),
-            Some(value) => ser.serialize_some(alloc, value),
+            None => answer!(ser.serialize_none(alloc)),
+            Some(value) => answer!(ser.serialize_some(alloc, value)),
         }
     }
 }

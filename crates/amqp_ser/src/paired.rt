@@ -13,6 +13,7 @@ ghost use Rattle.amqp_ser.specs.Variants.{HoldsPair, RefusesVariant, fields_item
 ghost use Rattle.amqp_ser.specs.Variants.{InBuffer, OnItself};
 ghost use Rattle.amqp_write.specs.declared.pass.Opened.TheVariants.{Buffered as IsBuffered};
 
+use crate::answer::answer;
 use crate::compound::{Parts, write_part};
 use crate::{Serialize, Serializer};
 use amqp_base::{Error, Setting, Shape, Sink};
@@ -161,15 +162,9 @@ pub(crate) fn write_paired<W: Sink, T: Serialize>(
 {
     match of.pair.opened {
         Opened::Buffered => {
-            match write_part(&mut of.pair.buffer, &mut of.fields, alloc, value) {
-                Ok(()) => Ok(()),
-                Err(e) => Err(e),
-            }
+            answer!(write_part(&mut of.pair.buffer, &mut of.fields, alloc, value))
         }
-        _ => match write_part(ser, &mut of.fields, alloc, value) {
-            Ok(()) => Ok(()),
-            Err(e) => Err(e),
-        },
+        _ => answer!(write_part(ser, &mut of.fields, alloc, value)),
     }
 }
 

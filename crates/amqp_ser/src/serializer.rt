@@ -5,6 +5,7 @@ ghost use Rattle.amqp_ser.specs.State.{Fresh, state};
 ghost use Rattle.amqp_ser.specs.Compound.{turned};
 ghost use Rattle.amqp_ser.specs.Law.{Writes};
 
+use crate::answer::answer;
 use amqp_base::{Error, Setting, Sink};
 use amqp_write::{Leaf, Place, Refusal, refused};
 
@@ -108,10 +109,7 @@ impl<W: Sink> Serializer<W> {
         if self.place.ended {
             return Err(refused(Refusal::InvalidValue));
         }
-        match value.put(&mut self.place, &mut self.writer) {
-            Ok(()) => Ok(()),
-            Err(e) => Err(refused(e)),
-        }
+        answer!(value.put(&mut self.place, &mut self.writer), refused)
     }
 
     /// Behind a first element the others stand under its constructor.

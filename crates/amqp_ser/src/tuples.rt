@@ -12,6 +12,7 @@ ghost use Rattle.amqp_ser.specs.Compound.{BeginsWith, WritesEach};
 ghost use Rattle.amqp_ser.specs.Variants.{HasVariant, fields_item};
 ghost use Rattle.amqp_ser.specs.contracts.serializer.Serializer.{the_row};
 
+use crate::answer::answer;
 use crate::compound::{Announced, Compound, write_part};
 use crate::{Serialize, Serializer, VariantSerializer};
 use amqp_base::{Error, Setting, Shape, Sink};
@@ -43,12 +44,14 @@ impl<W: Sink> Serializer<W> {
             (Shape.Tuple len) [] (open_state W.Write W.FaultCount q)) }
     {
         match self.begin(alloc, Shape::Tuple(len)) {
-            Ok(parts) => Ok(Compound {
-                ser: self,
-                parts,
-                form: Announced,
-            }),
-            Err(e) => Err(e),
+            Ok(parts) => {
+                return Ok(Compound {
+                    ser: self,
+                    parts,
+                    form: Announced,
+                });
+            }
+            Err(e) => return Err(e),
         }
     }
 }
@@ -142,12 +145,9 @@ impl<T: Serialize, Rest: TupleParts> TupleParts for Part<'_, T, Rest> {
 
     #[inline(always)]
     fn write<W: Sink>(&self, alloc: Global, out: &mut TupleSerializer<'_, W>) -> Result<(), Error> {
-        match out.serialize_element(alloc, self.value) {
-            Ok(()) => match self.rest.write(alloc, out) {
-                Ok(()) => Ok(()),
-                Err(e) => Err(e),
-            },
-            Err(e) => Err(e),
+        match out.write_next(alloc, self.value) {
+            Ok(()) => answer!(self.rest.write(alloc, out)),
+            Err(e) => return Err(e),
         }
     }
 
@@ -158,11 +158,8 @@ impl<T: Serialize, Rest: TupleParts> TupleParts for Part<'_, T, Rest> {
         out: &mut VariantSerializer<'_, W>,
     ) -> Result<(), Error> {
         match out.serialize_field(alloc, self.value) {
-            Ok(()) => match self.rest.write_fields(alloc, out) {
-                Ok(()) => Ok(()),
-                Err(e) => Err(e),
-            },
-            Err(e) => Err(e),
+            Ok(()) => answer!(self.rest.write_fields(alloc, out)),
+            Err(e) => return Err(e),
         }
     }
 }
@@ -190,8 +187,8 @@ impl<W: Sink> Serializer<W> {
             Err(e) => return Err(e),
         };
         match parts.write(alloc, &mut out) {
-            Ok(()) => out.end(),
-            Err(e) => Err(e),
+            Ok(()) => answer!(out.end()),
+            Err(e) => return Err(e),
         }
     }
 }
@@ -226,10 +223,7 @@ impl<A: Serialize> Serialize for (A,) {
             value: &self.0,
             rest: (),
         };
-        match ser.serialize_parts(alloc, 1, &parts) {
-            Ok(()) => Ok(()),
-            Err(e) => Err(e),
-        }
+        answer!(ser.serialize_parts(alloc, 1, &parts))
     }
 }
 
@@ -244,10 +238,7 @@ impl<A: Serialize, B: Serialize> Serialize for (A, B) {
                 rest: (),
             },
         };
-        match ser.serialize_parts(alloc, 2, &parts) {
-            Ok(()) => Ok(()),
-            Err(e) => Err(e),
-        }
+        answer!(ser.serialize_parts(alloc, 2, &parts))
     }
 }
 
@@ -265,10 +256,7 @@ impl<A: Serialize, B: Serialize, C: Serialize> Serialize for (A, B, C) {
                 },
             },
         };
-        match ser.serialize_parts(alloc, 3, &parts) {
-            Ok(()) => Ok(()),
-            Err(e) => Err(e),
-        }
+        answer!(ser.serialize_parts(alloc, 3, &parts))
     }
 }
 
@@ -289,9 +277,6 @@ impl<A: Serialize, B: Serialize, C: Serialize, D: Serialize> Serialize for (A, B
                 },
             },
         };
-        match ser.serialize_parts(alloc, 4, &parts) {
-            Ok(()) => Ok(()),
-            Err(e) => Err(e),
-        }
+        answer!(ser.serialize_parts(alloc, 4, &parts))
     }
 }

@@ -5,6 +5,7 @@ ghost use Rattle.amqp_ser.specs.State.{state};
 ghost use Rattle.amqp_ser.specs.Law.{Writes};
 
 use crate::Serializer;
+use crate::answer::answer;
 use amqp_base::{Error, Sink};
 use std::alloc::Global;
 
@@ -19,7 +20,7 @@ impl<W: Sink> Serializer<W> {
             (state W.Write W.FaultCount self.new) }
     {
         let _ = alloc;
-        self.leaf(v)
+        answer!(self.leaf(v))
     }
 
     /// Writes a ushort (section 1.6.4): 60 and two bytes, the high one first; in an array the two
@@ -32,7 +33,7 @@ impl<W: Sink> Serializer<W> {
             (state W.Write W.FaultCount self.new) }
     {
         let _ = alloc;
-        self.leaf(v)
+        answer!(self.leaf(v))
     }
 
     /// Writes a uint (section 1.6.5): outside arrays 43 for 0, 52 and a byte up to 255, else 70 and
@@ -45,7 +46,7 @@ impl<W: Sink> Serializer<W> {
             (state W.Write W.FaultCount self.new) }
     {
         let _ = alloc;
-        self.leaf(v)
+        answer!(self.leaf(v))
     }
 
     /// Writes a ulong (section 1.6.6): outside arrays 44 for 0, 53 and a byte up to 255, else 80
@@ -58,6 +59,6 @@ impl<W: Sink> Serializer<W> {
             (state W.Write W.FaultCount self.new) }
     {
         let _ = alloc;
-        self.leaf(v)
+        answer!(self.leaf(v))
     }
 }

@@ -13,6 +13,7 @@ ghost use Rattle.amqp_ser.specs.Variants.{unit_item, variant_item, fields_item, 
 ghost use Rattle.amqp_ser.specs.Variants.{RefusesVariant, EndsVariant};
 ghost use Rattle.amqp_ser.specs.contracts.serializer.Serializer.{the_row};
 
+use crate::answer::answer;
 use crate::compound::Compound;
 use crate::paired::{Paired, write_paired};
 use crate::structs::is_name;
@@ -123,12 +124,14 @@ impl<W: Sink> Serializer<W> {
         let _ = name;
         let _ = variant;
         match self.begin_pair(alloc, index, len) {
-            Ok(parts) => Ok(Compound {
-                ser: self,
-                parts,
-                form: Variant,
-            }),
-            Err(e) => Err(e),
+            Ok(parts) => {
+                return Ok(Compound {
+                    ser: self,
+                    parts,
+                    form: Variant,
+                });
+            }
+            Err(e) => return Err(e),
         }
     }
 
@@ -275,10 +278,7 @@ impl<'a, W: Sink> VariantSerializer<'a, W> {
             (state W.Write W.FaultCount self.new.ser.now) }
         ensures stops { EndsVariant W.Write W.FaultCount self.old result self.new }
     {
-        match write_paired(&mut *self.ser, &mut self.parts, alloc, value) {
-            Ok(()) => Ok(()),
-            Err(e) => Err(e),
-        }
+        answer!(write_paired(&mut *self.ser, &mut self.parts, alloc, value))
     }
 
     /// Writes one more field, as `serialize_field` does; its name isn't written.

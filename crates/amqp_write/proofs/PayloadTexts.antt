@@ -2,21 +2,20 @@
 use Rattle.std.proofs.Common.{◌≡◌, ℕ, List, [], length, true, refl, ap, Some, Result, OnOk, IfErr}
 use Rattle.std.specs.Str.{is_utf8}
 use Rattle.amqp_base.specs.declared.format_code.EncodingCodes.{EncodingCodes}
-use Rattle.amqp_base.specs.declared.format_code.EncodingCodes.TheVariants.{Vbin32, Str32, Sym32}
+use Rattle.amqp_base.specs.declared.format_code.EncodingCodes.TheVariants.{Vbin32, Sym32}
 use Rattle.amqp_base.specs.declared.error.Error.{Error}
 use Rattle.amqp_base.specs.declared.shape.Setting.{Setting}
-use Rattle.amqp_base.specs.declared.shape.Setting.TheVariants.{Symbol}
 use Rattle.amqp_base.specs.Typing.{text_item}
 use Rattle.amqp_base.specs.Codes.{row, widest}
 use Rattle.amqp_base.specs.Wire.{under}
 use Rattle.amqp_base.specs.Item.{Scalar, scalar, binary, symbol}
 use Rattle.amqp_base.specs.Canon.{canon, body, kind_code, scalar_body, scalar_text, short_text}
 use Rattle.amqp_write.specs.State.{State, Mark, unmarked, first, other}
-use Rattle.amqp_write.specs.Texts.{payload_length, unwritten, why_unwritten}
+use Rattle.amqp_write.specs.Texts.{text_codes, payload_length, unwritten, why_unwritten}
 use Rattle.amqp_write.specs.Law.{marked, found_after, Wrote, Refused}
 use Rattle.amqp_write.specs.Appending.{PaysItem, PaysUnder, payload_at}
 use Rattle.amqp_write.proofs.Steps.{wrote_pays, refused_pays}
-use Rattle.amqp_write.proofs.TextOf.{pays_text, symbol_at, string_str, symbol_str, text_code_string, text_code_symbol, text_sizes, text_why}
+use Rattle.amqp_write.proofs.TextOf.{pays_text, symbol_at, text_at, text_code, text_sizes, text_why}
 use Rattle.amqp_write.proofs.WideTexts.{scalar_sizes}
 
 -- v is written as the payload b
@@ -54,11 +53,8 @@ unfolding kind_code widest
 carries_symbol m b u = record { text = symbol_at m b u; code = refl; payload = refl }
 
 -- texts, under a setting
-pub pays_string : {A : Type 0} (s : State) (b : List ℕ) (setting : Setting) (why : Error) (r : Result A Error) (t : State) → (setting ≡ Symbol → ⊥) → is_utf8 b ≡ true → PaysUnder s Str32 (payload_at s.mark 0xa1 Str32 b) why r t → PaysItem s (text_item b setting) why r t
-pays_string s b setting why r t h u p = pays_text s _ _ _ _ [] why r t (string_str s.mark b setting h u) (ap (λ k. found_after s.mark k s.found) (text_code_string b setting h)) p
-
-pub pays_symbol : {A : Type 0} (s : State) (b : List ℕ) (setting : Setting) (why : Error) (r : Result A Error) (t : State) → setting ≡ Symbol → is_utf8 b ≡ true → PaysUnder s Sym32 (payload_at s.mark 0xa3 Sym32 b) why r t → PaysItem s (text_item b setting) why r t
-pays_symbol s b setting why r t h u p = pays_text s _ _ _ _ [] why r t (symbol_str s.mark b setting h u) (ap (λ k. found_after s.mark k s.found) (text_code_symbol b setting h)) p
+pub pays_string : {A : Type 0} (s : State) (b : List ℕ) (setting : Setting) (why : Error) (r : Result A Error) (t : State) → is_utf8 b ≡ true → PaysUnder s (text_codes setting).1 (payload_at s.mark (text_codes setting).0 (text_codes setting).1 b) why r t → PaysItem s (text_item b setting) why r t
+pays_string s b setting why r t u p = pays_text s _ _ _ _ [] why r t (text_at s.mark b setting u) (ap (λ k. found_after s.mark k s.found) (text_code b setting)) p
 
 pub wrote_text : {A : Type 0} (s : State) (b : List ℕ) (setting : Setting) (why : Error) (r : Result A Error) (t : State) → PaysItem s (text_item b setting) why r t → OnOk r (Wrote s (text_item b setting) t)
 wrote_text s b setting why r t p = wrote_pays s (text_item b setting) _ _ [] why r t refl refl (text_sizes b setting) p

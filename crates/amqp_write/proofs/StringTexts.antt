@@ -18,15 +18,15 @@ use Rattle.amqp_write.specs.State.{State, Mark, unmarked}
 use Rattle.amqp_write.specs.Appending.{Appended, as_error, error_of}
 use Rattle.amqp_write.specs.NumberTexts.{AreTexts, HaveTextsOf, PutsText, WritesNumbers}
 use Rattle.amqp_write.proofs.NumberTexts.{Written, text_alone, one_more, put_length, lengths_more, written_more, written_refused, same_bad, same_done}
-use Rattle.amqp_write.proofs.TextOf.{string_str, payload_narrow, payload_wide}
+use Rattle.amqp_write.proofs.TextOf.{text_at, payload_narrow, payload_wide}
 use Rattle.amqp_write.proofs.WideTexts.{scalar_sizes}
 
 pub narrow_string : (b : List ℕ) → IsUtf8 b → length b ≤ 254 → AreTexts unmarked (scalar (string b) ∷ []) (0xa1 ∷ length b ∷ b)
-narrow_string b u h = text_alone unmarked (scalar (string b)) _ (string_str unmarked b Plain (λ e. cc) (is_utf8-from_IsUtf8 b u) ∙ payload_narrow 0xa1 Str32 b h) (scalar_sizes (string b))
+narrow_string b u h = text_alone unmarked (scalar (string b)) _ (text_at unmarked b Plain (is_utf8-from_IsUtf8 b u) ∙ payload_narrow 0xa1 Str32 b h) (scalar_sizes (string b))
 
 pub wide_string : (b : List ℕ) → IsUtf8 b → 254 < length b → length b ≤ 4294967291 → AreTexts unmarked (scalar (string b) ∷ []) (0xb1 ∷ (bytes_high_first 4 (length b) ++ b))
 unfolding row
-wide_string b u h k = text_alone unmarked (scalar (string b)) _ (string_str unmarked b Plain (λ e. cc) (is_utf8-from_IsUtf8 b u) ∙ payload_wide 0xa1 Str32 b h k) (scalar_sizes (string b))
+wide_string b u h k = text_alone unmarked (scalar (string b)) _ (text_at unmarked b Plain (is_utf8-from_IsUtf8 b u) ∙ payload_wide 0xa1 Str32 b h k) (scalar_sizes (string b))
 
 -- a block into which the text of a short string was put
 pub puts_string : (at k : ℕ) (xs b : List ℕ) → at + 2 + length b ≤ length xs → k ≡ length b → IsUtf8 b → length b ≤ 254 → PutsText unmarked (scalar (string b)) at xs (at + 2 + length b) (put_mid (at + 2) k (set (set xs at 0xa1) (at + 1) (length b)) b)

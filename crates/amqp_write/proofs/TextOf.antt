@@ -22,6 +22,7 @@ use Rattle.amqp_base.specs.declared.error.Error.TheVariants.{InvalidValue, OutOf
 use Rattle.amqp_types.specs.declared.described.Descriptor.{Descriptor}
 use Rattle.amqp_write.specs.declared.place.Mark.{Mark as CodeMark}
 use Rattle.amqp_write.specs.declared.place.Mark.TheVariants.{Unmarked, First, Other}
+use Rattle.amqp_write.specs.Texts.{text_codes}
 use Rattle.amqp_write.specs.State.{State, Mark, unmarked, first, other, mark_in}
 use Rattle.amqp_write.specs.Law.{marked, placed, found_after, unwritten, why_unwritten}
 use Rattle.amqp_write.specs.Appending.{payload_at, Pays, Appended}
@@ -88,27 +89,20 @@ io_apart e = cc
 invalid_apart : InvalidValue ≡ OutOfMemory → ⊥
 invalid_apart e = cc
 
-pub string_str : (m : Mark) (b : List ℕ) (setting : Setting) → (setting ≡ Symbol → ⊥) → is_utf8 b ≡ true → marked m (text_item b setting) ≡ payload_at m 0xa1 Str32 b
-string_str m b Plain h u = string_at m b u
-string_str m b Symbol h u = absurd (h refl)
-string_str m b DescribedList h u = string_at m b u
-string_str m b DescribedMap h u = string_at m b u
-string_str m b DescribedBasic h u = string_at m b u
+pub text_at : (m : Mark) (b : List ℕ) (setting : Setting) → is_utf8 b ≡ true → marked m (text_item b setting) ≡ payload_at m (text_codes setting).0 (text_codes setting).1 b
+text_at m b Plain u = string_at m b u
+text_at m b Symbol u = symbol_at m b u
+text_at m b DescribedList u = string_at m b u
+text_at m b DescribedMap u = string_at m b u
+text_at m b DescribedBasic u = string_at m b u
 
-pub symbol_str : (m : Mark) (b : List ℕ) (setting : Setting) → setting ≡ Symbol → is_utf8 b ≡ true → marked m (text_item b setting) ≡ payload_at m 0xa3 Sym32 b
-symbol_str m b setting h u = rw h (symbol_at m b u)
-
-pub text_code_string : (b : List ℕ) (setting : Setting) → (setting ≡ Symbol → ⊥) → kind_code (text_item b setting) ≡ Some (under Str32)
+pub text_code : (b : List ℕ) (setting : Setting) → kind_code (text_item b setting) ≡ Some (under (text_codes setting).1)
 unfolding kind_code widest
-text_code_string b Plain h = refl
-text_code_string b Symbol h = absurd (h refl)
-text_code_string b DescribedList h = refl
-text_code_string b DescribedMap h = refl
-text_code_string b DescribedBasic h = refl
-
-pub text_code_symbol : (b : List ℕ) (setting : Setting) → setting ≡ Symbol → kind_code (text_item b setting) ≡ Some (under Sym32)
-unfolding kind_code widest
-text_code_symbol b setting h = rw h refl
+text_code b Plain = refl
+text_code b Symbol = refl
+text_code b DescribedList = refl
+text_code b DescribedMap = refl
+text_code b DescribedBasic = refl
 
 pub text_sizes : (b : List ℕ) (setting : Setting) → sizes (text_item b setting) ≡ []
 unfolding sizes

@@ -5,9 +5,21 @@ use Rattle.amqp_base.specs.Item.{Scalar, binary, string, symbol, Item, scalar, l
 use Rattle.amqp_base.specs.Wire.{Constructor}
 use Rattle.amqp_base.specs.Canon.{◌>>=◌, limit, canon, canons, pair_canons, body, array_body, kind_code, constructor_text, descriptor_text, is_under}
 use Rattle.amqp_base.specs.Sizes.{length_of}
+use Rattle.amqp_base.specs.declared.format_code.EncodingCodes.{EncodingCodes}
+use Rattle.amqp_base.specs.declared.format_code.EncodingCodes.TheVariants.{Str32, Sym32}
+use Rattle.amqp_base.specs.declared.shape.Setting.{Setting}
+use Rattle.amqp_base.specs.declared.shape.Setting.TheVariants.{Plain, Symbol, DescribedList, DescribedMap, DescribedBasic}
 use Rattle.amqp_base.specs.declared.error.Error.{Error}
 use Rattle.amqp_base.specs.declared.error.Error.TheVariants.{Io, InvalidValue}
 use Rattle.amqp_write.specs.State.{Mark, unmarked, first, other}
+
+-- the codes of a text: the byte of the one with a length of one byte, and the one with four (sections 1.6.20 and 1.6.21)
+abbrev pub text_codes : Setting → ℕ × EncodingCodes
+text_codes Plain = (0xa1, Str32)
+text_codes Symbol = (0xa3, Sym32)
+text_codes DescribedList = (0xa1, Str32)
+text_codes DescribedMap = (0xa1, Str32)
+text_codes DescribedBasic = (0xa1, Str32)
 
 -- data behind its constructor, as the mark has it
 abbrev pub placed : Mark → Option Constructor → Option (List ℕ) → Option (List ℕ)

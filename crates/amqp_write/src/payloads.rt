@@ -5,12 +5,24 @@ ghost use Rattle.amqp_base.specs.Item.{scalar, binary, symbol};
 ghost use Rattle.amqp_base.specs.Typing.{text_item};
 ghost use Rattle.amqp_write.specs.State.{stand, mark_of};
 ghost use Rattle.amqp_write.specs.Law.{unwritten};
+ghost use Rattle.amqp_write.specs.Texts.{text_codes};
 ghost use Rattle.amqp_write.specs.Appending.{PaysItem, PaysUnder, payload_at, as_error};
 
 use crate::place::{LONGEST, Mark, NARROW, Place};
 use crate::refusal::Refusal;
 use amqp_base::{EncodingCodes, Setting, Sink, codes};
 use std::io::ErrorKind;
+
+/// The codes of a text: the byte of the one with a length of one byte, and the one with four.
+#[inline(always)]
+fn text_codes(setting: Setting) -> (u8, EncodingCodes)
+    ensures { result ≡ text_codes setting }
+{
+    match setting {
+        Setting::Symbol => (codes::SYM8, EncodingCodes::Sym32),
+        _ => (codes::STR8, EncodingCodes::Str32),
+    }
+}
 
 impl Place {
     /// Bytes behind a code and their length: `narrow` is the byte of the code with one byte of
@@ -59,15 +71,8 @@ impl Place {
             (text_item v.now self.old.setting) (unwritten (length v.now)) (as_error result)
             (stand W.Write W.FaultCount writer.new self.new) }
     {
-        match self.setting {
-            Setting::Symbol => self.payload_text(
-                writer,
-                codes::SYM8,
-                EncodingCodes::Sym32,
-                v.as_bytes(),
-            ),
-            _ => self.payload_text(writer, codes::STR8, EncodingCodes::Str32, v.as_bytes()),
-        }
+        let (narrow, code) = text_codes(self.setting);
+        self.payload_text(writer, narrow, code, v.as_bytes())
     }
 
     /// A symbol, whatever the setting (section 1.6.21). Outside arrays up to 254 bytes stand behind

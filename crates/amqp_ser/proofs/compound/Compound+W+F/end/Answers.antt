@@ -25,13 +25,21 @@ pub returns-in-Some-clause-lacking : goal.returns-in-Some-clause-lacking
 unfolding open_as
 returns-in-Some-clause-lacking g c = λ pairs s shape xs e h lack. (ap (λ d. Err d) (is_lacking s shape xs _ c.in-Some.e e h (sym c.lacks.ensures ∙ c.in-Some.is) lack), refl)
 
-pub returns-clause-law : goal.returns-clause-law
+pub returns-in-Ok-clause-law : goal.returns-in-Ok-clause-law
 unfolding open_as
-returns-clause-law g c = λ pairs. ends_whole _ _ c.close.result _ (sym c.lacks.ensures ∙ c.in-None.is) (inner_answers _ _ _ ∙ c.if-parts.false) (c.close.ensures.ok pairs) (c.close.ensures.err pairs) c.close.ensures.kept c.close.ensures.stays_ended
+returns-in-Ok-clause-law g c = λ pairs. ends_whole _ _ _ _ (sym c.lacks.ensures ∙ c.in-None.is) (inner_answers _ _ _ ∙ c.if-parts.false) (c.in-Ok.ensures.ok pairs) (c.in-Ok.ensures.err pairs) c.in-Ok.ensures.kept c.in-Ok.ensures.stays_ended
 
-pub returns-clause-lacking : goal.returns-clause-lacking
+pub returns-in-Err-clause-law : goal.returns-in-Err-clause-law
 unfolding open_as
-returns-clause-lacking g c = λ pairs s shape xs e h lack. nothing_lacking s shape xs _ e h (sym c.lacks.ensures ∙ c.in-None.is) lack
+returns-in-Err-clause-law g c = λ pairs. ends_whole _ _ _ _ (sym c.lacks.ensures ∙ c.in-None.is) (inner_answers _ _ _ ∙ c.if-parts.false) (c.in-Err.ensures.ok pairs) (c.in-Err.ensures.err pairs) c.in-Err.ensures.kept c.in-Err.ensures.stays_ended
+
+pub returns-in-Ok-clause-lacking : goal.returns-in-Ok-clause-lacking
+unfolding open_as
+returns-in-Ok-clause-lacking g c = λ pairs s shape xs e h lack. nothing_lacking s shape xs _ e h (sym c.lacks.ensures ∙ c.in-None.is) lack
+
+pub returns-in-Err-clause-lacking : goal.returns-in-Err-clause-lacking
+unfolding open_as
+returns-in-Err-clause-lacking g c = λ pairs s shape xs e h lack. nothing_lacking s shape xs _ e h (sym c.lacks.ensures ∙ c.in-None.is) lack
 
 pub returns-then-parts-clause-fields : goal.returns-then-parts-clause-fields
 unfolding open_as
@@ -41,6 +49,10 @@ pub returns-in-Some-clause-fields : goal.returns-in-Some-clause-fields
 unfolding open_as
 returns-in-Some-clause-fields g c = ends_struct _ _ _ _ (returns-in-Some-clause-law g c)
 
-pub returns-clause-fields : goal.returns-clause-fields
+pub returns-in-Ok-clause-fields : goal.returns-in-Ok-clause-fields
 unfolding open_as
-returns-clause-fields g c = ends_struct _ _ _ _ (returns-clause-law g c)
+returns-in-Ok-clause-fields g c = ends_struct _ _ _ _ (returns-in-Ok-clause-law g c)
+
+pub returns-in-Err-clause-fields : goal.returns-in-Err-clause-fields
+unfolding open_as
+returns-in-Err-clause-fields g c = ends_struct _ _ _ _ (returns-in-Err-clause-law g c)

@@ -9,22 +9,22 @@ pub returns-in-Ok-clause-ok : goal.returns-in-Ok-clause-ok
 unfolding state stand
 returns-in-Ok-clause-ok g c = rw c.in-Buffered.is (λ pairs. end_wrote_each _ _ _ _ refl (contents_told _ _ _ (rw (c.deref.ensures.value, c.into_inner-body.ensures) refl)) c.in-Ok.ensures.law)
 
-pub returns-in-Buffered-clause-err : goal.returns-in-Buffered-clause-err
+pub returns-in-Err-clause-err : goal.returns-in-Err-clause-err
 unfolding state stand
-returns-in-Buffered-clause-err g c = rw (c.refused-in-Err.ensures, c.in-Buffered.is) (λ pairs. end_refused_each _ _ _ _ refl (contents_told _ _ _ (rw (c.deref.ensures.value, c.into_inner-body.ensures) refl)) c.in-Err.ensures.law)
+returns-in-Err-clause-err g c = rw (c.refused-in-Err.ensures, c.in-Buffered.is) (λ pairs. end_refused_each _ _ _ _ refl (contents_told _ _ _ (rw (c.deref.ensures.value, c.into_inner-body.ensures) refl)) c.in-Err.ensures.law)
 
 pub returns-in-Ok-close_measured-clause-ok : goal.returns-in-Ok-close_measured-clause-ok
 unfolding state stand
 returns-in-Ok-close_measured-clause-ok g c = rw c.in-Measured.is (λ pairs. wrote_measured _ c.in-Measured.at c.in-Measured.before _ _ refl refl c.in-Ok-close_measured.ensures.law)
 
-pub returns-in-Measured-clause-err : goal.returns-in-Measured-clause-err
+pub returns-in-Err-close_measured-clause-err : goal.returns-in-Err-close_measured-clause-err
 unfolding state stand
-returns-in-Measured-clause-err g c = rw (c.refused-in-Err-close_measured.ensures, c.in-Measured.is) (λ pairs. refused_measured _ c.in-Measured.at c.in-Measured.before _ _ refl refl (kept_at_end _ _ _ c.in-Err-close_measured.ensures.kept) c.in-Err-close_measured.ensures.law)
+returns-in-Err-close_measured-clause-err g c = rw (c.refused-in-Err-close_measured.ensures, c.in-Measured.is) (λ pairs. refused_measured _ c.in-Measured.at c.in-Measured.before _ _ refl refl (kept_at_end _ _ _ c.in-Err-close_measured.ensures.kept) c.in-Err-close_measured.ensures.law)
 
-pub returns-in-Written-clause-ok : goal.returns-in-Written-clause-ok
+pub returns-in-Ok-close_written-clause-ok : goal.returns-in-Ok-close_written-clause-ok
 unfolding state stand
-returns-in-Written-clause-ok g c = rw c.in-Written.is (λ pairs. wrote_written_each _ c.in-Written.size c.in-Written.from _ _ refl refl refl c.close_written.ensures.law)
+returns-in-Ok-close_written-clause-ok g c = rw c.in-Written.is (λ pairs. wrote_written_each _ c.in-Written.size c.in-Written.from _ refl refl refl c.in-Ok-close_written.ensures.law)
 
-pub returns-in-Written-clause-err : goal.returns-in-Written-clause-err
+pub returns-in-Err-close_written-clause-err : goal.returns-in-Err-close_written-clause-err
 unfolding state stand
-returns-in-Written-clause-err g c = rw c.in-Written.is (λ pairs. refused_written_each _ c.in-Written.size c.in-Written.from _ _ refl (kept_at_end _ _ _ c.close_written.ensures.kept) c.close_written.ensures.law)
+returns-in-Err-close_written-clause-err g c = rw c.in-Written.is (λ pairs. refused_written_each _ c.in-Written.size c.in-Written.from _ _ refl (kept_at_end _ _ _ c.in-Err-close_written.ensures.kept) c.in-Err-close_written.ensures.law)

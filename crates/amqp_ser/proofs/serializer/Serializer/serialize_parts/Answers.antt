@@ -1,5 +1,4 @@
-use Rattle.std.proofs.Common.{rules, [], length, eq-eqb, refl, false, OnOk, IfErr}
-use Rattle.std.proofs.lemmas.Result.{IfErr-weaker, on_ok_weaker}
+use Rattle.std.proofs.Common.{rules, [], length, eq-eqb, refl, false}
 use Rattle.amqp_base.specs.Shapes.{whole}
 use Rattle.amqp_base.specs.declared.shape.Shape.{Shape}
 use Rattle.amqp_ser.specs.Law.{Wrote, Refused}
@@ -15,18 +14,17 @@ returns-in-Err-write-clause-err g c = λ _.
     let refused = c.in-Err-write.ensures.err s (Shape.Tuple c.args.len) [] xs c.in-Ok.ensures.opened (begins_self xs) in
     moved (λ n. Refused s (whole (Shape.Tuple c.args.len) xs) c.in-Err-write.e (state g.W.Write g.W.FaultCount n)) c.write.new.out.ser.now _ (search rules) refused
 
-pub returns-in-Ok-write-clause-ok : goal.returns-in-Ok-write-clause-ok
-returns-in-Ok-write-clause-ok g c =
+pub returns-in-Ok-end-clause-ok : goal.returns-in-Ok-end-clause-ok
+returns-in-Ok-end-clause-ok g c =
     let s = state g.W.Write g.W.FaultCount c.args.self.now in
     let xs = g.P.TupleParts.items c.args.parts.now in
     let held = c.in-Ok-write.ensures.ok s (Shape.Tuple c.args.len) [] c.in-Ok.ensures.opened in
-    moved (λ n. OnOk c.end.result (Wrote s (whole (Shape.Tuple c.args.len) xs) (state g.W.Write g.W.FaultCount n))) c.end.new.self.0 _ (search rules)
-    (on_ok_weaker c.end.result (λ wrote. wrote s (Shape.Tuple c.args.len) xs held) (c.end.ensures.law false).ok)
+    moved (λ n. Wrote s (whole (Shape.Tuple c.args.len) xs) (state g.W.Write g.W.FaultCount n)) c.end.new.self.0 _ (search rules) ((c.in-Ok-end.ensures.law false).ok s (Shape.Tuple c.args.len) xs held)
 
-pub returns-in-Ok-write-clause-err : goal.returns-in-Ok-write-clause-err
-returns-in-Ok-write-clause-err g c = λ len.
+pub returns-in-Err-end-clause-err : goal.returns-in-Err-end-clause-err
+returns-in-Err-end-clause-err g c = λ len.
     let s = state g.W.Write g.W.FaultCount c.args.self.now in
     let xs = g.P.TupleParts.items c.args.parts.now in
     let held = c.in-Ok-write.ensures.ok s (Shape.Tuple c.args.len) [] c.in-Ok.ensures.opened in
-    moved (λ n. IfErr c.end.result (λ e. Refused s (whole (Shape.Tuple c.args.len) xs) e (state g.W.Write g.W.FaultCount n))) c.end.new.self.0 _ (search rules)
-    (IfErr-weaker c.end.result _ _ (λ e refused. refused s (Shape.Tuple c.args.len) xs held (rw (eq-eqb (length xs) c.args.len len) refl)) (c.end.ensures.law false).err)
+    moved (λ n. Refused s (whole (Shape.Tuple c.args.len) xs) c.in-Err-end.e (state g.W.Write g.W.FaultCount n)) c.end.new.self.0 _ (search rules)
+    ((c.in-Err-end.ensures.law false).err s (Shape.Tuple c.args.len) xs held (rw (eq-eqb (length xs) c.args.len len) refl))
