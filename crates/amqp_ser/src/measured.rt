@@ -28,7 +28,10 @@ pub fn measure<T: Serialize>(alloc: Global, value: &T) -> Result<Measure, Error>
         Ok(()) => {}
         Err(e) => return Err(e),
     }
-    let Measure { length, sizes } = ser.into_inner();
+    let Serializer {
+        writer: Measure { length, sizes },
+        place: _,
+    } = ser;
     Ok(Measure {
         length: length.min(usize::MAX),
         sizes,
@@ -109,11 +112,13 @@ pub fn write_measured<T: Serialize>(
         Ok(()) => {}
         Err(e) => return Err(e),
     }
-    let Plan {
-        out,
-        sizes: _,
-        next: _,
-    } = ser.into_inner();
-    let Reserved { bytes } = out;
+    let Serializer {
+        writer: Plan {
+            out: Reserved { bytes },
+            sizes: _,
+            next: _,
+        },
+        place: _,
+    } = ser;
     Ok(bytes)
 }

@@ -8,8 +8,8 @@ use Rattle.amqp_ser.proofs.measured.measure.Goals as goal
 pub returns-clause-ok : goal.returns-clause-ok
 unfolding state stand
 returns-clause-ok g c =
-    let m = c.into_inner-length.result in
-    measured_ok _ (g.T.Typed.meaning.item c.args.value.now) _ c.serialize.new.ser.place.direct (record { length = m.length; sizes = listed m.sizes }) _ c.new-ser.ensures.setting c.new-ser.ensures.mark c.new-ser.ensures.answers (rw (c.new-ser.ensures.writer, c.new.ensures) refl) (rw c.into_inner-length.ensures refl) c.min.ensures c.in-Ok.ensures.ok
+    let m = c.serialize.new.ser.writer in
+    measured_ok _ (g.T.Typed.meaning.item c.args.value.now) _ c.serialize.new.ser.place.direct (record { length = m.length; sizes = listed m.sizes }) _ c.new-ser.ensures.setting c.new-ser.ensures.mark c.new-ser.ensures.answers (rw (c.new-ser.ensures.writer, c.new.ensures) refl) refl c.min.ensures c.in-Ok.ensures.ok
 
 pub returns-in-Err-clause-err : goal.returns-in-Err-clause-err
 unfolding state stand
