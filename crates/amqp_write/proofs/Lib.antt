@@ -13,6 +13,6 @@ pub mod WhyElsewhere
 pub mod DescribedSteps
 pub mod Lengths
 pub mod Heads
-pub mod NumberTexts
+pub mod ManyTexts
 pub mod NumberCounts
 pub mod StringTexts

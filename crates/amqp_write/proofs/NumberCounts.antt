@@ -5,7 +5,7 @@ use Rattle.amqp_base.specs.Item.{Item}
 use Rattle.amqp_base.specs.Passes.{CountsMore}
 use Rattle.amqp_write.specs.State.{State, Mark, Planned, Measured, contents_in, plan_in, measure_in}
 use Rattle.amqp_write.specs.Law.{measure_after, plan_after}
-use Rattle.amqp_write.specs.NumberTexts.{HaveTextsOf, WritesNumbers}
+use Rattle.amqp_write.specs.ManyTexts.{HaveTextsOf, WritesTexts}
 use Rattle.amqp_write.proofs.Bytes.{none_extends, none_appends}
 use Rattle.amqp_write.proofs.Steps.{fits_nil}
 
@@ -25,7 +25,7 @@ plan_none false p q h e b = refl
 plan_none true p q h e b = rw (e, h) refl
 
 pub counted_all : {A : Type 0} (k : Mark) (is : List Item) (s t : State) (d : Bool) (c : Option (List ℕ)) (p q : Option Planned) (m n : Option Measured) (more : ℕ) (y : A) → HaveTextsOf k is more → CountsMore m more n → c ≡ None → p ≡ None → q ≡ p → s.contents ≡ contents_in d c → s.plan ≡ plan_in d p → t.plan ≡ plan_in d q → s.measure ≡ measure_in d m → t.measure ≡ measure_in d n
-    → t.faults ≡ s.faults → t.grows ≡ s.grows → t.setting ≡ s.setting → t.mark ≡ s.mark → t.found ≡ s.found → t.ended ≡ s.ended → WritesNumbers k is s (Ok y) t
+    → t.faults ≡ s.faults → t.grows ≡ s.grows → t.setting ≡ s.setting → t.mark ≡ s.mark → t.found ≡ s.found → t.ended ≡ s.ended → WritesTexts k is s (Ok y) t
 counted_all k is s t d c p q m n more y texts counts untold alone kept contents plan after measure counted faults grows setting mark found ended =
     let b = texts.0 in
     let none : s.contents ≡ None = contents ∙ contents_none d c untold in

@@ -1,5 +1,5 @@
 -- The texts of strings outside arrays.
-use Rattle.std.proofs.Common.{◌≡◌, ℕ, ◌+◌, ◌-◌, ◌<◌, ◌≤◌, List, [], ◌∷◌, ◌++◌, length, get_or, map, take, drop, set, min, refl, sym, ◌∙◌, ap, subst, arith, append_assoc, length-drop, length-set, Result, Ok, Err}
+use Rattle.std.proofs.Common.{◌≡◌, ℕ, ◌+◌, ◌-◌, ◌<◌, ◌≤◌, List, [], ◌∷◌, ◌++◌, length, get_or, map, take, drop, set, min, Some, refl, sym, ◌∙◌, ap, subst, arith, append_assoc, length-drop, length-set, Result, Ok, Err}
 use Rattle.std.proofs.lemmas.List.{take_all}
 use Rattle.std.proofs.lemmas.Grind.{take-set_at}
 use Rattle.std.proofs.lemmas.Slice.{take-put_mid}
@@ -15,18 +15,22 @@ use Rattle.amqp_base.specs.declared.format_code.EncodingCodes.TheVariants.{Str32
 use Rattle.amqp_base.specs.declared.shape.Setting.TheVariants.{Plain}
 use Rattle.amqp_write.specs.declared.refusal.Refusal.{Refusal}
 use Rattle.amqp_write.specs.State.{State, Mark, unmarked}
-use Rattle.amqp_write.specs.Appending.{Appended, as_error, error_of}
-use Rattle.amqp_write.specs.NumberTexts.{AreTexts, HaveTextsOf, PutsText, WritesNumbers}
-use Rattle.amqp_write.proofs.NumberTexts.{Written, text_alone, one_more, put_length, lengths_more, written_more, written_refused, same_bad, same_done}
+use Rattle.amqp_write.specs.Appending.{Appended, as_error, error_of, payload_at}
+use Rattle.amqp_write.specs.ManyTexts.{AreTexts, HaveTextsOf, PutsText, WritesTexts}
+use Rattle.amqp_write.proofs.ManyTexts.{Written, text_alone, one_more, put_length, lengths_more, written_more, written_refused, same_bad, same_done}
 use Rattle.amqp_write.proofs.TextOf.{text_at, payload_narrow, payload_wide}
 use Rattle.amqp_write.proofs.WideTexts.{scalar_sizes}
 
+-- a string whose payload has this text
+pub string_alone : (b t : List ℕ) → IsUtf8 b → payload_at unmarked 0xa1 Str32 b ≡ Some t → AreTexts unmarked (scalar (string b) ∷ []) t
+string_alone b t u h = text_alone unmarked (scalar (string b)) _ (text_at unmarked b Plain (is_utf8-from_IsUtf8 b u) ∙ h) (scalar_sizes (string b))
+
 pub narrow_string : (b : List ℕ) → IsUtf8 b → length b ≤ 254 → AreTexts unmarked (scalar (string b) ∷ []) (0xa1 ∷ length b ∷ b)
-narrow_string b u h = text_alone unmarked (scalar (string b)) _ (text_at unmarked b Plain (is_utf8-from_IsUtf8 b u) ∙ payload_narrow 0xa1 Str32 b h) (scalar_sizes (string b))
+narrow_string b u h = string_alone b _ u (payload_narrow 0xa1 Str32 b h)
 
 pub wide_string : (b : List ℕ) → IsUtf8 b → 254 < length b → length b ≤ 4294967291 → AreTexts unmarked (scalar (string b) ∷ []) (0xb1 ∷ (bytes_high_first 4 (length b) ++ b))
 unfolding row
-wide_string b u h k = text_alone unmarked (scalar (string b)) _ (text_at unmarked b Plain (is_utf8-from_IsUtf8 b u) ∙ payload_wide 0xa1 Str32 b h k) (scalar_sizes (string b))
+wide_string b u h k = string_alone b _ u (payload_wide 0xa1 Str32 b h k)
 
 -- a block into which the text of a short string was put
 pub puts_string : (at k : ℕ) (xs b : List ℕ) → at + 2 + length b ≤ length xs → k ≡ length b → IsUtf8 b → length b ≤ 254 → PutsText unmarked (scalar (string b)) at xs (at + 2 + length b) (put_mid (at + 2) k (set (set xs at 0xa1) (at + 1) (length b)) b)
@@ -48,29 +52,29 @@ puts_string at k xs b room is u short =
     }
 
 -- one text, appended or refused
-pub writes_one : {A : Type 0} (m : Mark) (is : List Item) (b : List ℕ) (s : State) (r : Result A Error) (t : State) → AreTexts m is b → Appended s b r t → WritesNumbers m is s r t
+pub writes_one : {A : Type 0} (m : Mark) (is : List Item) (b : List ℕ) (s : State) (r : Result A Error) (t : State) → AreTexts m is b → Appended s b r t → WritesTexts m is s r t
 writes_one m is b s (Ok x) t h a = record { bytes = b; texts = h; appended = a }
 writes_one m is b s (Err e) t h a = record { bytes = b; texts = tt; appended = a }
 
 -- all of them, and none
-pub writes_all : {X A B : Type 0} (m : Mark) (f : X → Item) (vs : List X) (s t : State) (r : Result A Refusal) (x : A) (y : B) → r ≡ Ok x → WritesNumbers m (map f vs) s (as_error r) t → WritesNumbers m (map f (take (length vs) vs)) s (Ok y) t
+pub writes_all : {X A B : Type 0} (m : Mark) (f : X → Item) (vs : List X) (s t : State) (r : Result A Refusal) (x : A) (y : B) → r ≡ Ok x → WritesTexts m (map f vs) s (as_error r) t → WritesTexts m (map f (take (length vs) vs)) s (Ok y) t
 writes_all m f vs s t r x y is w =
-    let v : WritesNumbers m (map f vs) s (Ok x) t = rw is at w in
+    let v : WritesTexts m (map f vs) s (Ok x) t = rw is at w in
     record {
       bytes = v.bytes;
       texts = subst (λ xs. AreTexts m (map f xs) v.bytes) (sym (take_all (length vs) vs (omega arith))) v.texts;
       appended = same_done s t v.bytes x y v.appended;
     }
 
-pub writes_none : {A B : Type 0} (m : Mark) (is js : List Item) (s t : State) (r : Result A Refusal) (e : Refusal) → r ≡ Err e → WritesNumbers m is s (as_error r) t → WritesNumbers {A = B} m js s (Err (error_of e)) t
+pub writes_none : {A B : Type 0} (m : Mark) (is js : List Item) (s t : State) (r : Result A Refusal) (e : Refusal) → r ≡ Err e → WritesTexts m is s (as_error r) t → WritesTexts {A = B} m js s (Err (error_of e)) t
 writes_none m is js s t r e bad w =
-    let v : WritesNumbers m is s (Err (error_of e)) t = rw bad at w in
+    let v : WritesTexts m is s (Err (error_of e)) t = rw bad at w in
     record { bytes = v.bytes; texts = tt; appended = same_bad s t v.bytes (error_of e) v.appended }
 
 pub lengths_next : {X : Type 0} (m : Mark) (f : X → Item) (vs : List X) (k : ℕ) (v : X) (sum few all : ℕ) → k < length vs → v ≡ get_or vs k v → all ≡ min (sum + few) 18446744073709551615 → HaveTextsOf m (map f (take k vs)) sum → HaveTextsOf m (f v ∷ []) few → HaveTextsOf m (map f (take (k + 1) vs)) all
 lengths_next m f vs k v sum few all h e is a b = subst (λ xs. HaveTextsOf m (map f xs) all) (sym (one_more vs k v h e)) (lengths_more m f (take k vs) (v ∷ []) sum few all is a b)
 
-pub written_next : {X A : Type 0} (m : Mark) (f : X → Item) (vs : List X) (k : ℕ) (v : X) (s t u : State) (r : Result A Refusal) (x : A) → k < length vs → v ≡ get_or vs k v → Written m (map f (take k vs)) s t → r ≡ Ok x → WritesNumbers m (f v ∷ []) t (as_error r) u → Written m (map f (take (k + 1) vs)) s u
+pub written_next : {X A : Type 0} (m : Mark) (f : X → Item) (vs : List X) (k : ℕ) (v : X) (s t u : State) (r : Result A Refusal) (x : A) → k < length vs → v ≡ get_or vs k v → Written m (map f (take k vs)) s t → r ≡ Ok x → WritesTexts m (f v ∷ []) t (as_error r) u → Written m (map f (take (k + 1) vs)) s u
 written_next m f vs k v s t u r x h e w is wrote =
     subst (λ xs. Written m (map f xs) s u) (sym (one_more vs k v h e)) (written_more m f (take k vs) (v ∷ []) s t u wrote.bytes r x w (rw is at wrote.texts) is wrote.appended)
 
@@ -79,11 +83,11 @@ written_some m f vs k n s t u b r x w texts is a =
     let rest : take (length vs - k) (drop k vs) ≡ drop k vs = take_all (length vs - k) (drop k vs) (omega (arith, length-drop k vs)) in
     subst (λ xs. Written m (map f xs) s u) (sym (take-add k n vs)) (written_more m f (take k vs) (take n (drop k vs)) s t u b r x w (rw rest at texts) is a)
 
-pub written_till : {A : Type 0} (m : Mark) (is all next : List Item) (s t u : State) (r : Result A Refusal) (e : Refusal) → Written m is s t → r ≡ Err e → WritesNumbers m next t (as_error r) u → WritesNumbers {A = ℕ} m all s (as_error (Err e)) u
+pub written_till : {A : Type 0} (m : Mark) (is all next : List Item) (s t u : State) (r : Result A Refusal) (e : Refusal) → Written m is s t → r ≡ Err e → WritesTexts m next t (as_error r) u → WritesTexts {A = ℕ} m all s (as_error (Err e)) u
 written_till m is all next s t u r e w bad wrote = writes_none m all all s u (Err e) e refl (written_refused m is all s t u wrote.bytes r e w bad wrote.appended)
 
-pub written_front : {B : Type 0} (m : Mark) (is : List Item) (s t : State) (y : B) → Written m is s t → WritesNumbers m is s (Ok y) t
+pub written_front : {B : Type 0} (m : Mark) (is : List Item) (s t : State) (y : B) → Written m is s t → WritesTexts m is s (Ok y) t
 written_front m is s t y w = record { bytes = w.bytes; texts = w.front; appended = same_done s t w.bytes 0 y w.appended }
 
-pub refused_some : {A : Type 0} (m : Mark) (is all : List Item) (s t u : State) (b : List ℕ) (r : Result A Refusal) (e : Refusal) → Written m is s t → r ≡ Err e → Appended t b (as_error r) u → WritesNumbers {A = ℕ} m all s (as_error (Err e)) u
+pub refused_some : {A : Type 0} (m : Mark) (is all : List Item) (s t u : State) (b : List ℕ) (r : Result A Refusal) (e : Refusal) → Written m is s t → r ≡ Err e → Appended t b (as_error r) u → WritesTexts {A = ℕ} m all s (as_error (Err e)) u
 refused_some m is all s t u b r e w bad a = writes_none m all all s u (Err e) e refl (written_refused m is all s t u b r e w bad a)

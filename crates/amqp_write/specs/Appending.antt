@@ -43,6 +43,12 @@ pub record Appended {A : Type 0} (s : State) (bytes : List ℕ) (r : Result A Er
   pub refused : IfErr r (λ e. (e ≡ OutOfMemory) ⊎ ((IsFault t.last_fault e × (s.faults < t.faults)) ⊎ (fits s [] (length bytes) ≡ false)))
   pub spares : Spares s r t
 
+-- a text was appended
+pub record AppendsText {A : Type 0} (s : State) (text : Option (List ℕ)) (r : Result A Error) (t : State) : Type 0 where
+  pub bytes : List ℕ
+  pub is : text ≡ Some bytes
+  pub appended : Appended s bytes r t
+
 -- there is no text, or not of these sizes; where none are planned it is refused by this name
 pub record NotWritten (s : State) (text : Option (List ℕ)) (l : List Size) (why e : Error) : Type 0 where
   pub none : (text >>= λ b. when (fits s l (length b)) b) ≡ None

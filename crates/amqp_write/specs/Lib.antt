@@ -4,5 +4,5 @@ pub mod Law
 pub mod Appending
 pub mod Wholes
 pub mod Passes
-pub mod NumberTexts
+pub mod ManyTexts
 pub mod Describing

@@ -3,7 +3,7 @@
 ghost use Rattle.std.specs.Prelude.{◌*◌, ◌≤◌, length, map};
 ghost use Rattle.amqp_write.specs.State.{stand};
 ghost use Rattle.amqp_write.specs.Appending.{as_error};
-ghost use Rattle.amqp_write.specs.NumberTexts.{HaveTextsOf, PutsAll, WritesNumbers};
+ghost use Rattle.amqp_write.specs.ManyTexts.{HaveTextsOf, PutsAll, WritesTexts};
 
 use crate::numbers::Texts;
 use crate::place::Place;
@@ -79,7 +79,7 @@ impl Place {
         writer: &mut W,
         values: &[T],
     ) -> Result<(), Refusal>
-        ensures law { WritesNumbers P.mark (map (λ v. T.meaning.item v Setting.Plain) values.now)
+        ensures law { WritesTexts P.mark (map (λ v. T.meaning.item v Setting.Plain) values.now)
             (stand W.Write W.FaultCount writer.old self.old) (as_error result)
             (stand W.Write W.FaultCount writer.new self.new) }
     {
@@ -101,7 +101,7 @@ impl Place {
         writer: &mut W,
         values: &[T],
     ) -> Result<(), Refusal>
-        ensures law { WritesNumbers P.mark (map (λ v. T.meaning.item v Setting.Plain) values.now)
+        ensures law { WritesTexts P.mark (map (λ v. T.meaning.item v Setting.Plain) values.now)
             (stand W.Write W.FaultCount writer.old self.old) (as_error result)
             (stand W.Write W.FaultCount writer.new self.new) }
     {

@@ -3,7 +3,7 @@
 ghost use Rattle.std.specs.Prelude.{◌≤◌, IfOk, length, map, take};
 ghost use Rattle.amqp_write.specs.State.{Mark, stand, unmarked};
 ghost use Rattle.amqp_write.specs.Appending.{as_error};
-ghost use Rattle.amqp_write.specs.NumberTexts.{WritesNumbers, how_many};
+ghost use Rattle.amqp_write.specs.ManyTexts.{WritesTexts, how_many};
 
 use crate::numbers::Texts;
 use crate::place::Place;
@@ -19,7 +19,7 @@ pub trait Many<T: Typed> {
     /// text. Where they are only counted, no text of theirs is made.
     fn append<W: Sink>(place: &mut Place, writer: &mut W, values: &[T]) -> Result<usize, Refusal>
         ensures few { IfOk result (λ n. n ≤ length values.now) }
-        ensures law { WritesNumbers mark
+        ensures law { WritesTexts mark
             (map (λ v. T.meaning.item v Setting.Plain) (take (how_many result) values.now))
             (stand W.Write W.FaultCount writer.old place.old) (as_error result)
             (stand W.Write W.FaultCount writer.new place.new) };

@@ -6,7 +6,7 @@ ghost use Rattle.amqp_base.specs.Item.{scalar, uint, ulong, int};
 ghost use Rattle.amqp_base.specs.Wire.{under};
 ghost use Rattle.amqp_base.specs.declared.format_code.EncodingCodes.TheVariants.{Uint, Ulong, Int};
 ghost use Rattle.amqp_write.specs.State.{Mark, unmarked, other};
-ghost use Rattle.amqp_write.specs.NumberTexts.{HasTextOf, IsFront, Puts};
+ghost use Rattle.amqp_write.specs.ManyTexts.{HasTextOf, IsFront, Puts};
 
 use amqp_base::{Setting, Typed, codes};
 

@@ -1,12 +1,14 @@
 //! Texts and bytes where they stand.
 
-ghost use Rattle.std.specs.Prelude.{◌≡◌, false, length};
+ghost use Rattle.std.specs.Prelude.{◌≡◌, ◌≤◌, false, length};
+ghost use Rattle.amqp_base.specs.Canon.{limit};
 ghost use Rattle.amqp_base.specs.Item.{scalar, binary, symbol};
 ghost use Rattle.amqp_base.specs.Typing.{text_item};
-ghost use Rattle.amqp_write.specs.State.{stand, mark_of};
+ghost use Rattle.amqp_write.specs.State.{stand, mark_of, unmarked};
 ghost use Rattle.amqp_write.specs.Law.{unwritten};
 ghost use Rattle.amqp_write.specs.Texts.{text_codes};
-ghost use Rattle.amqp_write.specs.Appending.{PaysItem, PaysUnder, payload_at, as_error};
+ghost use Rattle.amqp_write.specs.Appending.{AppendsText, PaysItem, PaysUnder, payload_at};
+ghost use Rattle.amqp_write.specs.Appending.{as_error};
 
 use crate::place::{LONGEST, Mark, NARROW, Place};
 use crate::refusal::Refusal;
@@ -46,17 +48,35 @@ impl Place {
             self.ended = true;
             return Err(Refusal::Io(ErrorKind::Other));
         }
-        let size = (len as u32).to_be_bytes();
         let mark = self.mark;
         match mark {
-            Mark::Unmarked if len <= NARROW => self.append_two(writer, &[narrow, len as u8], bytes),
-            Mark::Unmarked => self.append_two(
-                writer,
-                &[code.byte(), size[0], size[1], size[2], size[3]],
-                bytes,
-            ),
-            _ => self.element(writer, code, &size, bytes),
+            Mark::Unmarked => self.payload_outside(writer, narrow, code, bytes),
+            _ => self.element(writer, code, &(len as u32).to_be_bytes(), bytes),
         }
+    }
+
+    /// Bytes outside arrays: up to 254 of them behind `narrow` and one byte of length, else behind
+    /// `code` and four.
+    #[inline(always)]
+    pub(crate) fn payload_outside<W: Sink>(
+        &mut self,
+        writer: &mut W,
+        narrow: u8,
+        code: EncodingCodes,
+        bytes: &[u8],
+    ) -> Result<(), Refusal>
+        requires short { length bytes.now ≤ limit }
+        ensures law { AppendsText (stand W.Write W.FaultCount writer.old self.old)
+            (payload_at unmarked narrow code bytes.now) (as_error result)
+            (stand W.Write W.FaultCount writer.new self.new) }
+    {
+        let len = bytes.len();
+        if len <= NARROW {
+            return self.append_two(writer, &[narrow, len as u8], bytes);
+        }
+        let size = (len as u32).to_be_bytes();
+        let head = [code.byte(), size[0], size[1], size[2], size[3]];
+        self.append_two(writer, &head, bytes)
     }
 
     /// A text: a symbol under the symbol setting (section 1.6.21), else a string (section 1.6.20).

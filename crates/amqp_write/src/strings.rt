@@ -6,12 +6,12 @@ ghost use Rattle.amqp_base.specs.Canon.{limit};
 ghost use Rattle.amqp_base.specs.Item.{scalar, string};
 ghost use Rattle.amqp_write.specs.State.{stand, unmarked};
 ghost use Rattle.amqp_write.specs.Appending.{as_error};
-ghost use Rattle.amqp_write.specs.NumberTexts.{HaveTextsOf, PutsAll, PutsText, WritesNumbers};
-ghost use Rattle.amqp_write.specs.NumberTexts.{how_many};
+ghost use Rattle.amqp_write.specs.ManyTexts.{HaveTextsOf, PutsAll, PutsText, WritesTexts};
+ghost use Rattle.amqp_write.specs.ManyTexts.{how_many};
 
 use crate::place::{LONGEST, NARROW, Place};
 use crate::refusal::Refusal;
-use amqp_base::{Pass, Sink, codes};
+use amqp_base::{EncodingCodes, Pass, Sink, codes};
 
 /// Room for the texts of some short strings.
 const ROOM: usize = 512;
@@ -93,7 +93,7 @@ impl Place {
         values: &[String],
     ) -> Result<usize, Refusal>
         ensures few { IfOk result (λ n. n ≤ length values.now) }
-        ensures law { WritesNumbers unmarked
+        ensures law { WritesTexts unmarked
             (map (λ t. scalar (string (string_bytes t))) (take (how_many result) values.now))
             (stand W.Write W.FaultCount writer.old self.old) (as_error result)
             (stand W.Write W.FaultCount writer.new self.new) }
@@ -117,7 +117,7 @@ impl Place {
         values: &[String],
     ) -> Result<usize, Refusal>
         ensures few { IfOk result (λ n. n ≤ length values.now) }
-        ensures law { WritesNumbers unmarked
+        ensures law { WritesTexts unmarked
             (map (λ t. scalar (string (string_bytes t))) (take (how_many result) values.now))
             (stand W.Write W.FaultCount writer.old self.old) (as_error result)
             (stand W.Write W.FaultCount writer.new self.new) }
@@ -148,17 +148,10 @@ impl Place {
     /// Appends a string's text.
     fn append_string<W: Sink>(&mut self, writer: &mut W, value: &str) -> Result<(), Refusal>
         requires short { length value.now ≤ limit }
-        ensures law { WritesNumbers unmarked (scalar (string value.now) ∷ [])
+        ensures law { WritesTexts unmarked (scalar (string value.now) ∷ [])
             (stand W.Write W.FaultCount writer.old self.old) (as_error result)
             (stand W.Write W.FaultCount writer.new self.new) }
     {
-        let bytes = value.as_bytes();
-        let len = bytes.len();
-        if len <= NARROW {
-            return self.append_two(writer, &[codes::STR8, len as u8], bytes);
-        }
-        let size = (len as u32).to_be_bytes();
-        let head = [codes::STR32, size[0], size[1], size[2], size[3]];
-        self.append_two(writer, &head, bytes)
+        self.payload_outside(writer, codes::STR8, EncodingCodes::Str32, value.as_bytes())
     }
 }

@@ -1,6 +1,6 @@
 use Rattle.std.proofs.Common.{◌++◌, [], length-append, refl, arith}
 use Rattle.amqp_base.specs.declared.shape.Setting.TheVariants.{Plain}
-use Rattle.amqp_write.proofs.NumberTexts.{texts_none, texts_next}
+use Rattle.amqp_write.proofs.ManyTexts.{texts_none, texts_next}
 use Rattle.amqp_write.proofs.blocks.few_lengths.Goals as goal
 
 pub loop-value-init : goal.loop-value-init

@@ -1,6 +1,6 @@
 use Rattle.std.proofs.Common.{◌≡◌, ◌*◌, ◌≤◌, ℕ, List, length, map, take}
 use Rattle.amqp_base.specs.declared.shape.Setting.TheVariants.{Plain}
-use Rattle.amqp_write.specs.NumberTexts.{AreTexts}
+use Rattle.amqp_write.specs.ManyTexts.{AreTexts}
 use Rattle.amqp_write.proofs.blocks.few_lengths.Given as goal
 
 abbrev pub invariant-loop-value : goal.invariant-loop-value

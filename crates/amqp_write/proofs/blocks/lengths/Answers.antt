@@ -1,6 +1,6 @@
 use Rattle.std.proofs.Common.{◌++◌, [], refl, arith}
 use Rattle.amqp_base.specs.declared.shape.Setting.TheVariants.{Plain}
-use Rattle.amqp_write.proofs.NumberTexts.{texts_none, lengths_more, further}
+use Rattle.amqp_write.proofs.ManyTexts.{texts_none, lengths_more, further}
 use Rattle.amqp_write.proofs.blocks.lengths.Goals as goal
 
 pub loop-rest-init : goal.loop-rest-init

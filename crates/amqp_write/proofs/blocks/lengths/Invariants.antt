@@ -1,6 +1,6 @@
 use Rattle.std.proofs.Common.{◌≡◌, ◌++◌, List, length, map}
 use Rattle.amqp_base.specs.declared.shape.Setting.TheVariants.{Plain}
-use Rattle.amqp_write.specs.NumberTexts.{HaveTextsOf}
+use Rattle.amqp_write.specs.ManyTexts.{HaveTextsOf}
 use Rattle.amqp_write.proofs.blocks.lengths.Given as goal
 
 abbrev pub invariant-loop-rest : goal.invariant-loop-rest

@@ -1,7 +1,7 @@
 use Rattle.std.proofs.Common.{◌+◌, map, take, refl, sym, ◌∙◌, subst, arith}
 use Rattle.amqp_base.specs.declared.shape.Setting.TheVariants.{Plain}
-use Rattle.amqp_write.specs.NumberTexts.{AreTexts}
-use Rattle.amqp_write.proofs.NumberTexts.{texts_none, texts_next}
+use Rattle.amqp_write.specs.ManyTexts.{AreTexts}
+use Rattle.amqp_write.proofs.ManyTexts.{texts_none, texts_next}
 use Rattle.amqp_write.proofs.blocks.put_all.Goals as goal
 
 pub loop-value-init : goal.loop-value-init

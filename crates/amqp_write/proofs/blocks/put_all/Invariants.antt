@@ -1,6 +1,6 @@
 use Rattle.std.proofs.Common.{◌≡◌, ◌*◌, ◌≤◌, length, map, take}
 use Rattle.amqp_base.specs.declared.shape.Setting.TheVariants.{Plain}
-use Rattle.amqp_write.specs.NumberTexts.{AreTexts}
+use Rattle.amqp_write.specs.ManyTexts.{AreTexts}
 use Rattle.amqp_write.proofs.blocks.put_all.Given as goal
 
 abbrev pub invariant-loop-value : goal.invariant-loop-value

@@ -2,7 +2,7 @@ use Rattle.std.proofs.Common.{arith}
 use Rattle.std.proofs.lemmas.Int.{ints, to_z-of_z}
 use Rattle.std.specs.Int.{w8, w32}
 use mir.Val.{SFits}
-use Rattle.amqp_write.proofs.NumberTexts.{small_int, wide_int}
+use Rattle.amqp_write.proofs.ManyTexts.{small_int, wide_int}
 use Rattle.amqp_write.proofs.numbers.int_text.Goals.{else-v-geminus128-via-then-v-geminus128+else-v-le127, else-v-geminus128-via-else-v-geminus128}
 use Rattle.amqp_write.proofs.numbers.int_text.Goals as goal
 

@@ -1,5 +1,5 @@
 use Rattle.std.proofs.Common.{arith}
-use Rattle.amqp_write.proofs.NumberTexts.{small_ulong, wide_ulong}
+use Rattle.amqp_write.proofs.ManyTexts.{small_ulong, wide_ulong}
 use Rattle.amqp_write.proofs.numbers.some_ulong_text.Goals as goal
 
 pub returns-then-v-lt256 : goal.returns-then-v-lt256

@@ -1,5 +1,5 @@
 use Rattle.std.proofs.Common.{arith}
-use Rattle.amqp_write.proofs.NumberTexts.{zero_uint}
+use Rattle.amqp_write.proofs.ManyTexts.{zero_uint}
 use Rattle.amqp_write.proofs.numbers.uint_text.Goals.{then-v-eq0, else-v-eq0}
 use Rattle.amqp_write.proofs.numbers.uint_text.Goals as goal
 

@@ -1,5 +1,5 @@
 use Rattle.std.proofs.Common.{arith}
-use Rattle.amqp_write.proofs.NumberTexts.{zero_ulong}
+use Rattle.amqp_write.proofs.ManyTexts.{zero_ulong}
 use Rattle.amqp_write.proofs.numbers.ulong_text.Goals.{then-v-eq0, else-v-eq0}
 use Rattle.amqp_write.proofs.numbers.ulong_text.Goals as goal
 

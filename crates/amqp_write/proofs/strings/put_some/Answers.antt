@@ -2,8 +2,8 @@ use Rattle.std.proofs.Common.{refl, sym, ◌∙◌, subst, map, take, ◌+◌, a
 use Rattle.std.specs.Prelude.{string_bytes}
 use Rattle.amqp_base.specs.Item.{scalar, string}
 use Rattle.amqp_write.specs.State.{unmarked}
-use Rattle.amqp_write.specs.NumberTexts.{AreTexts}
-use Rattle.amqp_write.proofs.NumberTexts.{texts_none, texts_more}
+use Rattle.amqp_write.specs.ManyTexts.{AreTexts}
+use Rattle.amqp_write.proofs.ManyTexts.{texts_none, texts_more}
 use Rattle.amqp_write.proofs.strings.put_some.Goals as goal
 
 pub loop-value-init : goal.loop-value-init

@@ -2,7 +2,7 @@ use Rattle.std.proofs.Common.{[], refl, arith}
 use Rattle.std.specs.Prelude.{string_bytes}
 use Rattle.amqp_base.specs.Item.{scalar, string}
 use Rattle.amqp_write.specs.State.{unmarked}
-use Rattle.amqp_write.proofs.NumberTexts.{texts_none}
+use Rattle.amqp_write.proofs.ManyTexts.{texts_none}
 use Rattle.amqp_write.proofs.StringTexts.{lengths_next}
 use Rattle.amqp_write.proofs.strings.text_lengths.Goals as goal
 

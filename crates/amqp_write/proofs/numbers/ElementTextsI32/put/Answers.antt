@@ -2,7 +2,7 @@ use Rattle.std.proofs.Common.{arith, ◌+◌, ◌-◌}
 use Rattle.std.proofs.lemmas.Int.{to_z-of_z}
 use Rattle.std.specs.Int.{w32}
 use mir.Val.{SFits}
-use Rattle.amqp_write.proofs.NumberTexts.{puts_data, int_element}
+use Rattle.amqp_write.proofs.ManyTexts.{puts_data, int_element}
 use Rattle.amqp_write.proofs.numbers.ElementTextsI32.put.Goals as goal
 
 pub returns : goal.returns

@@ -1,7 +1,7 @@
 use Rattle.std.proofs.Common.{refl}
 use Rattle.std.specs.Int.{w32, bytes_high_first, cast_unsigned}
 use mir.Val.{SFits}
-use Rattle.amqp_write.proofs.NumberTexts.{int_element}
+use Rattle.amqp_write.proofs.ManyTexts.{int_element}
 use Rattle.amqp_write.proofs.numbers.ElementTextsI32.text_len.Goals as goal
 
 pub returns : goal.returns

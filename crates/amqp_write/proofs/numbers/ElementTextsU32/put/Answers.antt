@@ -1,5 +1,5 @@
 use Rattle.std.proofs.Common.{arith, ◌+◌, ◌-◌}
-use Rattle.amqp_write.proofs.NumberTexts.{puts_data, uint_element}
+use Rattle.amqp_write.proofs.ManyTexts.{puts_data, uint_element}
 use Rattle.amqp_write.proofs.numbers.ElementTextsU32.put.Goals as goal
 
 pub returns : goal.returns

@@ -1,6 +1,6 @@
 use Rattle.std.proofs.Common.{refl, arith}
 use Rattle.std.specs.Int.{bytes_high_first}
-use Rattle.amqp_write.proofs.NumberTexts.{uint_element}
+use Rattle.amqp_write.proofs.ManyTexts.{uint_element}
 use Rattle.amqp_write.proofs.numbers.ElementTextsU32.text_len.Goals as goal
 
 pub returns : goal.returns

@@ -1,5 +1,5 @@
 use Rattle.std.proofs.Common.{arith, ◌+◌, ◌-◌}
-use Rattle.amqp_write.proofs.NumberTexts.{puts_data, ulong_element}
+use Rattle.amqp_write.proofs.ManyTexts.{puts_data, ulong_element}
 use Rattle.amqp_write.proofs.numbers.ElementTextsU64.put.Goals as goal
 
 pub returns : goal.returns

@@ -1,6 +1,6 @@
 use Rattle.std.proofs.Common.{refl, arith}
 use Rattle.std.specs.Int.{bytes_high_first}
-use Rattle.amqp_write.proofs.NumberTexts.{ulong_element}
+use Rattle.amqp_write.proofs.ManyTexts.{ulong_element}
 use Rattle.amqp_write.proofs.numbers.ElementTextsU64.text_len.Goals as goal
 
 pub returns : goal.returns

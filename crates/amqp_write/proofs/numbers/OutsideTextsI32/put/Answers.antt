@@ -2,7 +2,7 @@ use Rattle.std.proofs.Common.{arith}
 use Rattle.std.proofs.lemmas.Int.{to_z-of_z}
 use Rattle.std.specs.Int.{w32, bytes_high_first}
 use mir.Val.{SFits}
-use Rattle.amqp_write.proofs.NumberTexts.{puts_front}
+use Rattle.amqp_write.proofs.ManyTexts.{puts_front}
 use Rattle.amqp_write.proofs.numbers.OutsideTextsI32.put.Goals as goal
 
 pub returns : goal.returns

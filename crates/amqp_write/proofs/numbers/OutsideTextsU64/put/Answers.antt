@@ -1,6 +1,6 @@
 use Rattle.std.proofs.Common.{arith}
 use Rattle.std.specs.Int.{bytes_high_first}
-use Rattle.amqp_write.proofs.NumberTexts.{puts_front}
+use Rattle.amqp_write.proofs.ManyTexts.{puts_front}
 use Rattle.amqp_write.proofs.numbers.OutsideTextsU64.put.Goals as goal
 
 pub returns : goal.returns

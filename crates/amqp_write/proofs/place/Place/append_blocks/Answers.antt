@@ -3,7 +3,7 @@ use Rattle.std.proofs.Common.{◌++◌, [], map, refl, arith}
 use Rattle.amqp_base.specs.declared.shape.Setting.TheVariants.{Plain}
 use Rattle.amqp_write.specs.State.{stand}
 use Rattle.amqp_write.proofs.Bytes.{measure_start, empty_list}
-use Rattle.amqp_write.proofs.NumberTexts.{written_none, written_more, written_refused, written_all, further}
+use Rattle.amqp_write.proofs.ManyTexts.{written_none, written_more, written_refused, written_all, further}
 use Rattle.amqp_write.proofs.place.Place.append_blocks.Goals as goal
 
 pub loop-rest-init : goal.loop-rest-init

@@ -1,7 +1,7 @@
 use Rattle.std.proofs.Common.{◌≡◌, ◌++◌, List, length, map}
 use Rattle.amqp_base.specs.declared.shape.Setting.TheVariants.{Plain}
 use Rattle.amqp_write.specs.State.{stand}
-use Rattle.amqp_write.proofs.NumberTexts.{Written}
+use Rattle.amqp_write.proofs.ManyTexts.{Written}
 use Rattle.amqp_write.proofs.place.Place.append_blocks.Given as goal
 
 abbrev pub invariant-loop-rest : goal.invariant-loop-rest

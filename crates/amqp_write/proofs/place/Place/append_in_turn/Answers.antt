@@ -4,7 +4,7 @@ use Rattle.std.specs.Prelude.{string_bytes}
 use Rattle.amqp_base.specs.Item.{scalar, string}
 use Rattle.amqp_write.specs.State.{stand, unmarked}
 use Rattle.amqp_write.proofs.Bytes.{measure_start}
-use Rattle.amqp_write.proofs.NumberTexts.{written_none}
+use Rattle.amqp_write.proofs.ManyTexts.{written_none}
 use Rattle.amqp_write.proofs.StringTexts.{written_next, written_some, written_till, refused_some}
 use Rattle.amqp_write.proofs.place.Place.append_in_turn.Goals as goal
 

@@ -2,7 +2,7 @@ use Rattle.std.proofs.Common.{◌≤◌, ◌-◌, length, map, take}
 use Rattle.std.specs.Prelude.{string_bytes}
 use Rattle.amqp_base.specs.Item.{scalar, string}
 use Rattle.amqp_write.specs.State.{stand, unmarked}
-use Rattle.amqp_write.proofs.NumberTexts.{Written}
+use Rattle.amqp_write.proofs.ManyTexts.{Written}
 use Rattle.amqp_write.proofs.place.Place.append_in_turn.Given as goal
 
 abbrev pub invariant-loop-done : goal.invariant-loop-done

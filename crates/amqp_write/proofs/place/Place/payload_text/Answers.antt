@@ -2,7 +2,7 @@ use Rattle.amqp_base.specs.Faults.{refusal_of}
 use Rattle.amqp_write.specs.State.{stand, mark_of, mark_in}
 use Rattle.std.proofs.Common.{refl, ap}
 use Rattle.amqp_write.proofs.Steps.{pays_appended}
-use Rattle.amqp_write.proofs.TextOf.{pays_text, long_pays, short_pays, payload_none, payload_narrow, payload_wide, payload_placed, not_unmarked}
+use Rattle.amqp_write.proofs.TextOf.{pays_text, long_pays, short_pays, payload_none, payload_placed, not_unmarked}
 use Rattle.amqp_write.proofs.place.Place.payload_text.Goals as goal
 
 pub returns-then-len-gt-LONGEST : goal.returns-then-len-gt-LONGEST
@@ -11,12 +11,8 @@ returns-then-len-gt-LONGEST g c = record { law = long_pays _ _ _ _ _ _ refl (pay
 
 pub returns-in-Unmarked : goal.returns-in-Unmarked
 unfolding stand
-returns-in-Unmarked g c = let m = ap (mark_in c.args.self.now.descriptor) c.in-Unmarked.is in record { law = pays_appended _ _ _ _ _ _ _ _ (rw m refl) (rw m (payload_narrow c.args.narrow c.args.code c.args.bytes.now c.if-len-le-NARROW.true)) c.requires c.append_two.ensures }
-
-pub returns-in-Unmarked-2 : goal.returns-in-Unmarked-2
-unfolding stand
-returns-in-Unmarked-2 g c = let m = ap (mark_in c.args.self.now.descriptor) c.in-Unmarked.is in record { law = pays_appended _ _ _ _ _ _ _ _ (rw m refl) (rw (m, c.byte.ensures) (payload_wide c.args.narrow c.args.code c.args.bytes.now c.if-len-le-NARROW.false c.if-len-gt-LONGEST.false)) c.requires (rw c.to_be_bytes-size.ensures at c.append_two-in-Unmarked-2.ensures) }
+returns-in-Unmarked g c = let m = ap (mark_in c.args.self.now.descriptor) c.in-Unmarked.is in let w = c.payload_outside.ensures.law in record { law = pays_appended _ _ _ _ _ _ _ _ (rw m refl) (rw m w.is) c.requires w.appended }
 
 pub returns-in_default : goal.returns-in_default
 unfolding stand
-returns-in_default g c = record { law = short_pays _ _ _ _ _ _ c.if-len-gt-LONGEST.false (pays_text _ _ _ _ _ _ _ _ _ (payload_placed (mark_of c.args.self.now) c.args.narrow c.args.code c.args.bytes.now (not_unmarked _ _ c.in_default.not-Unmarked) c.if-len-gt-LONGEST.false) refl (rw c.to_be_bytes-size.ensures at c.element.ensures.law)) }
+returns-in_default g c = record { law = short_pays _ _ _ _ _ _ c.if-len-gt-LONGEST.false (pays_text _ _ _ _ _ _ _ _ _ (payload_placed (mark_of c.args.self.now) c.args.narrow c.args.code c.args.bytes.now (not_unmarked _ _ c.in_default.not-Unmarked) c.if-len-gt-LONGEST.false) refl (rw c.to_be_bytes.ensures at c.element.ensures.law)) }

@@ -20,7 +20,7 @@ unfoldable pub texts_at : Mark → List Item → Option (List ℕ)
 texts_at m [] = Some []
 texts_at m (i ∷ is) = marked m i >>= λ a. texts_at m is >>= λ b. Some (a ++ b)
 
--- the texts of numbers, one after the other
+-- the texts of items without parts, one after the other
 pub record AreTexts (m : Mark) (is : List Item) (b : List ℕ) : Type 0 where
   pub text : texts_at m is ≡ Some b
   pub flat : sizes_in (items_of is) ≡ []
@@ -29,7 +29,7 @@ pub record AreTexts (m : Mark) (is : List Item) (b : List ℕ) : Type 0 where
 abbrev pub HasTextOf : Mark → Item → ℕ → Type 0
 HasTextOf m i n = (b : List ℕ) × IsText m i b × (n ≡ length b)
 
--- the numbers have texts of so many bytes, as far as a usize counts
+-- they have texts of so many bytes, as far as a usize counts
 abbrev pub HaveTextsOf : Mark → List Item → ℕ → Type 0
 HaveTextsOf m is n = (b : List ℕ) × AreTexts m is b × (n ≡ min (length b) 18446744073709551615)
 
@@ -59,14 +59,14 @@ pub record PutsText (m : Mark) (i : Item) (at : ℕ) (old : List ℕ) (end : ℕ
   pub within : end ≤ length new
   pub front : take end new ≡ take at old ++ bytes
 
--- the texts of the numbers stand at the front of a block, up to end
+-- the texts stand at the front of a block, up to end
 pub record PutsAll (m : Mark) (is : List Item) (old : List ℕ) (end : ℕ) (new : List ℕ) : Type 0 where
   pub texts : AreTexts m is (take end new)
   pub long : length new ≡ length old
   pub within : end ≤ length new
 
--- the texts of the numbers were appended; a refusal may leave a front of them
-pub record WritesNumbers {A : Type 0} (m : Mark) (is : List Item) (s : State) (r : Result A Error) (t : State) : Type 0 where
+-- the texts were appended; a refusal may leave a front of them
+pub record WritesTexts {A : Type 0} (m : Mark) (is : List Item) (s : State) (r : Result A Error) (t : State) : Type 0 where
   pub bytes : List ℕ
   pub texts : OnOk r (AreTexts m is bytes)
   pub appended : Appended s bytes r t

@@ -22,7 +22,7 @@ use Rattle.amqp_write.specs.Law.{measure_after}
 use Rattle.amqp_write.specs.Appending.{Appended, as_error, error_of}
 use Rattle.amqp_base.specs.declared.error.Error.{Error}
 use Rattle.amqp_write.specs.declared.refusal.Refusal.{Refusal}
-use Rattle.amqp_write.specs.NumberTexts.{IsText, texts_at, AreTexts, HaveTextsOf, IsFront, Puts, WritesNumbers}
+use Rattle.amqp_write.specs.ManyTexts.{IsText, texts_at, AreTexts, HaveTextsOf, IsFront, Puts, WritesTexts}
 use Rattle.amqp_write.proofs.Bytes.{going_none, appended_all}
 use Rattle.amqp_write.proofs.Steps.{appended_two}
 use Rattle.amqp_write.proofs.PartTexts.{bind_some}
@@ -191,14 +191,14 @@ written_more m f front now s t u b r x w next is h = record {
   appended = appended_two s t u w.bytes b 0 (Ok 0) w.appended (same_done t u b x 0 (rw is at h));
 }
 
-pub written_refused : {A : Type 0} (m : Mark) (is all : List Item) (s t u : State) (b : List ℕ) (r : Result A Refusal) (e : Refusal) → Written m is s t → r ≡ Err e → Appended t b (as_error r) u → WritesNumbers {A = A} m all s (as_error (Err e)) u
+pub written_refused : {A : Type 0} (m : Mark) (is all : List Item) (s t u : State) (b : List ℕ) (r : Result A Refusal) (e : Refusal) → Written m is s t → r ≡ Err e → Appended t b (as_error r) u → WritesTexts {A = A} m all s (as_error (Err e)) u
 written_refused m is all s t u b r e w bad h = record {
   bytes = w.bytes ++ b;
   texts = tt;
   appended = same_bad s u (w.bytes ++ b) (error_of e) (appended_two s t u w.bytes b 0 (Err (error_of e)) w.appended (same_bad t u b (error_of e) (rw bad at h)));
 }
 
-pub written_all : {X B : Type 0} (m : Mark) (f : X → Item) (vs front rest : List X) (s t : State) (y : B) → vs ≡ front ++ rest → rest ≡ [] → Written m (map f front) s t → WritesNumbers m (map f vs) s (Ok y) t
+pub written_all : {X B : Type 0} (m : Mark) (f : X → Item) (vs front rest : List X) (s t : State) (y : B) → vs ≡ front ++ rest → rest ≡ [] → Written m (map f front) s t → WritesTexts m (map f vs) s (Ok y) t
 written_all m f vs front rest s t y split none w = record {
   bytes = w.bytes;
   texts = subst (λ xs. AreTexts m (map f xs) w.bytes) (at_end vs front rest split none) w.front;
