@@ -9,11 +9,11 @@ use Rattle.amqp_base.specs.declared.shape.Shape.{Shape}
 use Rattle.amqp_ser.specs.State.{State, Mark, unmarked, first}
 use Rattle.amqp_ser.specs.Law.{marked, Goes, Refused, Kept}
 use Rattle.amqp_ser.specs.Compound.{Open, Back, Begun, Run, Holds, outer_of, parts_text, next_mark}
-use Rattle.amqp_write.specs.NumberTexts.{texts_at, AreTexts, WritesNumbers, Stand}
+use Rattle.amqp_write.specs.ManyTexts.{texts_at, AreTexts, WritesTexts, Stand}
 use Rattle.amqp_write.proofs.Counting.{goes_more}
 use Rattle.amqp_write.proofs.Steps.{fits_nil, kept_two}
 use Rattle.amqp_write.proofs.PartTexts.{true_false, bind_some, parts_more}
-use Rattle.amqp_write.proofs.NumberTexts.{some_is}
+use Rattle.amqp_write.proofs.ManyTexts.{some_is}
 use Rattle.amqp_ser.proofs.Compounds.{Lives, begun_moved, kept_from, kept_open}
 
 unmarked_not : unmarked ≡ first → ⊥
@@ -82,14 +82,14 @@ run_many shape xs is m u v w b stand r texts goes mark ended =
 kept_by : (o v w t : State) → v ≡ record o { ended = false } → Kept v w → t ≡ record w { ended = true } → Kept o t
 kept_by o v w t at_v k at_t = kept_from o v w t at_v k (ap (λ (y : State). y.contents) at_t) (ap (λ (y : State). y.faults) at_t) (ap (λ (y : State). y.grows) at_t)
 
-pub kept_numbers : {A : Type 0} (m : Mark) (is : List Item) (o w t : State) (r : Result A Error) → WritesNumbers m is (record o { ended = false }) r w → t ≡ record w { ended = true } → Kept o t
+pub kept_numbers : {A : Type 0} (m : Mark) (is : List Item) (o w t : State) (r : Result A Error) → WritesTexts m is (record o { ended = false }) r w → t ≡ record w { ended = true } → Kept o t
 kept_numbers m is o w t r h at_t = kept_by o (record o { ended = false }) w t refl h.appended.kept at_t
 
-pub kept_refused : {A : Type 0} (m : Mark) (is : List Item) (o t : State) (r : Result A Error) → WritesNumbers m is (record o { ended = false }) r t → Kept o t
+pub kept_refused : {A : Type 0} (m : Mark) (is : List Item) (o t : State) (r : Result A Error) → WritesTexts m is (record o { ended = false }) r t → Kept o t
 kept_refused m is o t r h = kept_from o (record o { ended = false }) t t refl h.appended.kept refl refl refl
 
 -- numbers behind the parts of a compound, on the serializer itself
-pub numbers_more : {A : Type 0} (s : State) (shape : Shape) (xs is : List Item) (m : Mark) (q p : Open) (b : Back) (o w t : State) (x : A) → Lives q.opened → Stand m q.shape o.mark → q.inner ≡ record o { ended = false } → q.outer ≡ outer_of q.opened o b → WritesNumbers m is (record o { ended = false }) (Ok x) w → t ≡ record w { ended = true } → p.inner ≡ record t { ended = false } → p.opened ≡ q.opened → p.outer ≡ outer_of q.opened t b → p.pairs ≡ q.pairs → p.shape ≡ q.shape → p.count ≡ q.count + length is → Holds s shape xs q → Holds s shape (xs ++ is) p
+pub numbers_more : {A : Type 0} (s : State) (shape : Shape) (xs is : List Item) (m : Mark) (q p : Open) (b : Back) (o w t : State) (x : A) → Lives q.opened → Stand m q.shape o.mark → q.inner ≡ record o { ended = false } → q.outer ≡ outer_of q.opened o b → WritesTexts m is (record o { ended = false }) (Ok x) w → t ≡ record w { ended = true } → p.inner ≡ record t { ended = false } → p.opened ≡ q.opened → p.outer ≡ outer_of q.opened t b → p.pairs ≡ q.pairs → p.shape ≡ q.shape → p.count ≡ q.count + length is → Holds s shape xs q → Holds s shape (xs ++ is) p
 numbers_more s shape xs is m q p b o w t x live stand inner outer wrote at_t after opened back_at pairs same count h =
     let v : State = record o { ended = false } in
     let a = wrote.appended.ok in
@@ -111,7 +111,7 @@ numbers_more s shape xs is m q p b o w t x live stand inner outer wrote at_t aft
     }
 
 -- numbers that are refused refuse the whole
-pub numbers_refused : {A : Type 0} (s : State) (shape : Shape) (xs is all : List Item) (m : Mark) (e : Error) (q : Open) (b : Back) (o t : State) → q.outer ≡ outer_of q.opened o b → WritesNumbers {A = A} m is (record o { ended = false }) (Err e) t → Holds s shape xs q → Refused s (whole shape all) e t
+pub numbers_refused : {A : Type 0} (s : State) (shape : Shape) (xs is all : List Item) (m : Mark) (e : Error) (q : Open) (b : Back) (o t : State) → q.outer ≡ outer_of q.opened o b → WritesTexts {A = A} m is (record o { ended = false }) (Err e) t → Holds s shape xs q → Refused s (whole shape all) e t
 numbers_refused s shape xs is all m e q b o t outer refused h =
     let v : State = record o { ended = false } in
     let a = refused.appended in

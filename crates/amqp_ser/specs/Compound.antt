@@ -174,6 +174,11 @@ pub record Holds (s : State) (shape : Shape) (xs : List Item) (q : Open) : Type 
 unfoldable pub HoldsFields : State → List FieldItem → Open → Type 0
 HoldsFields s fs q = Holds s (struct_shape s.setting) (fields_parts (struct_shape s.setting) fs) (record q { pairs = is_map (struct_shape s.setting) })
 
+-- what was told is such a refusal
+abbrev pub FailedAs : Option Error → (Error → Type 0) → Type 0
+FailedAs None P = ⊥
+FailedAs (Some e) P = P e
+
 -- the struct of a compound q was written, or refused; then its serializer is in the state t
 pub record EndsStruct {A : Type 0} (q : Open) (r : Result A Error) (t : State) : Type 0 where
   pub ok : OnOk r ((s : State) (fs : List FieldItem) → HoldsFields s fs q → Wrote s (struct_item s.setting fs) t)

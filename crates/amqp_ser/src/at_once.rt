@@ -7,7 +7,7 @@ ghost use Rattle.amqp_write.specs.Appending.{as_error};
 ghost use Rattle.amqp_write.specs.declared.pass.Opened.TheVariants.{Buffered as IsBuffered};
 ghost use Rattle.amqp_ser.specs.Compound.{open_state, WritesEach};
 ghost use Rattle.amqp_ser.specs.AtOnce.{SameParts};
-ghost use Rattle.amqp_write.specs.NumberTexts.{Stand, WritesNumbers, how_many};
+ghost use Rattle.amqp_write.specs.ManyTexts.{Stand, WritesTexts, how_many};
 
 use crate::{SeqSerializer, Serializer};
 use amqp_base::{Error, Setting, Sink, Typed};
@@ -64,7 +64,7 @@ impl<W: Sink> Serializer<W> {
     #[inline(always)]
     fn append_many<P: Many<T>, T: Typed>(&mut self, values: &[T]) -> Result<usize, Refusal>
         ensures few { IfOk result (λ n. n ≤ length values.now) }
-        ensures law { WritesNumbers P.mark
+        ensures law { WritesTexts P.mark
             (map (λ v. T.meaning.item v Setting.Plain) (take (how_many result) values.now))
             (state W.Write W.FaultCount self.old) (as_error result)
             (state W.Write W.FaultCount self.new) }

@@ -6,6 +6,7 @@ ghost use Rattle.amqp_base.specs.Structs.{FieldItem, named, struct_item, is_desc
 ghost use Rattle.amqp_base.specs.Structs.{is_descriptor_name, struct_shape};
 ghost use Rattle.amqp_ser.specs.State.{State, state};
 ghost use Rattle.amqp_ser.specs.Law.{Wrote, Refused};
+ghost use Rattle.amqp_ser.specs.Compound.{FailedAs};
 ghost use Rattle.amqp_ser.specs.Compound.{open_state, HoldsFields, BeginsWith};
 
 use crate::answer::answer;
@@ -13,6 +14,7 @@ use crate::compound::write_part;
 use crate::structs::is_name;
 use crate::{Serialize, Serializer, WholeStruct};
 use amqp_base::{DESCRIPTOR, Error, Setting, Shape, Sink, Typed};
+use amqp_write::no_memory;
 use std::alloc::Global;
 
 /// Fields under their names, in order.
@@ -31,20 +33,22 @@ pub trait StructFields: Drop {
     fn has_descriptor(&self) -> bool
         ensures { result ≡ not (Self.usual self.now) };
 
-    /// Writes their values, in order, to a struct that is a list.
+    /// Writes their values, in order, to a struct that is a list: whether all were written. Where
+    /// one is refused `failed` says why; the one place for it, as each `Result` would be another.
     #[doc(hidden)]
     fn write_values<W: Sink>(
         &self,
         alloc: Global,
         out: &mut WholeStruct<'_, W>,
-    ) -> Result<(), Error>
+        failed: &mut Option<Error>,
+    ) -> bool
         ensures same_reference { out.new.ser.ghost_name ≡ out.old.ser.ghost_name }
-        ensures ok { OnOk result ((s : State) (fs : List FieldItem) →
+        ensures ok { IsTrue result → (s : State) (fs : List FieldItem) →
             struct_shape s.setting ≡ Shape.List →
             HoldsFields s fs (open_state W.Write W.FaultCount out.old) →
-            HoldsFields s (fs ++ Self.items self.now) (open_state W.Write W.FaultCount out.new)) }
-        ensures err { IfErr result (λ e. (s : State) (fs all : List FieldItem) →
-            struct_shape s.setting ≡ Shape.List →
+            HoldsFields s (fs ++ Self.items self.now) (open_state W.Write W.FaultCount out.new) }
+        ensures err { result ≡ false → FailedAs failed.new (λ e.
+            (s : State) (fs all : List FieldItem) → struct_shape s.setting ≡ Shape.List →
             HoldsFields s fs (open_state W.Write W.FaultCount out.old) →
             BeginsWith all (fs ++ Self.items self.now) → Refused s (struct_item s.setting all) e
             (state W.Write W.FaultCount out.new.ser.now)) };
@@ -77,10 +81,10 @@ impl StructFields for () {
         &self,
         alloc: Global,
         out: &mut WholeStruct<'_, W>,
-    ) -> Result<(), Error> {
-        let _ = alloc;
-        let _ = out;
-        Ok(())
+        failed: &mut Option<Error>,
+    ) -> bool {
+        let (_, _, _) = (alloc, out, failed);
+        true
     }
 
     #[inline(always)]
@@ -116,10 +120,14 @@ impl<T: Serialize, Rest: StructFields> StructFields for Written<'_, T, Rest> {
         &self,
         alloc: Global,
         out: &mut WholeStruct<'_, W>,
-    ) -> Result<(), Error> {
+        failed: &mut Option<Error>,
+    ) -> bool {
         match write_part(&mut *out.ser, &mut out.parts, alloc, self.value) {
-            Ok(()) => answer!(self.rest.write_values(alloc, out)),
-            Err(e) => return Err(e),
+            Ok(()) => return self.rest.write_values(alloc, out, failed),
+            Err(e) => {
+                *failed = Some(e);
+                return false;
+            }
         }
     }
 
@@ -187,9 +195,13 @@ impl<W: Sink> Serializer<W> {
                     Ok(out) => out,
                     Err(e) => return Err(e),
                 };
-                match fields.write_values(alloc, &mut out) {
-                    Ok(()) => answer!(out.end()),
-                    Err(e) => return Err(e),
+                let mut failed = None;
+                if fields.write_values(alloc, &mut out, &mut failed) {
+                    answer!(out.end());
+                }
+                match failed {
+                    Some(e) => return Err(e),
+                    None => return Err(no_memory()),
                 }
             }
         }

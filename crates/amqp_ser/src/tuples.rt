@@ -1,14 +1,14 @@
 //! Tuples, part by part.
 
 ghost use Rattle.std.specs.Prelude.{◌≡◌, ℕ, ◌++◌, ◌∷◌, [], length, Some, true};
-ghost use Rattle.std.specs.Prelude.{IfOk, IfErr, OnOk, OnErr, Err, List};
+ghost use Rattle.std.specs.Prelude.{false, IsTrue, IfOk, IfErr, OnOk, OnErr, Err, List};
 ghost use Rattle.std.specs.Borrow.{sem, RestsIfErr};
 ghost use Rattle.amqp_base.specs.Item.{Item, items_of};
 ghost use Rattle.amqp_base.specs.Shapes.{whole};
 ghost use Rattle.amqp_ser.specs.State.{State, state};
 ghost use Rattle.amqp_ser.specs.Law.{Wrote, Refused, Kept};
 ghost use Rattle.amqp_ser.specs.Compound.{open_state, parts_text, RefusesOpen, Holds, Keeps};
-ghost use Rattle.amqp_ser.specs.Compound.{BeginsWith, WritesEach};
+ghost use Rattle.amqp_ser.specs.Compound.{BeginsWith, FailedAs, WritesEach};
 ghost use Rattle.amqp_ser.specs.Variants.{HasVariant, fields_item};
 ghost use Rattle.amqp_ser.specs.contracts.serializer.Serializer.{the_row};
 
@@ -16,7 +16,7 @@ use crate::answer::answer;
 use crate::compound::{Announced, Compound, write_part};
 use crate::{Serialize, Serializer, VariantSerializer};
 use amqp_base::{Error, Setting, Shape, Sink};
-use amqp_write::{Refusal, refused};
+use amqp_write::{Refusal, no_memory, refused};
 use std::alloc::Global;
 
 /// A tuple that is being written, part by part: a list of just so many elements as were announced.
@@ -80,13 +80,20 @@ pub trait TupleParts: Drop {
     /// The parts.
     ghost items: { Self → List Item };
 
-    /// Writes them, in order.
-    fn write<W: Sink>(&self, alloc: Global, out: &mut TupleSerializer<'_, W>) -> Result<(), Error>
+    /// Writes them, in order: whether all were written. Where one is refused `failed` says why; the
+    /// one place for it, as each `Result` would be another.
+    fn write<W: Sink>(
+        &self,
+        alloc: Global,
+        out: &mut TupleSerializer<'_, W>,
+        failed: &mut Option<Error>,
+    ) -> bool
         ensures same_reference { out.new.ser.ghost_name ≡ out.old.ser.ghost_name }
-        ensures ok { OnOk result ((s : State) (shape : Shape) (xs : List Item) →
+        ensures ok { IsTrue result → (s : State) (shape : Shape) (xs : List Item) →
             Holds s shape xs (open_state W.Write W.FaultCount out.old) →
-            Holds s shape (xs ++ items self.now) (open_state W.Write W.FaultCount out.new)) }
-        ensures err { IfErr result (λ e. (s : State) (shape : Shape) (xs all : List Item) →
+            Holds s shape (xs ++ items self.now) (open_state W.Write W.FaultCount out.new) }
+        ensures err { result ≡ false → FailedAs failed.new (λ e.
+            (s : State) (shape : Shape) (xs all : List Item) →
             Holds s shape xs (open_state W.Write W.FaultCount out.old) →
             BeginsWith all (xs ++ items self.now) →
             Refused s (whole shape all) e (state W.Write W.FaultCount out.new.ser.now)) };
@@ -112,10 +119,14 @@ impl TupleParts for () {
     ghost items = { λ _. [] };
 
     #[inline(always)]
-    fn write<W: Sink>(&self, alloc: Global, out: &mut TupleSerializer<'_, W>) -> Result<(), Error> {
-        let _ = alloc;
-        let _ = out;
-        Ok(())
+    fn write<W: Sink>(
+        &self,
+        alloc: Global,
+        out: &mut TupleSerializer<'_, W>,
+        failed: &mut Option<Error>,
+    ) -> bool {
+        let (_, _, _) = (alloc, out, failed);
+        true
     }
 
     #[inline(always)]
@@ -144,10 +155,18 @@ impl<T: Serialize, Rest: TupleParts> TupleParts for Part<'_, T, Rest> {
     ghost items = { λ p. T.meaning.item p.value.now Plain ∷ Rest.items p.rest };
 
     #[inline(always)]
-    fn write<W: Sink>(&self, alloc: Global, out: &mut TupleSerializer<'_, W>) -> Result<(), Error> {
+    fn write<W: Sink>(
+        &self,
+        alloc: Global,
+        out: &mut TupleSerializer<'_, W>,
+        failed: &mut Option<Error>,
+    ) -> bool {
         match out.write_next(alloc, self.value) {
-            Ok(()) => answer!(self.rest.write(alloc, out)),
-            Err(e) => return Err(e),
+            Ok(()) => return self.rest.write(alloc, out, failed),
+            Err(e) => {
+                *failed = Some(e);
+                return false;
+            }
         }
     }
 
@@ -186,9 +205,13 @@ impl<W: Sink> Serializer<W> {
             Ok(out) => out,
             Err(e) => return Err(e),
         };
-        match parts.write(alloc, &mut out) {
-            Ok(()) => answer!(out.end()),
-            Err(e) => return Err(e),
+        let mut failed = None;
+        if parts.write(alloc, &mut out, &mut failed) {
+            answer!(out.end());
+        }
+        match failed {
+            Some(e) => return Err(e),
+            None => return Err(no_memory()),
         }
     }
 }
