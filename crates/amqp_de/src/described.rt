@@ -29,11 +29,11 @@ fn describing<R: Read>(alloc: Global, reader: &mut R) -> Result<Descriptor, Erro
                 return Err(Error::InvalidFormatCode);
             }
             match descriptor(alloc, reader) {
-                Ok(descriptor) => Ok(descriptor),
-                Err(e) => Err(e),
+                Ok(descriptor) => return Ok(descriptor),
+                Err(e) => return Err(e),
             }
         }
-        Err(e) => Err(e),
+        Err(e) => return Err(e),
     }
 }
 
@@ -62,11 +62,11 @@ impl<R: Read> Deserializer<R> {
                 Ok(descriptor) => {
                     self.begun.tick();
                     self.ended = false;
-                    Ok(descriptor)
+                    return Ok(descriptor);
                 }
-                Err(e) => Err(e),
+                Err(e) => return Err(e),
             },
-            Constructor::Under(_) => Err(Error::InvalidFormatCode),
+            Constructor::Under(_) => return Err(Error::InvalidFormatCode),
             Constructor::UnderPair(inherited, _) => {
                 if self.described {
                     return Err(Error::InvalidFormatCode);
@@ -75,9 +75,9 @@ impl<R: Read> Deserializer<R> {
                     Ok(descriptor) => {
                         self.described = true;
                         self.ended = false;
-                        Ok(descriptor)
+                        return Ok(descriptor);
                     }
-                    Err(e) => Err(e),
+                    Err(e) => return Err(e),
                 }
             }
         }
@@ -91,10 +91,10 @@ impl<R: Read, T: Deserialize<R>> Deserialize<R> for Described<T> {
     fn deserialize(alloc: Global, de: &mut Deserializer<R>) -> Result<Described<T>, Error> {
         match de.deserialize_descriptor(alloc) {
             Ok(descriptor) => match T::deserialize(alloc, de) {
-                Ok(value) => Ok(Described { descriptor, value }),
-                Err(e) => Err(e),
+                Ok(value) => return Ok(Described { descriptor, value }),
+                Err(e) => return Err(e),
             },
-            Err(e) => Err(e),
+            Err(e) => return Err(e),
         }
     }
 }

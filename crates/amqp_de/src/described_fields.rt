@@ -79,11 +79,11 @@ impl<R: Read> Deserializer<R> {
                     return Err(Error::custom(alloc, "expected a list behind the descriptor"));
                 }
                 match self.deserialize_leading(alloc, fields) {
-                    Ok(values) => Ok(values),
-                    Err(e) => Err(e),
+                    Ok(values) => return Ok(values),
+                    Err(e) => return Err(e),
                 }
             }
-            Err(e) => Err(e),
+            Err(e) => return Err(e),
         }
     }
 
@@ -118,11 +118,11 @@ impl<R: Read> Deserializer<R> {
                     return Err(Error::custom(alloc, "another descriptor"));
                 }
                 match self.read_list_behind(alloc, fields) {
-                    Ok(values) => Ok(values),
-                    Err(e) => Err(e),
+                    Ok(values) => return Ok(values),
+                    Err(e) => return Err(e),
                 }
             }
-            Err(e) => Err(e),
+            Err(e) => return Err(e),
         }
     }
 
@@ -146,11 +146,11 @@ impl<R: Read> Deserializer<R> {
                     return Err(Error::custom(alloc, "expected a map behind the descriptor"));
                 }
                 match self.read_map(alloc, fields) {
-                    Ok(values) => Ok(values),
-                    Err(e) => Err(e),
+                    Ok(values) => return Ok(values),
+                    Err(e) => return Err(e),
                 }
             }
-            Err(e) => Err(e),
+            Err(e) => return Err(e),
         }
     }
 
@@ -183,11 +183,11 @@ impl<R: Read> Deserializer<R> {
                     return Err(Error::custom(alloc, "another descriptor"));
                 }
                 match self.read_map_behind(alloc, fields) {
-                    Ok(values) => Ok(values),
-                    Err(e) => Err(e),
+                    Ok(values) => return Ok(values),
+                    Err(e) => return Err(e),
                 }
             }
-            Err(e) => Err(e),
+            Err(e) => return Err(e),
         }
     }
 }

@@ -245,17 +245,17 @@ impl<'n, R: Read, T: Deserialize<R>, Rest: Fields<R>> Fields<R> for Field<'n, T,
         map: &mut MapAccess<'_, R>,
     ) -> Result<(), Error> {
         if !self.awaits(name) {
-            return match self.rest.read_field(alloc, name, map) {
-                Ok(()) => Ok(()),
-                Err(e) => Err(e),
+            match self.rest.read_field(alloc, name, map) {
+                Ok(()) => return Ok(()),
+                Err(e) => return Err(e),
             };
         }
         match map.next_value::<T>(alloc) {
             Ok(value) => {
                 self.put(value);
-                Ok(())
+                return Ok(());
             }
-            Err(e) => Err(e),
+            Err(e) => return Err(e),
         }
     }
 
@@ -270,8 +270,8 @@ impl<'n, R: Read, T: Deserialize<R>, Rest: Fields<R>> Fields<R> for Field<'n, T,
             },
         }
         match self.rest.read_elements(alloc, list) {
-            Ok(()) => Ok(()),
-            Err(e) => Err(e),
+            Ok(()) => return Ok(()),
+            Err(e) => return Err(e),
         }
     }
 
@@ -298,8 +298,8 @@ impl<'n, R: Read, T: Deserialize<R>, Rest: Fields<R>> Fields<R> for Field<'n, T,
             },
         }
         match self.rest.read_leading(alloc, list) {
-            Ok(()) => Ok(()),
-            Err(e) => Err(e),
+            Ok(()) => return Ok(()),
+            Err(e) => return Err(e),
         }
     }
 
@@ -312,10 +312,10 @@ impl<'n, R: Read, T: Deserialize<R>, Rest: Fields<R>> Fields<R> for Field<'n, T,
         } = self;
         match value {
             Some(value) => match rest.into_values() {
-                Some(others) => Some((value, others)),
-                None => None,
+                Some(others) => return Some((value, others)),
+                None => return None,
             },
-            None => None,
+            None => return None,
         }
     }
 }

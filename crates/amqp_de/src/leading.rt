@@ -27,13 +27,13 @@ impl<R: Read> Deserializer<R> {
             Ok(value) => {
                 self.inherited = inherited;
                 self.begun = begun;
-                Ok(value)
+                return Ok(value);
             }
             Err(e) => {
                 self.inherited = inherited;
                 self.begun = begun;
                 self.ended = true;
-                Err(e)
+                return Err(e);
             }
         }
     }
