@@ -4,7 +4,7 @@ use Rattle.amqp_base.specs.declared.error.Error.{Error}
 use Rattle.amqp_base.specs.declared.error.Error.TheVariants.{InvalidFormatCode}
 use Rattle.amqp_base.specs.declared.format_code.EncodingCodes.{EncodingCodes}
 use Rattle.amqp_base.specs.declared.format_code.EncodingCodes.TheVariants.{DescribedType, Uint, SmallUint, Uint0, Ulong, SmallUlong, Ulong0, Str8, Str32, Sym8, Sym32}
-use Rattle.amqp_base.specs.Codes.{Kind, row, code_of, codes}
+use Rattle.amqp_base.specs.Codes.{Kind, row, code_of}
 use Rattle.amqp_base.specs.Identifiers.{is_key_kind, key_data}
 use Rattle.amqp_base.specs.SameKind.{same_kind, place}
 use Rattle.amqp_base.specs.Parse.{behind_byte, by_category, data_at}

@@ -1,5 +1,5 @@
 -- Looks further ahead, one behind the other.
-use Rattle.std.proofs.Common.{◌≡◌, ◌⊎◌, inl, inr, ℕ, zero, suc, ◌+◌, ◌-◌, ◌*◌, ◌^◌, ◌<◌, ◌≤◌, max, Bool, true, IsTrue, List, [], ◌∷◌, ◌++◌, length, take, drop, Option, Some, None, Ok, Err, refl, sym, ap, subst, ◌∙◌, add-one, arith}
+use Rattle.std.proofs.Common.{◌≡◌, ◌⊎◌, inl, inr, ℕ, zero, suc, ◌+◌, ◌*◌, ◌^◌, ◌<◌, ◌≤◌, Bool, true, IsTrue, List, [], ◌∷◌, ◌++◌, length, take, drop, Option, Some, None, Err, refl, sym, ap, subst, ◌∙◌, add-one, arith}
 use Rattle.std.proofs.KnownBytes.{Keeps-trans, Keeps-refl}
 use Rattle.std.proofs.lemmas.List.{length-append, length-drop, length-take, length_push, take-append-drop, take-take, take_all, drop-drop}
 use Rattle.std.specs.Prelude.{IsUtf8}
@@ -15,11 +15,11 @@ use Rattle.amqp_base.specs.Item.{ulong, symbol, Descriptor, name, code}
 use Rattle.amqp_base.specs.Parse.{Parsed, text_at, behind_byte, descriptor_at, descriptor_data}
 use Rattle.amqp_base.specs.Value.{number, payload, read}
 use Rattle.amqp_base.specs.Wire.{of_data, of_variable, variable, code_and_data}
-use Rattle.amqp_read.specs.Reading.{Reading, Agree, Stays, Steady, Takes}
-use Rattle.amqp_read.specs.Steps.{Looked, ShowsBehind, ComeBehind, IsShort, ShortOf, NotSeen, NotTaken}
+use Rattle.amqp_read.specs.Reading.{Reading, Agree, Stays, Takes}
+use Rattle.amqp_read.specs.Steps.{Looked, ShowsBehind, ComeBehind, ShortOf, NotSeen, NotTaken}
 use Rattle.amqp_data.specs.Ahead.{Ahead, Unseen, NumberAhead, TextAhead, DataAhead, ShowsDescriptor, RejectsAhead, known_past, past}
 use Rattle.amqp_data.specs.Excuses.{Excused, no_memory, faulted, uncounted}
-use Rattle.amqp_data.specs.Steps.{Rejects, Unread, Number}
+use Rattle.amqp_data.specs.Steps.{Rejects, Unread}
 use Rattle.amqp_data.proofs.Received.{keeps_known, agree_then, agree_nothing, may_before, shown_next}
 use Rattle.amqp_data.proofs.Readings.{steady_then, steady_same, stayed, rejects_more, unread_rejects, rejects_here, unread_device, unread_memory}
 use Rattle.amqp_data.proofs.Data.{bytes_short, scalar_under}

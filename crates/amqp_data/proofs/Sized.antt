@@ -1,7 +1,7 @@
 -- A length, and the payload behind it.
-use Rattle.std.proofs.Common.{◌≡◌, ℕ, ◌≤◌, Bool, IsTrue, true, false, if◌then◌else◌, List, ◌++◌, length, Option, Some, None, Result, Ok, Err, refl, sym, ap, subst, ◌∙◌, inl, inr, ◌⊎◌, append_assoc}
+use Rattle.std.proofs.Common.{◌≡◌, ℕ, ◌≤◌, Bool, IsTrue, true, false, if◌then◌else◌, List, ◌++◌, length, take, Option, Some, None, Result, Ok, Err, refl, sym, ap, subst, ◌∙◌, inl, inr, ◌⊎◌, append_assoc, String, Global, string_bytes}
 use Rattle.std.specs.Prelude.{IfOk, IfErr, OnErr, IsUtf8}
-use Rattle.std.proofs.lemmas.Str.{IsUtf8-from_is_utf8, is_utf8-from_IsUtf8}
+use Rattle.std.proofs.lemmas.Str.{IsUtf8-from_is_utf8, is_utf8-from_IsUtf8, IsUtf8-string_bytes}
 use Rattle.std.specs.Str.{is_utf8}
 use Rattle.amqp_base.specs.declared.error.Error.{Error}
 use Rattle.std.proofs.lemmas.Bool.{le-ltb}
@@ -18,9 +18,10 @@ use Rattle.amqp_data.specs.Excuses.{IsCause, Excused}
 use Rattle.amqp_base.proofs.KindPlaces.{kind_same}
 use Rattle.amqp_read.specs.Reading.{Reading, Stays, Takes}
 use Rattle.amqp_read.specs.Steps.{NotTaken, Holds}
+use Rattle.amqp_read.specs.Texts.{NoText, FrontIsNoText}
 use Rattle.amqp_base.specs.Parse.{Parsed, ◌>>=◌, bytes_at, sized_at, utf8, text_at, valued, value_or_refusal, bad_payload, data_at, behind_byte}
 use Rattle.amqp_data.specs.Steps.{IsData, Rejects, BytesFirst, Unread, Number, Payload, Text}
-use Rattle.amqp_data.proofs.Readings.{takes_then, behind, unread_memory, unread_rejects, rejects_then, rejects_after}
+use Rattle.amqp_data.proofs.Readings.{takes_then, stayed, behind, unread_memory, unread_rejects, rejects_then, rejects_after}
 use Rattle.amqp_data.proofs.Data.{bytes_there, bytes_short, behind_code}
 
 -- the length is there
@@ -58,6 +59,41 @@ text_refused buffers w b old new p n = rejects_after (text_at w) old new (p.digi
 
 pub text_of : (w : ℕ) (b t : List ℕ) (old new : Reading) → Payload w b old new → t ≡ b → IsUtf8 t → Text w t old new
 text_of w b t old new p h u = record { payload = rw h p; utf8 = is_utf8-from_IsUtf8 t u }
+
+-- ---- a text that the reader makes of the bytes behind the length
+
+pub text_took : (w n : ℕ) (old mid new : Reading) (t : String Global) → Number w n old mid → (length (string_bytes t) ≡ n) × Takes mid new (string_bytes t) → Text w (string_bytes t) old new
+text_took w n old mid new t d k = text_of w (string_bytes t) (string_bytes t) old new (payload_ok string_bytes w n old mid new (Ok t) d k) refl (IsUtf8-string_bytes t)
+
+-- n bytes that are UTF-8
+abbrev text_there : ℕ → List ℕ → Parsed (List ℕ)
+text_there n s = bytes_at n s >>= utf8
+
+front_no_text : (n : ℕ) (s : List ℕ) → n ≤ length s → (IsUtf8 (take n s) → ⊥) → text_there n s ≡ Err InvalidUtf8Encoding
+front_no_text n s h u = rw (le-ltb (length s) n h, not_utf8 (take n s) u) refl
+
+known_no_text : (n : ℕ) (k : Option (List ℕ)) (s : List ℕ) → k ≡ Some s → FrontIsNoText n k → text_there n s ≡ Err InvalidUtf8Encoding
+known_no_text n None s e f = absurd cc
+known_no_text n (Some t) s e f = let q : t ≡ s = cc in rw q at (front_no_text n t f.0 f.1)
+
+no_text_rejects : {grows buffers : Bool} (n : ℕ) (old new : Reading) (e : Error) → Stays old new → NoText n old e → Rejects grows buffers (text_there n) old new e
+no_text_rejects n old new e s u = rw u.0 (record {
+  why = λ t at h. inl (known_no_text n old.to_come t at u.1);
+  steady = stayed s;
+  device = λ d. absurd d;
+  memory = λ m. absurd cc m;
+})
+
+behind_length : (w n : ℕ) (l s : List ℕ) (e : Error) → length l ≡ w → number l ≡ n → text_there n s ≡ Err e → text_at w (l ++ s) ≡ Err e
+behind_length w n l s e h v p = rw (length_there w l s h, v) p
+
+pub text_not_taken : (buffers : Bool) (w n : ℕ) (old mid new : Reading) (e : Error) → Number w n old mid → Stays mid new → NoText n mid e ⊎ NotTaken true buffers n mid new e → Rejects true buffers (text_at w) old new e
+text_not_taken buffers w n old mid new e d s u =
+    rejects_then (text_at w) (text_there n) old mid new d.digits e d.step (λ t p. behind_length w n d.digits t e d.len d.value p) (tell u)
+  where
+    tell : NoText n mid e ⊎ NotTaken true buffers n mid new e → Rejects true buffers (text_there n) mid new e
+    tell (inl q) = no_text_rejects n mid new e s q
+    tell (inr q) = unread_rejects (text_there n) n mid new e (λ t h. rw (bytes_short n t h) refl) (record { stays = s; why = q })
 
 -- a code's data are a payload
 pub sized_is : (x : ℕ) (e : EncodingCodes) (w : ℕ) (b : List ℕ) (v : Scalar) (old new : Reading) → code_of x ≡ Some e → (row e).category ≡ Variable w → payload e b ≡ Some v → Payload w b old new → IsData x (scalar v) old new

@@ -38,12 +38,12 @@ fn text<R: Read>(alloc: Global, reader: &mut R, width: u32) -> Result<String, Er
     ensures bytes_first { IfErr result (λ e.
         BytesFirst R.buffers (sized_at width) (R.reading reader.old) e) }
 {
-    match payload(alloc, reader, width) {
-        Ok(bytes) => match String::from_utf8(bytes) {
-            Ok(text) => Ok(text),
-            Err(_) => Err(Error::InvalidUtf8Encoding),
+    match number(reader, width) {
+        Ok(len) => match reader.forward_read_str(alloc, len as usize) {
+            Ok(text) => return Ok(text),
+            Err(e) => return Err(e),
         },
-        Err(e) => Err(e),
+        Err(e) => return Err(e),
     }
 }
 
@@ -69,9 +69,15 @@ impl Leaf for AsString {
     #[inline(always)]
     fn read<R: Read>(self, reader: &mut R, code: u8) -> Result<String, Error> {
         match code {
-            codes::STR8 => text(self.0, reader, 1),
-            codes::STR32 => text(self.0, reader, 4),
-            _ => Err(Error::InvalidFormatCode),
+            codes::STR8 => match text(self.0, reader, 1) {
+                Ok(text) => return Ok(text),
+                Err(e) => return Err(e),
+            },
+            codes::STR32 => match text(self.0, reader, 4) {
+                Ok(text) => return Ok(text),
+                Err(e) => return Err(e),
+            },
+            _ => return Err(Error::InvalidFormatCode),
         }
     }
 }
@@ -97,9 +103,15 @@ impl Leaf for AsSymbol {
 
     fn read<R: Read>(self, reader: &mut R, code: u8) -> Result<String, Error> {
         match code {
-            codes::SYM8 => text(self.0, reader, 1),
-            codes::SYM32 => text(self.0, reader, 4),
-            _ => Err(Error::InvalidFormatCode),
+            codes::SYM8 => match text(self.0, reader, 1) {
+                Ok(text) => return Ok(text),
+                Err(e) => return Err(e),
+            },
+            codes::SYM32 => match text(self.0, reader, 4) {
+                Ok(text) => return Ok(text),
+                Err(e) => return Err(e),
+            },
+            _ => return Err(Error::InvalidFormatCode),
         }
     }
 }

@@ -4,7 +4,7 @@ use Rattle.amqp_base.specs.declared.error.Error.{Error}
 use Rattle.amqp_base.specs.declared.error.Error.TheVariants.{InvalidFormatCode}
 use Rattle.amqp_base.specs.declared.format_code.EncodingCodes.{EncodingCodes}
 use Rattle.amqp_base.specs.declared.format_code.EncodingCodes.TheVariants.{DescribedType}
-use Rattle.amqp_base.specs.Codes.{row, code_of}
+use Rattle.amqp_base.specs.Codes.{code_of}
 use Rattle.amqp_base.specs.Describing.{is_described, describing_at, undescribed, DescriptorStands, by_descriptor_refusal}
 use Rattle.amqp_base.specs.Item.{Item, scalar, list, map, array, described, Descriptor}
 use Rattle.amqp_base.specs.Parse.{Parsed, ◌>>=◌, with_rest, any_code, code_or_refusal, code_at}

@@ -1,9 +1,8 @@
 -- A list whose last fields may be left out.
-use Rattle.std.proofs.Common.{◌≡◌, ℕ, zero, suc, ◌+◌, ◌<◌, ◌≤◌, Bool, true, false, ◌&&◌, ◌||◌, nat_lt, IsTrue, List, [], ◌∷◌, ◌++◌, length, Option, Some, None, Result, Ok, Err, refl, sym, ap, subst, ◌∙◌, arith, inl, inr, ◌⊎◌}
+use Rattle.std.proofs.Common.{◌≡◌, ℕ, zero, suc, ◌<◌, ◌≤◌, Bool, false, ◌||◌, IsTrue, List, [], ◌∷◌, ◌++◌, length, Some, None, refl, sym, ap, subst, ◌∙◌, arith}
 use Rattle.std.proofs.lemmas.List.{append-nil}
 use Rattle.amqp_base.specs.declared.error.Error.{Error}
 use Rattle.amqp_base.specs.declared.error.Error.TheVariants.{SequenceLengthMismatch}
-use Rattle.amqp_base.specs.declared.format_code.EncodingCodes.{EncodingCodes}
 use Rattle.amqp_base.specs.declared.format_code.EncodingCodes.TheVariants.{Null}
 use Rattle.amqp_base.specs.Codes.{row}
 use Rattle.amqp_base.specs.Fields.{all_fields, all_meanings}
@@ -11,15 +10,15 @@ use Rattle.amqp_base.specs.Item.{Item, scalar, null, list, map, array, described
 use Rattle.amqp_base.specs.Meaning.{Meaning}
 use Rattle.amqp_base.specs.Parse.{list_data}
 use Rattle.amqp_base.specs.Value.{payload, read as value_read}
-use Rattle.amqp_base.specs.Wire.{Constructor, bare, under, Wire, lenient, of_data, of_fixed, fixed}
+use Rattle.amqp_base.specs.Wire.{Constructor, under, Wire, lenient, of_data, of_fixed, fixed}
 use Rattle.amqp_base.proofs.OneFront.{same_wire}
-use Rattle.amqp_read.specs.Reading.{Reading, Takes}
-use Rattle.amqp_data.specs.Excuses.{Excused, Advances}
-use Rattle.amqp_data.specs.Parts.{HasParts, Within, cost}
+use Rattle.amqp_read.specs.Reading.{Takes}
+use Rattle.amqp_data.specs.Excuses.{Advances}
+use Rattle.amqp_data.specs.Parts.{HasParts}
 use Rattle.amqp_data.proofs.Readings.{takes_then, behind, advances_then, excused_before}
 use Rattle.amqp_de.specs.Access.{Listing, Opens, OpensNot, Part, NoPart, AllRead, NoEnd, behind_end}
 use Rattle.amqp_de.specs.Decoding.{Decoding, stands_under, as_ended}
-use Rattle.amqp_de.specs.Law.{Front, Found, Missed, Spent, refused_free}
+use Rattle.amqp_de.specs.Law.{Front, Found, Missed}
 use Rattle.amqp_base.specs.Leading.{padded, takes_leading, means_leading}
 use Rattle.amqp_de.specs.ReadFields.{Slots, no_slots, slot}
 use Rattle.amqp_de.specs.ReadLeading.{before_null, behind_null, ReadsNull, RefusesNull, LeadingProgress, LeadingRow}

@@ -1,5 +1,5 @@
 -- Elements that are read many at a time.
-use Rattle.std.proofs.Common.{◌≡◌, ℕ, ◌+◌, ◌≤◌, Bool, true, false, List, [], ◌∷◌, ◌++◌, length, length-take, suc, slice_index_or, take, drop, Option, Some, None, refl, sym, ap, subst, ◌∙◌, arith, append_assoc}
+use Rattle.std.proofs.Common.{◌≡◌, ℕ, ◌+◌, ◌<◌, ◌≤◌, Bool, true, false, List, [], ◌∷◌, ◌++◌, length, length-take, suc, slice_index_or, take, drop, Option, Some, None, refl, sym, ap, subst, ◌∙◌, arith, append_assoc}
 use Rattle.std.proofs.lemmas.List.{length-append, append-nil, drop-drop, take-take}
 use Rattle.std.proofs.Math.Seq.{take-add, take-append_seam}
 use Rattle.std.specs.Io.KnownBytes.{Consumes}
@@ -10,8 +10,8 @@ use Rattle.amqp_base.specs.Laws.{items_under}
 use Rattle.amqp_base.specs.Meaning.{Meaning}
 use Rattle.amqp_base.specs.Wire.{Constructor, bare, under, under_pair, of_code}
 use Rattle.amqp_read.specs.Reading.{Reading, Agree, Takes}
-use Rattle.amqp_read.specs.Steps.{StartsWith, Shows}
-use Rattle.amqp_de.specs.Decoding.{Decoding, stands_under, behind_descriptor}
+use Rattle.amqp_read.specs.Steps.{StartsWith, Shows, Passes}
+use Rattle.amqp_de.specs.Decoding.{stands_under, behind_descriptor}
 use Rattle.amqp_data.specs.Parts.{Within}
 use Rattle.amqp_de.specs.Access.{Listing, Part}
 use Rattle.amqp_de.specs.Many.{AreRead, IsElement, AreElements, PutBehind}
@@ -198,7 +198,7 @@ put_more m c k at n end b before items after v p ends i is = record {
 -- ---- a number with its own constructor
 
 -- its code, and n bytes of data
-pub behind_code : {T : Type 0} (m : Meaning T) (e : EncodingCodes) (n x : ℕ) (b : List ℕ) (v : T) → code_of x ≡ Some e → slice_index_or b 0 0 ≡ x → length b ≡ 9 → IsElement m (under e) (take n (drop 1 b)) v → IsElement m bare (take (suc n) b) v
+pub behind_code : {T : Type 0} (m : Meaning T) (e : EncodingCodes) (n x : ℕ) (b : List ℕ) (v : T) → code_of x ≡ Some e → slice_index_or b 0 0 ≡ x → 0 < length b → IsElement m (under e) (take n (drop 1 b)) v → IsElement m bare (take (suc n) b) v
 behind_code m e n x [] v c h l i = absurd (omega (arith, l))
 behind_code m e n x (y ∷ ys) v c h l i = record {
   item = i.item;
@@ -210,7 +210,7 @@ behind_code m e n x (y ∷ ys) v c h l i = record {
 }
 
 -- the byte behind the code
-pub second : (b : List ℕ) → length b ≡ 9 → take 1 (drop 1 b) ≡ slice_index_or b 1 0 ∷ []
+pub second : (b : List ℕ) → 2 ≤ length b → take 1 (drop 1 b) ≡ slice_index_or b 1 0 ∷ []
 second [] l = absurd (omega (arith, l))
 second (x ∷ []) l = absurd (omega (arith, l))
 second (x ∷ y ∷ b) l = refl
@@ -232,8 +232,11 @@ shown_front None l received b t h c a le =
 shown_front (Some s) None received b t h c a le = absurd c
 shown_front (Some s) (Some u) received b t h c a le = front_of s b t h (ap (take (length t)) c ∙ take-append_seam t u) le
 
-pub shown_taken : (old new : Reading) (b t : List ℕ) → Shows old b → Takes old new t → length t ≤ length b → t ≡ take (length t) b
+shown_taken : (old new : Reading) (b t : List ℕ) → Shows old b → Takes old new t → length t ≤ length b → t ≡ take (length t) b
 shown_taken old new b t h k le = shown_front old.to_come new.to_come old.received b t h k.to_come k.agrees le
+
+pub shown_passed : (n : ℕ) (old new : Reading) (b : List ℕ) → Shows old b → (p : Passes n old new) → n ≤ length b → p.bytes ≡ take n b
+shown_passed n old new b h p le = shown_taken old new b p.bytes h p.step (omega (arith, p.len, le)) ∙ ap (λ l. take l b) p.len
 
 -- further elements behind some
 pub read_then : {T : Type 0} (m : Meaning T) (old mid new : Listing) (vs ws : List T) → AreRead m old vs mid → AreRead m mid ws new → AreRead m old (vs ++ ws) new

@@ -14,10 +14,9 @@ use Rattle.amqp_base.specs.Meaning.{Meaning}
 use Rattle.amqp_base.specs.Refusals.{IsDevice}
 use Rattle.amqp_base.specs.Refusing.{Refusing}
 use Rattle.amqp_base.specs.Wire.{Constructor, bare, under, under_pair, Wire, lenient, of_code, of_described, of_data, of_pair, Data, of_fixed, of_variable, fixed, variable, list0, of_list, of_map, of_array, empty_array}
-use Rattle.amqp_read.specs.Reading.{Reading, Agree, Steady, Stays, Takes}
+use Rattle.amqp_read.specs.Reading.{Reading, Stays, Takes}
 use Rattle.amqp_read.specs.Steps.{Looked, Fails}
-use Rattle.amqp_data.specs.Excuses.{Overfull, Excused, Advances, no_memory, faulted, uncounted}
-use Rattle.amqp_data.specs.Parts.{Within}
+use Rattle.amqp_data.specs.Excuses.{Overfull, Excused, no_memory, faulted, uncounted}
 use Rattle.amqp_data.specs.Places.{own_width, least_width}
 use Rattle.amqp_data.proofs.Readings.{stays_same, steady_then, stayed, advances_then}
 use Rattle.amqp_data.proofs.Received.{agree_front, keeps_known}

@@ -1,5 +1,5 @@
 -- What was read of a list whose last fields may be left out.
-use Rattle.std.specs.Prelude.{◌≡◌, ◌⊎◌, ◌+◌, ◌≤◌, ℕ, Bool, true, false, ◌||◌, IsTrue, List, length, Some}
+use Rattle.std.specs.Prelude.{◌≡◌, ◌⊎◌, ◌+◌, ◌≤◌, ℕ, Bool, false, ◌||◌, IsTrue, List, length, Some}
 use Rattle.amqp_base.specs.declared.error.Error.{Error}
 use Rattle.amqp_base.specs.declared.format_code.EncodingCodes.TheVariants.{Null}
 use Rattle.amqp_base.specs.Fields.{all_fields, all_meanings}

@@ -6,8 +6,8 @@ ghost use Rattle.amqp_de.specs.ReadParts.{open_list};
 ghost use Rattle.amqp_de.specs.Seq.{at_open};
 
 use crate::Deserializer;
-use crate::blocks::LONGEST;
 use crate::list::{Access, Open};
+use crate::numbers::LONGEST;
 use amqp_base::Error;
 use amqp_data::least_width;
 use amqp_read::Read;

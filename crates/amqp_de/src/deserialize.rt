@@ -142,7 +142,10 @@ impl<R: Read> Deserialize<R> for char {
 impl<R: Read> Deserialize<R> for String {
     #[inline(always)]
     fn deserialize(alloc: Global, de: &mut Deserializer<R>) -> Result<String, Error> {
-        de.deserialize_string(alloc)
+        match de.deserialize_string(alloc) {
+            Ok(text) => return Ok(text),
+            Err(e) => return Err(e),
+        }
     }
 }
 
@@ -188,8 +191,8 @@ impl<R: Read> Deserialize<R> for Symbol {
     #[inline(always)]
     fn deserialize(alloc: Global, de: &mut Deserializer<R>) -> Result<Symbol, Error> {
         match de.deserialize_symbol(alloc) {
-            Ok(value) => Ok(Symbol(value)),
-            Err(e) => Err(e),
+            Ok(text) => return Ok(Symbol(text)),
+            Err(e) => return Err(e),
         }
     }
 }

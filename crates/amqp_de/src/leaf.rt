@@ -40,11 +40,11 @@ impl<R: Read> Deserializer<R> {
             Ok(code) => match leaf.read(&mut self.reader, code) {
                 Ok(value) => {
                     self.ended = false;
-                    Ok(value)
+                    return Ok(value);
                 }
-                Err(e) => Err(e),
+                Err(e) => return Err(e),
             },
-            Err(e) => Err(e),
+            Err(e) => return Err(e),
         }
     }
 }

@@ -4,7 +4,6 @@
 mod ahead;
 mod any;
 mod array;
-mod blocks;
 mod chosen;
 mod decimals;
 mod described;
@@ -27,6 +26,7 @@ mod map;
 mod maps;
 mod newtypes;
 mod not_null;
+mod numbers;
 mod option;
 mod payloads;
 mod read_fields;

@@ -36,7 +36,10 @@ impl<R: Read> Deserializer<R> {
             string (string_bytes s)) true R.buffers self.old result self.new }
         ensures bytes_first { MemoryLast Kind.string R.buffers self.old result }
     {
-        self.leaf(AsString(alloc))
+        match self.leaf(AsString(alloc)) {
+            Ok(text) => return Ok(text),
+            Err(e) => return Err(e),
+        }
     }
 
     /// A symbol (part 1, section 1.6.21), with a length of 1 or of 4 bytes. Any UTF-8 is taken:
@@ -50,6 +53,9 @@ impl<R: Read> Deserializer<R> {
             symbol (string_bytes s)) true R.buffers self.old result self.new }
         ensures bytes_first { MemoryLast Kind.symbol R.buffers self.old result }
     {
-        self.leaf(AsSymbol(alloc))
+        match self.leaf(AsSymbol(alloc)) {
+            Ok(text) => return Ok(text),
+            Err(e) => return Err(e),
+        }
     }
 }

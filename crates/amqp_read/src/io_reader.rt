@@ -654,16 +654,17 @@ impl<S: Source> Read for IoReader<S> {
     }
 
     #[inline(always)]
-    fn show_at_hand(&self, block: &mut [u8]) -> usize {
-        let unread = self.buffer.unread();
-        let n = block.len().min(unread.len());
-        block[..n].copy_from_slice(&unread[..n]);
-        n
+    fn bytes_at_hand(&self) -> &[u8] {
+        self.buffer.unread()
     }
 
     #[inline(always)]
-    fn take_at_hand(&mut self, block: &mut [u8]) -> bool {
-        self.take_received(block)
+    fn pass_at_hand(&mut self, n: usize) -> bool {
+        let at_hand = self.received() >= n && usize::MAX - self.bytes_consumed() >= n;
+        if at_hand {
+            self.consume(n);
+        }
+        at_hand
     }
 
     #[inline(always)]

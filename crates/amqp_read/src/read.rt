@@ -2,7 +2,7 @@
 
 ghost use Rattle.std.specs.Prelude.{◌≡◌, ◌≢◌, ◌⊎◌, ◌+◌, ◌^◌, ◌<◌};
 ghost use Rattle.std.specs.Prelude.{◌≤◌, ℕ, Bool, true, false, IsTrue, List, [], ◌∷◌};
-ghost use Rattle.std.specs.Prelude.{length, take, OnOk, OnErr, IfOk, IfErr};
+ghost use Rattle.std.specs.Prelude.{length, OnOk, OnErr, IfOk, IfErr};
 ghost use Rattle.std.specs.Prelude.{MatchOption, string_bytes};
 ghost use Rattle.amqp_read.specs.Reading.{Reading, Stays, Takes};
 ghost use Rattle.amqp_read.specs.Steps.{Shows, MayCome, Ended, IsShort, Fails, NotTaken};
@@ -28,10 +28,10 @@ pub(crate) mod sealed {
 /// that a caller sees: the position stays, and no received byte is lost; `skip` alone may have
 /// passed some bytes. Lengths and positions are in bytes.
 ///
-/// Where a call needs more bytes than are to come, it answers what it says itself. Beside that a
-/// reader over a slice refuses nothing, `OutOfMemory` of `read_bytes` aside. A reader over a source
-/// also answers the source's own fault, `OutOfMemory` where its buffer finds no memory, and
-/// `Io(Other)` where the bytes consumed would pass `usize::MAX`.
+/// What a call answers by the bytes to come, it says itself. Beside that a reader over a slice
+/// refuses nothing, but for `OutOfMemory` where a call answers bytes or a text of its own. A reader
+/// over a source also answers the source's own fault, `OutOfMemory` where its buffer finds no
+/// memory, and `Io(Other)` where the bytes consumed would pass `usize::MAX`.
 pub trait Read: sealed::Sealed + Drop {
     ghost reading: { Self → Reading };
 
@@ -167,20 +167,16 @@ pub trait Read: sealed::Sealed + Drop {
         ensures bytes_first { IfErr result (λ e. (e ≡ OutOfMemory) →
             (IsTrue buffers ⊎ Holds (from + n) (reading self.old).to_come)) };
 
-    /// Copies the next bytes that are at hand to the front of `block`, as many as it takes, and
-    /// says how many. All of them stay.
+    /// The bytes at hand. All of them stay.
     #[doc(hidden)]
-    fn show_at_hand(&self, block: &mut [u8]) -> usize
-        ensures len { length block.new ≡ length block.old }
-        ensures few { result ≤ length block.old }
-        ensures shown { Shows (reading self.now) (take result block.new) };
+    fn bytes_at_hand(&self) -> &[u8]
+        ensures { Shows (reading self.now) result.now };
 
-    /// Fills `block` with the next bytes and consumes them, where all of them are at hand; else
-    /// nothing changes. No source is asked.
+    /// Consumes the next `n` bytes, where all of them are at hand; else nothing changes. No source
+    /// is asked.
     #[doc(hidden)]
-    fn take_at_hand(&mut self, block: &mut [u8]) -> bool
-        ensures len { length block.new ≡ length block.old }
-        ensures taken { IsTrue result → Takes (reading self.old) (reading self.new) block.new }
+    fn pass_at_hand(&mut self, n: usize) -> bool
+        ensures passed { IsTrue result → Passes n (reading self.old) (reading self.new) }
         ensures else_kept { result ≡ false → reading self.new ≡ reading self.old };
 
     /// Receives some of the next `n` bytes where fewer are at hand, so that later calls need not
@@ -297,10 +293,10 @@ pub(crate) fn text_of(alloc: Global, bytes: &[u8]) -> Result<String, Error>
 {
     match std::str::from_utf8(bytes) {
         Ok(text) => match String::from_str(alloc, text) {
-            Ok(text) => Ok(text),
-            Err(_) => Err(Error::OutOfMemory),
+            Ok(text) => return Ok(text),
+            Err(_) => return Err(Error::OutOfMemory),
         },
-        Err(_) => Err(Error::InvalidUtf8Encoding),
+        Err(_) => return Err(Error::InvalidUtf8Encoding),
     }
 }
 

@@ -22,7 +22,7 @@ use std::io::ErrorKind;
 use std::marker::Model;
 
 /// Reads bytes in memory. All of them count as to come, none as received. No call takes memory but
-/// `read_bytes`.
+/// those that answer bytes or a text of their own.
 #[derive(Drop)]
 pub struct SliceReader<'s> {
     rest: &'s [u8],
@@ -172,6 +172,7 @@ impl<'s> Read for SliceReader<'s> {
         }
     }
 
+    #[inline(always)]
     fn forward_read_str(&mut self, alloc: Global, n: usize) -> Result<String, Error> {
         if n > self.rest.len() {
             return Err(Error::Io(ErrorKind::UnexpectedEof));
@@ -181,9 +182,9 @@ impl<'s> Read for SliceReader<'s> {
             Ok(text) => {
                 self.rest = rest;
                 self.taken += n;
-                Ok(text)
+                return Ok(text);
             }
-            Err(e) => Err(e),
+            Err(e) => return Err(e),
         }
     }
 
@@ -203,21 +204,13 @@ impl<'s> Read for SliceReader<'s> {
     }
 
     #[inline(always)]
-    fn show_at_hand(&self, block: &mut [u8]) -> usize {
-        let n = block.len().min(self.rest.len());
-        block[..n].copy_from_slice(&self.rest[..n]);
-        n
+    fn bytes_at_hand(&self) -> &[u8] {
+        &self.rest[..]
     }
 
     #[inline(always)]
-    fn take_at_hand(&mut self, block: &mut [u8]) -> bool {
-        match self.get_byte_slice(block.len()) {
-            Ok(bytes) => {
-                block.copy_from_slice(bytes);
-                true
-            }
-            Err(_) => false,
-        }
+    fn pass_at_hand(&mut self, n: usize) -> bool {
+        self.get_byte_slice(n).is_ok()
     }
 
     #[inline(always)]

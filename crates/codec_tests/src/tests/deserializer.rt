@@ -96,7 +96,7 @@ const REFUSED: &[(&[u8], &[Call], usize)] = &[
     (
         b"\xa1\x01\xff\x43",
         &[Text(Err(Answer::InvalidUtf8Encoding))],
-        3,
+        2,
     ),
     (b"\x57\x43", &[Code(Err(OTHER))], 0),
 ];

@@ -380,7 +380,7 @@ const NONE: &[(&[u8], &str, Answer, usize)] = &[
     (b"\x57", "E", InvalidFormatCode, 0),
     (b"\xe0\x01\0", "E", InvalidFormatCode, 0),
     (b"\x52", "E", UNEXPECTED_EOF, 1),
-    (b"\xa1\x01\xff", "E", InvalidUtf8Encoding, 3),
+    (b"\xa1\x01\xff", "E", InvalidUtf8Encoding, 2),
     (b"\xc1\x05\x04\x52\x01\x52\x0d", "E", InvalidLength, 3),
     (b"\xc0\x03\x01\x52\x01", "E", InvalidLength, 3),
     (b"\xc1\x01\x01", "E", InvalidLength, 3),

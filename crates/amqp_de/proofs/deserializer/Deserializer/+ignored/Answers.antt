@@ -1,4 +1,4 @@
-use Rattle.std.proofs.Common.{◌≡◌, ◌+◌, ◌-◌, suc, false, true, arith, refl, ap}
+use Rattle.std.proofs.Common.{◌≡◌, ◌-◌, suc, true, arith, refl, ap}
 use Rattle.amqp_de.specs.Decoding.{Decoding}
 use Rattle.amqp_de.specs.Ignored.{nested, ignored_refusal, anything, none_passed, one_passed}
 use Rattle.amqp_de.proofs.DescribedRead.{described_missed, undescribed, described_named, undescribed_named}

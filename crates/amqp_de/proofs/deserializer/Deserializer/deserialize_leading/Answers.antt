@@ -1,6 +1,4 @@
-use Rattle.std.proofs.Common.{rules, refl, sym, ◌∙◌, ◌||◌, arith, []}
-use Rattle.std.proofs.lemmas.List.{append-nil}
-use Rattle.amqp_de.specs.ReadLeading.{LeadingProgress}
+use Rattle.std.proofs.Common.{rules, refl, arith}
 use Rattle.amqp_de.specs.ReadParts.{open_list}
 use Rattle.amqp_de.proofs.LeftOut.{leading_unopened, leading_surplus, leading_opened, leading_values, no_leading_end}
 use Rattle.amqp_de.proofs.NamedLeftOut.{leading_unopened_as, leading_of_more, leading_named}

@@ -1,6 +1,4 @@
-use Rattle.std.proofs.Common.{rules, refl}
-use Rattle.amqp_de.proofs.LeftOut.{leading_found}
-use Rattle.amqp_de.proofs.NamedLeftOut.{leading_named}
+use Rattle.std.proofs.Common.{refl}
 use Rattle.amqp_de.proofs.deserializer.Deserializer.read_null.Goals as goal
 
 pub returns-in-Ok-clause-ok : goal.returns-in-Ok-clause-ok

@@ -1,4 +1,4 @@
-use Rattle.std.proofs.Common.{rules, ◌≡◌, ◌||◌, false, refl, ap, ◌∙◌}
+use Rattle.std.proofs.Common.{◌≡◌, ◌||◌, false, refl, ap, ◌∙◌}
 use Rattle.amqp_de.specs.Access.{Listing}
 use Rattle.amqp_de.specs.ReadParts.{open_list}
 use Rattle.amqp_de.proofs.LeftOut.{leading_more, leading_missed, leading_had, leading_row_more, leading_row_null, null_meant, null_on, null_missed, none_is}

@@ -1,16 +1,14 @@
 -- The number's own constructor, and its data.
-use Rattle.std.proofs.Common.{◌≡◌, [], ◌∷◌, refl, sym, subst, arith, slice_index_or}
+use Rattle.std.proofs.Common.{[], ◌∷◌, refl, arith, slice_index_or}
 use Rattle.amqp_base.specs.Codes.{row, code_of}
 use Rattle.amqp_base.specs.SameKind.{same_kind, place}
 use Rattle.amqp_base.specs.Item.{scalar, ulong}
 use Rattle.amqp_base.specs.Value.{payload, read}
-use Rattle.amqp_base.specs.Wire.{under}
 use Rattle.amqp_base.specs.declared.format_code.EncodingCodes.TheVariants.{Ulong, SmallUlong, Ulong0}
 use Rattle.amqp_data.proofs.FixedWidth.{fixed_spells}
 use Rattle.amqp_data.proofs.ByteNumbers.{number_1}
-use Rattle.amqp_de.specs.Many.{IsElement}
 use Rattle.amqp_de.proofs.Many.{behind_code, second}
-use Rattle.amqp_de.proofs.blocks.U64Wide8.at_front.Goals as goal
+use Rattle.amqp_de.proofs.numbers.U64Wide8.at_front.Goals as goal
 
 pub returns-in-128-clause-number : goal.returns-in-128-clause-number
 unfolding row code_of
@@ -20,7 +18,7 @@ pub returns-in-83-clause-number : goal.returns-in-83-clause-number
 unfolding row code_of payload read same_kind place
 returns-in-83-clause-number c = λ _.
     let n = slice_index_or c.args.bytes.now 1 0 in
-    behind_code _ SmallUlong 1 83 c.args.bytes.now n refl c.in-83.is c.requires (rw (second c.args.bytes.now c.requires) record {
+    behind_code _ SmallUlong 1 83 c.args.bytes.now n refl c.in-83.is c.requires (rw (second c.args.bytes.now c.if-bytes-ge2.true) record {
       item = scalar (ulong n);
       spelled = fixed_spells SmallUlong 1 (n ∷ []) (ulong n) refl refl (rw (number_1 n) refl);
       taken = refl;

@@ -7,7 +7,7 @@ use Rattle.amqp_base.specs.Value.{payload, read}
 use Rattle.amqp_base.specs.declared.format_code.EncodingCodes.TheVariants.{Int}
 use Rattle.amqp_data.proofs.FixedWidth.{fixed_spells}
 use Rattle.amqp_data.proofs.ByteNumbers.{be_signed}
-use Rattle.amqp_de.proofs.blocks.I32Wide4.of_data.Goals as goal
+use Rattle.amqp_de.proofs.numbers.I32Wide4.of_data.Goals as goal
 
 pub returns : goal.returns
 unfolding row payload read same_kind place

@@ -6,7 +6,7 @@ use Rattle.amqp_base.specs.Value.{payload, read}
 use Rattle.amqp_base.specs.declared.format_code.EncodingCodes.TheVariants.{Ulong}
 use Rattle.amqp_data.proofs.FixedWidth.{fixed_spells}
 use Rattle.amqp_data.proofs.ByteNumbers.{be_number}
-use Rattle.amqp_de.proofs.blocks.U64Wide8.of_data.Goals as goal
+use Rattle.amqp_de.proofs.numbers.U64Wide8.of_data.Goals as goal
 
 pub returns : goal.returns
 unfolding row payload read same_kind place

@@ -1,15 +1,14 @@
-use Rattle.std.proofs.Common.{ℕ, ◌≡◌, ◌+◌, ◌-◌, ◌*◌, ◌≤◌, take, vec_len, vec_capacity}
+use Rattle.std.proofs.Common.{◌≡◌, ◌+◌, ◌-◌, ◌≤◌, take, length, vec_len, vec_capacity}
 use Rattle.amqp_base.specs.Wire.{bare}
 use Rattle.amqp_de.specs.Many.{PutBehind}
-use Rattle.amqp_de.proofs.blocks.push_front.Given as goal
+use Rattle.amqp_de.proofs.numbers.push_front.Given as goal
 
 abbrev pub invariant-loop-many : goal.invariant-loop-many
 invariant-loop-many g l = record {
-  put : PutBehind g.T.Typed.meaning bare (take l.at l.block) l.many l.initial.items.items l.items.items;
+  put : PutBehind g.T.Typed.meaning bare (take l.at l.bytes) l.many l.initial.items.items l.items.items;
   so_many : vec_len l.items ≡ vec_len l.initial.items + l.many;
   room : vec_capacity l.items ≡ vec_capacity l.initial.items;
-  within : l.at ≤ l.shown;
-  long : l.at ≤ l.many * 9;
+  within : l.at ≤ length l.bytes;
   few : l.many ≤ l.most;
 }
 

@@ -1,5 +1,5 @@
 -- The number's own constructor, and its data.
-use Rattle.std.proofs.Common.{◌≡◌, [], ◌∷◌, refl, rules, arith, slice_index_or, to_z, of_z, w8, w32}
+use Rattle.std.proofs.Common.{[], ◌∷◌, refl, rules, arith, slice_index_or, to_z, of_z, w8, w32}
 use Rattle.std.proofs.lemmas.Int.{to_z-of_z}
 use mir.Val.{SFits}
 use Rattle.amqp_base.specs.Codes.{row, code_of}
@@ -9,9 +9,8 @@ use Rattle.amqp_base.specs.Value.{payload, read}
 use Rattle.amqp_base.specs.declared.format_code.EncodingCodes.TheVariants.{Int, SmallInt}
 use Rattle.amqp_data.proofs.FixedWidth.{fixed_spells}
 use Rattle.amqp_data.proofs.ByteNumbers.{be_widened}
-use Rattle.amqp_de.specs.Many.{IsElement}
 use Rattle.amqp_de.proofs.Many.{behind_code, second}
-use Rattle.amqp_de.proofs.blocks.I32Wide4.at_front.Goals as goal
+use Rattle.amqp_de.proofs.numbers.I32Wide4.at_front.Goals as goal
 
 pub returns-in-113-clause-number : goal.returns-in-113-clause-number
 unfolding row code_of
@@ -27,7 +26,7 @@ returns-in-84-clause-number c = λ _.
     let f : SFits w8 z = search rules in
     let n = slice_index_or c.args.bytes.now 1 0 in
     let v = to_z w32 (of_z w32 (to_z w8 (of_z w8 z))) in
-    behind_code _ SmallInt 1 84 c.args.bytes.now _ refl c.in-84.is c.requires (rw (second c.args.bytes.now c.requires) record {
+    behind_code _ SmallInt 1 84 c.args.bytes.now _ refl c.in-84.is c.requires (rw (second c.args.bytes.now c.if-bytes-ge2.true) record {
       item = scalar (int v);
       spelled = fixed_spells SmallInt 1 (n ∷ []) (int v) refl refl (rw (be_widened w32 (n ∷ []) z refl c.from_be_bytes.ensures f) refl);
       taken = refl;

@@ -1,7 +1,7 @@
 use Rattle.std.proofs.Common.{◌≡◌, ◌+◌, ◌*◌, take, vec_len, vec_capacity}
 use Rattle.amqp_base.specs.Wire.{under}
 use Rattle.amqp_de.specs.Many.{PutBehind}
-use Rattle.amqp_de.proofs.blocks.push_all.Given as goal
+use Rattle.amqp_de.proofs.numbers.push_all.Given as goal
 
 abbrev pub invariant-loop-k : goal.invariant-loop-k
 invariant-loop-k g l = record {

@@ -1,10 +1,10 @@
 -- One number after the other.
-use Rattle.std.proofs.Common.{◌≡◌, ℕ, ◌+◌, ◌-◌, ◌*◌, ◌<◌, ◌≤◌, ◌⊎◌, inl, inr, refl, sym, ap, subst, ◌∙◌, arith, [], take, length}
+use Rattle.std.proofs.Common.{◌≡◌, ℕ, ◌+◌, ◌-◌, ◌*◌, ◌⊎◌, inl, inr, refl, sym, ap, subst, ◌∙◌, arith, [], take}
 use Rattle.std.proofs.lemmas.List.{append-nil, take_all}
 use Rattle.amqp_base.specs.Wire.{under}
 use Rattle.amqp_de.specs.Many.{PutBehind}
 use Rattle.amqp_de.proofs.Many.{put_more}
-use Rattle.amqp_de.proofs.blocks.push_all.Goals as goal
+use Rattle.amqp_de.proofs.numbers.push_all.Goals as goal
 
 -- the data of one number more
 further : (w k : ℕ) → (w ≡ 4) ⊎ (w ≡ 8) → (k + 1) * w ≡ k * w + w

@@ -4,7 +4,7 @@ use Rattle.std.proofs.lemmas.List.{append-nil}
 use Rattle.amqp_de.specs.Many.{AreRead}
 use Rattle.amqp_de.specs.ReadParts.{open_list}
 use Rattle.amqp_de.proofs.Many.{read_then}
-use Rattle.amqp_de.proofs.blocks.Access+R+Elements.read_many.Goals as goal
+use Rattle.amqp_de.proofs.numbers.Access+R+Elements.read_many.Goals as goal
 
 pub many-init : goal.many-init
 unfolding open_list

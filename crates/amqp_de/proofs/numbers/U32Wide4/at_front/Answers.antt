@@ -1,16 +1,14 @@
 -- The number's own constructor, and its data.
-use Rattle.std.proofs.Common.{◌≡◌, [], ◌∷◌, refl, sym, subst, arith, slice_index_or}
+use Rattle.std.proofs.Common.{[], ◌∷◌, refl, arith, slice_index_or}
 use Rattle.amqp_base.specs.Codes.{row, code_of}
 use Rattle.amqp_base.specs.SameKind.{same_kind, place}
 use Rattle.amqp_base.specs.Item.{scalar, uint}
 use Rattle.amqp_base.specs.Value.{payload, read}
-use Rattle.amqp_base.specs.Wire.{under}
 use Rattle.amqp_base.specs.declared.format_code.EncodingCodes.TheVariants.{Uint, SmallUint, Uint0}
 use Rattle.amqp_data.proofs.FixedWidth.{fixed_spells}
 use Rattle.amqp_data.proofs.ByteNumbers.{number_1}
-use Rattle.amqp_de.specs.Many.{IsElement}
 use Rattle.amqp_de.proofs.Many.{behind_code, second}
-use Rattle.amqp_de.proofs.blocks.U32Wide4.at_front.Goals as goal
+use Rattle.amqp_de.proofs.numbers.U32Wide4.at_front.Goals as goal
 
 pub returns-in-112-clause-number : goal.returns-in-112-clause-number
 unfolding row code_of
@@ -20,7 +18,7 @@ pub returns-in-82-clause-number : goal.returns-in-82-clause-number
 unfolding row code_of payload read same_kind place
 returns-in-82-clause-number c = λ _.
     let n = slice_index_or c.args.bytes.now 1 0 in
-    behind_code _ SmallUint 1 82 c.args.bytes.now n refl c.in-82.is c.requires (rw (second c.args.bytes.now c.requires) record {
+    behind_code _ SmallUint 1 82 c.args.bytes.now n refl c.in-82.is c.requires (rw (second c.args.bytes.now c.if-bytes-ge2.true) record {
       item = scalar (uint n);
       spelled = fixed_spells SmallUint 1 (n ∷ []) (uint n) refl refl (rw (number_1 n) refl);
       taken = refl;

@@ -1,7 +1,7 @@
 use Rattle.std.proofs.Common.{◌≡◌, List, ◌++◌}
 use Rattle.amqp_de.specs.Many.{AreRead}
 use Rattle.amqp_de.specs.Seq.{listing}
-use Rattle.amqp_de.proofs.blocks.Access+R+Elements.read_many.Given as goal
+use Rattle.amqp_de.proofs.numbers.Access+R+Elements.read_many.Given as goal
 
 abbrev pub invariant-many : goal.invariant-many
 invariant-many g l = record {

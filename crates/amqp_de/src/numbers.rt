@@ -18,17 +18,8 @@ use amqp_base::{EncodingCodes, Error, Typed, codes};
 use amqp_data::{Constructor, Limit};
 use amqp_read::Read;
 
-/// So many elements are read at a time.
-const MANY: usize = 32;
-
-/// Room for the data of so many, of eight bytes at most.
-const ROOM: usize = 256;
-
 /// The most bytes of a number with its own constructor.
 pub(crate) const LONGEST: usize = 9;
-
-/// So many of such numbers fit into the room, however long they are.
-const MANY_LONG: usize = 28;
 
 /// A number whose data take `W` bytes under its widest code.
 pub(crate) trait Wide<const W: usize>: Typed + Copy {
@@ -44,10 +35,10 @@ pub(crate) trait Wide<const W: usize>: Typed + Copy {
         ensures { IsElement Self.meaning (under Self.widest) bytes.now result };
 
     /// The number at the front of the bytes with a constructor of its own, and how many bytes it
-    /// is; 0 where none stands there.
+    /// is; 0 where none stands there as a whole.
     fn at_front(bytes: &[u8]) -> (Self, usize)
-        requires { length bytes.now ≡ 9 }
-        ensures few { result.1 ≤ 9 }
+        requires { 0 < length bytes.now }
+        ensures few { result.1 ≤ length bytes.now }
         ensures number { 0 < result.1 →
             IsElement Self.meaning bare (take result.1 bytes.now) result.0 };
 }
@@ -73,8 +64,8 @@ impl Wide<4> for i32 {
     #[inline(always)]
     fn at_front(bytes: &[u8]) -> (i32, usize) {
         match bytes[0] {
-            codes::INT => (Self::of_data(&bytes[1..5]), 5),
-            codes::SMALL_INT => (i8::from_be_bytes([bytes[1]]) as i32, 2),
+            codes::INT if bytes.len() >= 5 => (Self::of_data(&bytes[1..5]), 5),
+            codes::SMALL_INT if bytes.len() >= 2 => (i8::from_be_bytes([bytes[1]]) as i32, 2),
             _ => (0, 0),
         }
     }
@@ -101,8 +92,8 @@ impl Wide<4> for u32 {
     #[inline(always)]
     fn at_front(bytes: &[u8]) -> (u32, usize) {
         match bytes[0] {
-            codes::UINT => (Self::of_data(&bytes[1..5]), 5),
-            codes::SMALL_UINT => (bytes[1] as u32, 2),
+            codes::UINT if bytes.len() >= 5 => (Self::of_data(&bytes[1..5]), 5),
+            codes::SMALL_UINT if bytes.len() >= 2 => (bytes[1] as u32, 2),
             codes::UINT0 => (0, 1),
             _ => (0, 0),
         }
@@ -130,8 +121,8 @@ impl Wide<8> for u64 {
     #[inline(always)]
     fn at_front(bytes: &[u8]) -> (u64, usize) {
         match bytes[0] {
-            codes::ULONG => (Self::of_data(&bytes[1..9]), 9),
-            codes::SMALL_ULONG => (bytes[1] as u64, 2),
+            codes::ULONG if bytes.len() >= 9 => (Self::of_data(&bytes[1..9]), 9),
+            codes::SMALL_ULONG if bytes.len() >= 2 => (bytes[1] as u64, 2),
             codes::ULONG0 => (0, 1),
             _ => (0, 0),
         }
@@ -165,29 +156,26 @@ fn push_all<T: Wide<W>, const W: usize>(bytes: &[u8], many: usize, items: &mut V
     }
 }
 
-/// Puts the numbers that stand at the front of the first `shown` bytes of a block, each with its
-/// own constructor, behind the others, as long as there are such, so many at most, for which there
-/// is room: how many they are, and how many bytes. What stands behind the first bytes says nothing.
+/// Puts the numbers that stand at the front of the bytes, each with its own constructor, behind the
+/// others, as long as there are such, so many at most, for which there is room: how many they are,
+/// and how many bytes.
 #[inline(always)]
 fn push_front<T: Wide<W>, const W: usize>(
-    block: &[u8],
-    shown: usize,
+    bytes: &[u8],
     most: usize,
     items: &mut Vec<T>,
 ) -> (usize, usize)
-    requires shown { shown ≤ length block.now }
-    requires long { most * 9 ≤ length block.now }
     requires room { vec_len items.old + most ≤ vec_capacity items.old }
     ensures few { result.0 ≤ most }
-    ensures within { result.1 ≤ shown }
-    ensures put { PutBehind T.meaning bare (take result.1 (take shown block.now)) result.0
+    ensures within { result.1 ≤ length bytes.now }
+    ensures put { PutBehind T.meaning bare (take result.1 bytes.now) result.0
         items.old.items items.new.items }
 {
     let mut many = 0;
     let mut at = 0;
-    while many < most {
-        let (number, len) = T::at_front(&block[at..at + LONGEST]);
-        if len == 0 || len > shown - at {
+    while many < most && at < bytes.len() {
+        let (number, len) = T::at_front(&bytes[at..]);
+        if len == 0 {
             break;
         }
         items.push_reserved(number);
@@ -232,15 +220,14 @@ impl<R: Read> Deserializer<R> {
         ensures { ReadsMany T.meaning (at_open self.old inner.old) items.old.items result
             (at_open self.new inner.new) items.new.items }
     {
-        let most = MANY.min(inner.left as usize);
-        if most == 0 || self.ended {
+        if inner.left == 0 || self.ended {
             return Ok(false);
         }
         if self.is_bare() {
-            return self.next_plain::<T, W>(most, inner, items);
+            return self.next_plain::<T, W>(inner, items);
         }
         if self.is_under::<T, W>() {
-            return self.next_data::<T, W>(most, inner, items);
+            return self.next_data::<T, W>(inner, items);
         }
         Ok(false)
     }
@@ -271,37 +258,33 @@ impl<R: Read> Deserializer<R> {
     #[inline(always)]
     fn next_data<T: Wide<W>, const W: usize>(
         &mut self,
-        many: usize,
         inner: &mut Open,
         items: &mut Vec<T>,
     ) -> Result<bool, Error>
         requires width { (W ≡ 4) ⊎ (W ≡ 8) }
-        requires few { many ≤ 32 }
-        requires some { 0 < many }
-        requires left { many ≤ inner.old.left }
         requires answers { self.old.ended ≡ false }
         requires code { self.old.inherited ≡ under T.widest }
         ensures { ReadsMany T.meaning (at_open self.old inner.old) items.old.items result
             (at_open self.new inner.new) items.new.items }
     {
-        if bytes_left(self.reader.bytes_consumed(), &inner.limit) < many * W {
-            return Ok(false);
-        }
-        if self.reader.at_hand() < many * W {
+        let left = bytes_left(self.reader.bytes_consumed(), &inner.limit);
+        let bytes = self.reader.bytes_at_hand();
+        let many = (inner.left as usize).min(left.min(bytes.len()) / W);
+        if many == 0 {
             return Ok(false);
         }
         if items.reserve(many).is_err() {
             return Err(Error::OutOfMemory);
         }
-        let mut block = [0u8; ROOM];
-        let bytes = &mut block[..many * W];
-        if !self.reader.take_at_hand(bytes) {
+        let before = items.len();
+        push_all::<T, W>(&bytes[..many * W], many, items);
+        if !self.reader.pass_at_hand(many * W) {
+            items.truncate(before);
             return Ok(false);
         }
         self.described = false;
         self.begun.ticks(many);
         inner.left -= many as u32;
-        push_all::<T, W>(bytes, many, items);
         Ok(true)
     }
 
@@ -309,30 +292,25 @@ impl<R: Read> Deserializer<R> {
     #[inline(always)]
     fn next_plain<T: Wide<W>, const W: usize>(
         &mut self,
-        most: usize,
         inner: &mut Open,
         items: &mut Vec<T>,
     ) -> Result<bool, Error>
-        requires few { most ≤ 32 }
-        requires left { most ≤ inner.old.left }
         requires answers { self.old.ended ≡ false }
         requires code { self.old.inherited ≡ bare }
         ensures { ReadsMany T.meaning (at_open self.old inner.old) items.old.items result
             (at_open self.new inner.new) items.new.items }
     {
-        if inner.limit.is_some() || self.reader.at_hand() < 2 {
+        if inner.limit.is_some() {
             return Ok(false);
         }
-        let most = most.min(MANY_LONG);
+        let bytes = self.reader.bytes_at_hand();
+        let most = (inner.left as usize).min(bytes.len());
         if items.reserve(most).is_err() {
             return Err(Error::OutOfMemory);
         }
-        let mut block = [0u8; ROOM];
-        let shown = self.reader.show_at_hand(&mut block);
         let before = items.len();
-        let (found, len) = push_front::<T, W>(&block, shown, most, items);
-        let mut taken = [0u8; ROOM];
-        if found == 0 || !self.reader.take_at_hand(&mut taken[..len]) {
+        let (found, len) = push_front::<T, W>(bytes, most, items);
+        if found == 0 || !self.reader.pass_at_hand(len) {
             items.truncate(before);
             return Ok(false);
         }
