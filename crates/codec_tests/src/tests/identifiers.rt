@@ -223,7 +223,7 @@ const CUT: &[(&[u8], &[Call], usize)] = &[
             Identified(Err(InvalidUtf8Encoding)),
             Ignored(Err(InvalidValue)),
         ],
-        3,
+        2,
     ),
 ];
 
