@@ -7,13 +7,15 @@ ghost use Rattle.amqp_de.specs.Seq.{at_open};
 
 use crate::Deserializer;
 use crate::list::{Access, Open};
-use crate::numbers::LONGEST;
 use amqp_base::Error;
 use amqp_data::least_width;
 use amqp_read::Read;
 
 /// So few bytes cost less where they are asked for one by one.
 const FEW: usize = 4;
+
+/// The most bytes of a number with its own constructor.
+const LONGEST: usize = 9;
 
 impl<R: Read, F> Access<'_, R, F> {
     /// Receives some bytes of the parts that are left, where few are at hand, and no byte behind

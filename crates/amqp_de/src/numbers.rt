@@ -18,9 +18,6 @@ use amqp_base::{EncodingCodes, Error, Typed, codes};
 use amqp_data::{Constructor, Limit};
 use amqp_read::Read;
 
-/// The most bytes of a number with its own constructor.
-pub(crate) const LONGEST: usize = 9;
-
 /// A number whose data take `W` bytes under its widest code.
 pub(crate) trait Wide<const W: usize>: Typed + Copy {
     ghost widest: { EncodingCodes };

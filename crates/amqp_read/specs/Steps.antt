@@ -105,3 +105,8 @@ HasJust n (Some s) = n ≡ length s
 abbrev pub AtHand : Bool → ℕ → Reading → Type 0
 AtHand true n r = n ≡ length r.received
 AtHand false n r = HasJust n r.to_come
+
+-- n bytes can't be consumed unless a source is asked: fewer are at hand, or they can't be counted
+abbrev pub NotAtHand : Bool → ℕ → Reading → Type 0
+NotAtHand true n r = (length r.received < n) ⊎ (2 ^ 64 ≤ r.taken + n)
+NotAtHand false n r = IsShort n r

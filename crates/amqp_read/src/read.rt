@@ -7,7 +7,7 @@ ghost use Rattle.std.specs.Prelude.{MatchOption, string_bytes};
 ghost use Rattle.amqp_read.specs.Reading.{Reading, Stays, Takes};
 ghost use Rattle.amqp_read.specs.Steps.{Shows, MayCome, Ended, IsShort, Fails, NotTaken};
 ghost use Rattle.amqp_read.specs.Steps.{PassesCount, Holds, Looked, AtHand, ShowsBehind, NotSeen};
-ghost use Rattle.amqp_read.specs.Steps.{Passes, PassesSome, Failed};
+ghost use Rattle.amqp_read.specs.Steps.{Passes, PassesSome, Failed, NotAtHand};
 ghost use Rattle.amqp_read.specs.Raw.{TakesValue, TakesStrict, NoValue, HasValue};
 ghost use Rattle.amqp_read.specs.Raw.{ValuePassesCount, MeasuresValue, Measures, NoScalar};
 ghost use Rattle.amqp_read.specs.Raw.{SeesNumber, Sees};
@@ -170,14 +170,16 @@ pub trait Read: sealed::Sealed + Drop {
     /// The bytes at hand. All of them stay.
     #[doc(hidden)]
     fn bytes_at_hand(&self) -> &[u8]
-        ensures { Shows (reading self.now) result.now };
+        ensures shown { Shows (reading self.now) result.now }
+        ensures all { AtHand buffers (length result.now) (reading self.now) };
 
-    /// Consumes the next `n` bytes, where all of them are at hand; else nothing changes. No source
-    /// is asked.
+    /// Consumes the next `n` bytes, where all of them are at hand and can be counted; else nothing
+    /// changes. No source is asked.
     #[doc(hidden)]
     fn pass_at_hand(&mut self, n: usize) -> bool
         ensures passed { IsTrue result → Passes n (reading self.old) (reading self.new) }
-        ensures else_kept { result ≡ false → reading self.new ≡ reading self.old };
+        ensures else_kept { result ≡ false → reading self.new ≡ reading self.old }
+        ensures else_few { result ≡ false → NotAtHand buffers n (reading self.old) };
 
     /// Receives some of the next `n` bytes where fewer are at hand, so that later calls need not
     /// ask for each of them alone. All of them stay. Over a slice there is nothing to do.

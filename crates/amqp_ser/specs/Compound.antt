@@ -1,5 +1,5 @@
 -- What contracts see of an open compound.
-use Rattle.std.specs.Prelude.{◌≡◌, ◌⊎◌, ◌-◌, ◌<◌, Ok, ℕ, ◌≤◌, ◌+◌, ◌++◌, set, Bool, true, false, List, [], ◌∷◌, ◌==◌, ◌%◌, if◌then◌else◌, length, Option, Some, None, Result, Err, IfErr, OnErr, OnOk}
+use Rattle.std.specs.Prelude.{◌≡◌, ◌≢◌, ◌⊎◌, ◌-◌, ◌<◌, Ok, ℕ, ◌≤◌, ◌+◌, ◌++◌, set, Bool, true, false, List, [], ◌∷◌, ◌==◌, ◌%◌, if◌then◌else◌, length, Option, Some, None, Result, Err, IfErr, OnErr, OnOk}
 use Rattle.std.specs.declared.io.Write as Write
 use Rattle.std.specs.declared.vec.Vec.{Vec}
 use Rattle.std.specs.Global.{Global}
@@ -266,3 +266,15 @@ pub record WritesEach {A : Type 0} (is : List Item) (q : Open) (r : Result A Err
   pub err : IfErr r (λ e. (s : State) (shape : Shape) (xs all : List Item) → Holds s shape xs q → BeginsWith all (xs ++ is) → Refused s (whole shape all) e t)
   pub kept : Keeps q p
   pub stops : EndsCompound q r p
+
+-- these keys and values were written behind those of the map q, which is p then, or refused with its serializer in the state t; whether a value is awaited is as it should be, else they are refused
+pub record WritesEntries {A : Type 0} (awaited : Bool) (is : List Item) (q : Open) (r : Result A Error) (t : State) (p : Open) : Type 0 where
+  pub ok : OnOk r ((s : State) (xs : List Item) → Holds s Shape.Map xs q → Holds s Shape.Map (xs ++ is) p)
+  pub err : IfErr r (λ e. (s : State) (xs all : List Item) → Holds s Shape.Map xs q → awaits_value xs ≡ awaited → BeginsWith all (xs ++ is) → awaits_value all ≡ false → Refused s (whole Shape.Map all) e t)
+  pub turn : (s : State) (xs : List Item) → Holds s Shape.Map xs q → awaits_value xs ≢ awaited → r ≡ Err InvalidValue
+  pub kept : Keeps q p
+  pub stops : EndsCompound q r p
+
+-- the same of a serializer of a map
+abbrev pub WritesInMap : {W A : Type 0} → Write.Ghosts W → FaultCount.Ghosts W → Bool → List Item → Compound W Entries Parts → Result A Error → Compound W Entries Parts → Type 0
+WritesInMap w f awaited is q r p = WritesEntries awaited is (map_state w f q) r (state w f p.ser.now) (map_state w f p)

@@ -1,17 +1,21 @@
 -- The variants of an enum whose fields are written one by one.
-use Rattle.std.specs.Prelude.{◌≡◌, ℕ, true, false, List, [], ◌∷◌, Result, IfErr}
+use Rattle.std.specs.Prelude.{◌≡◌, ◌≢◌, ℕ, true, false, List, [], ◌∷◌, ◌++◌, length, Result, Err, IfErr, OnOk}
 use Rattle.std.specs.declared.io.Write as Write
 use Rattle.std.specs.declared.vec.Vec.{Vec}
 use Rattle.std.specs.Global.{Global}
 use Rattle.amqp_base.specs.declared.fault.FaultCount as FaultCount
 use Rattle.amqp_base.specs.declared.error.Error.{Error}
+use Rattle.amqp_base.specs.declared.error.Error.TheVariants.{InvalidValue, SequenceLengthMismatch}
+use Rattle.amqp_base.specs.declared.shape.Setting.{Setting}
+use Rattle.amqp_base.specs.declared.shape.Setting.TheVariants.{Plain}
 use Rattle.amqp_base.specs.Item.{Item, scalar, uint}
 pub use Rattle.amqp_base.specs.VariantItems.{unit_item, variant_item, fields_item}
 use Rattle.amqp_base.specs.declared.shape.Shape.{Shape}
 use Rattle.amqp_write.specs.declared.pass.Opened.{Opened}
 use Rattle.amqp_ser.specs.State.{State, state}
-use Rattle.amqp_ser.specs.Law.{Refused, Stops}
-use Rattle.amqp_ser.specs.Compound.{Open, Holds, EndsCompound, open_parts, the_buffer, outside_in}
+use Rattle.amqp_ser.specs.Law.{Wrote, Refused, Stops}
+use Rattle.amqp_ser.specs.Compound.{Open, Holds, BeginsWith, EndsCompound, open_parts, the_buffer, outside_in}
+use Rattle.amqp_ser.specs.Staged.{StaysHeld, EndsHeld}
 use Rattle.amqp_ser.specs.declared.compound.Compound.{Compound}
 use Rattle.amqp_ser.specs.declared.compound.Parts.{Parts}
 use Rattle.amqp_ser.specs.declared.paired.Paired.{Paired}
@@ -67,3 +71,18 @@ VariantEnded q = q.parts.fields.buffer.place.ended ≡ true
 pub record RefusesVariant {A : Type 0} (index len : ℕ) (s : State) (r : Result A Error) (t : State) : Type 0 where
   pub law : IfErr r (λ e. (xs : List Item) → Refused s (fields_item index len xs) e t)
   pub stops : Stops s r t
+
+-- one more field was written behind those that it has, or refused as any variant that begins with all of them
+pub record WritesVariantField {W F A : Type 0} (w : Write.Ghosts W) (f : FaultCount.Ghosts W) (item : Setting → Item) (p : Compound W F Paired) (r : Result A Error) (q : Compound W F Paired) : Type 0 where
+  pub ok : OnOk r ((s : State) (index len : ℕ) (xs : List Item) → HasVariant w f s index len xs p → HasVariant w f s index len (xs ++ item Plain ∷ []) q)
+  pub err : IfErr r (λ e. (s : State) (index len : ℕ) (xs all : List Item) → HasVariant w f s index len xs p → BeginsWith all (xs ++ item Plain ∷ []) → Refused s (fields_item index len all) e (state w f q.ser.now))
+  pub kept : StaysHeld (state w f p.ser.now) (state w f q.ser.now)
+  pub stops : EndsVariant w f p r q
+
+-- the pair of its index and its fields was written, or refused; then its serializer is in the state t
+pub record EndsPair {W F A : Type 0} (w : Write.Ghosts W) (f : FaultCount.Ghosts W) (p : Compound W F Paired) (r : Result A Error) (t : State) : Type 0 where
+  pub ok : OnOk r ((s : State) (index len : ℕ) (xs : List Item) → HasVariant w f s index len xs p → Wrote s (fields_item index len xs) t)
+  pub err : IfErr r (λ e. (s : State) (index len : ℕ) (xs : List Item) → HasVariant w f s index len xs p → length xs ≡ len → Refused s (fields_item index len xs) e t)
+  pub lacking : (s : State) (index len : ℕ) (xs : List Item) → HasVariant w f s index len xs p → length xs ≢ len → r ≡ Err SequenceLengthMismatch
+  pub kept : EndsHeld (state w f p.ser.now) r t
+  pub ended : VariantEnded p → r ≡ Err InvalidValue

@@ -1,7 +1,7 @@
 //! Values that are written many at a time.
 
-ghost use Rattle.std.specs.Prelude.{◌≡◌, ◌≢◌, ◌≤◌, IfOk, OnOk};
-ghost use Rattle.std.specs.Prelude.{length, map, take, false};
+ghost use Rattle.std.specs.Prelude.{◌≡◌, ◌≢◌, ◌≤◌, IfOk, OnOk, length, map, take};
+ghost use Rattle.std.specs.Prelude.{false};
 ghost use Rattle.amqp_ser.specs.State.{state};
 ghost use Rattle.amqp_write.specs.Appending.{as_error};
 ghost use Rattle.amqp_write.specs.declared.pass.Opened.TheVariants.{Buffered as IsBuffered};

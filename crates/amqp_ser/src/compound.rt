@@ -1,23 +1,20 @@
 //! What is common to all compounds: their parts so far.
 
 ghost use Rattle.std.specs.Prelude.{◌≡◌, ◌≢◌, ◌+◌, ◌==◌, ◌%◌, ◌++◌};
-ghost use Rattle.std.specs.Prelude.{Some, None, ◌∷◌, ℕ, Bool, List, [], length};
-ghost use Rattle.std.specs.Prelude.{true, false, IfOk, IfErr, OnOk, OnErr, Err};
+ghost use Rattle.std.specs.Prelude.{Some, None, ◌∷◌, Bool, List, [], true, false, IfOk};
+ghost use Rattle.std.specs.Prelude.{IfErr, OnOk, OnErr, Err};
 ghost use Rattle.amqp_base.specs.Item.{Item};
 ghost use Rattle.amqp_base.specs.Shapes.{whole, setting_inside};
 ghost use Rattle.amqp_ser.specs.State.{State, state, answering};
 ghost use Rattle.amqp_write.specs.declared.pass.Opened.TheVariants.{Buffered as IsBuffered};
-ghost use Rattle.amqp_ser.specs.Law.{Wrote, Refused};
+ghost use Rattle.amqp_ser.specs.Law.{Refused};
 ghost use Rattle.amqp_ser.specs.Compound.{the_buffer, open_parts, awaits_value, Empty, Run, Holds};
-ghost use Rattle.amqp_ser.specs.Compound.{Complete, BeginsWith, EndsCompound, Keeps};
-ghost use Rattle.amqp_ser.specs.Compound.{WritesPart, WritesEach, EndsWhole, EndsStruct};
-ghost use Rattle.amqp_ser.specs.Compound.{part_in, outside_in};
-ghost use Rattle.amqp_ser.specs.Compound.{open_state, open_as, lacking, lacks, lacks_value};
-ghost use Rattle.amqp_ser.specs.Staged.{Before, HasFields, HasRow, AwaitsDescriptor, HasEnded};
-ghost use Rattle.amqp_ser.specs.Staged.{struct_under, item_under, lacks_field, lacks_field_of};
-ghost use Rattle.amqp_ser.specs.Staged.{EndRefused, RowEndRefused, EndsHeld};
-ghost use Rattle.amqp_base.specs.Structs.{FieldItem};
-ghost use Rattle.amqp_ser.specs.Variants.{HasVariant, VariantEnded, fields_item};
+ghost use Rattle.amqp_ser.specs.Compound.{Complete, BeginsWith, EndsCompound, Keeps, WritesPart};
+ghost use Rattle.amqp_ser.specs.Compound.{WritesEach, WritesEntries, EndsWhole, EndsStruct};
+ghost use Rattle.amqp_ser.specs.Compound.{part_in, outside_in, open_state, open_as, lacking, lacks};
+ghost use Rattle.amqp_ser.specs.Compound.{lacks_value};
+ghost use Rattle.amqp_ser.specs.Staged.{EndsFields, EndsRow};
+ghost use Rattle.amqp_ser.specs.Variants.{EndsPair};
 
 use crate::answer::answer;
 use crate::paired::end_paired;
@@ -158,22 +155,8 @@ impl<'a, W: Sink> StructSerializer<'a, W> {
     /// the fields have more than 4,294,967,291 bytes. `InvalidValue`: the descriptor is missing, a
     /// call was refused, or the array that the whole is to stand in has other elements.
     pub fn end(self) -> Result<(), Error>
-        ensures ok { OnOk result ((s : State) (b : Before) (fs : List FieldItem) →
-            HasFields W.Write W.FaultCount s b fs self.entry → Wrote s
-            (struct_under b s.setting fs) (state W.Write W.FaultCount self.exit.0.now)) }
-        ensures err { IfErr result (λ e. (s : State) (b : Before) (fs : List FieldItem) →
-            HasFields W.Write W.FaultCount s b fs self.entry →
-            EndRefused s b fs e (state W.Write W.FaultCount self.exit.0.now)) }
-        ensures lacking { (s : State) (b : Before) (fs : List FieldItem) →
-            HasFields W.Write W.FaultCount s b fs self.entry →
-            lacks_field_of b s.setting fs ≡ true →
-            result ≡ Err Error.SequenceLengthMismatch }
-        ensures early { (s : State) (x : _) →
-            AwaitsDescriptor W.Write W.FaultCount s x self.entry →
-            result ≡ Err Error.InvalidValue }
-        ensures kept { EndsHeld (state W.Write W.FaultCount self.entry.ser.now) result
+        ensures { EndsFields W.Write W.FaultCount self.entry result
             (state W.Write W.FaultCount self.exit.0.now) }
-        ensures ended { HasEnded self.entry → result ≡ Err Error.InvalidValue }
     {
         let Compound {
             ser,
@@ -192,22 +175,8 @@ impl<'a, W: Sink> TupleStructSerializer<'a, W> {
     /// the fields have more than 4,294,967,291 bytes. `InvalidValue`: the descriptor is missing, a
     /// call was refused, or the array that the whole is to stand in has other elements.
     pub fn end(self) -> Result<(), Error>
-        ensures ok { OnOk result ((s : State) (b : Before) (xs : List Item) →
-            HasRow W.Write W.FaultCount s b xs self.entry → Wrote s
-            (item_under b Shape.List xs) (state W.Write W.FaultCount self.exit.0.now)) }
-        ensures err { IfErr result (λ e. (s : State) (b : Before) (xs : List Item) →
-            HasRow W.Write W.FaultCount s b xs self.entry →
-            RowEndRefused s b xs e (state W.Write W.FaultCount self.exit.0.now)) }
-        ensures lacking { (s : State) (b : Before) (xs : List Item) →
-            HasRow W.Write W.FaultCount s b xs self.entry →
-            lacks_field b xs ≡ true →
-            result ≡ Err Error.SequenceLengthMismatch }
-        ensures early { (s : State) (x : _) →
-            AwaitsDescriptor W.Write W.FaultCount s x self.entry →
-            result ≡ Err Error.InvalidValue }
-        ensures kept { EndsHeld (state W.Write W.FaultCount self.entry.ser.now) result
+        ensures { EndsRow W.Write W.FaultCount self.entry result
             (state W.Write W.FaultCount self.exit.0.now) }
-        ensures ended { HasEnded self.entry → result ≡ Err Error.InvalidValue }
     {
         let Compound {
             ser,
@@ -227,19 +196,8 @@ impl<'a, W: Sink> VariantSerializer<'a, W> {
     /// `InvalidValue`: a field was refused, or the array that the whole is to stand in has other
     /// elements.
     pub fn end(self) -> Result<(), Error>
-        ensures ok { OnOk result ((s : State) (index len : ℕ) (xs : List Item) →
-            HasVariant W.Write W.FaultCount s index len xs self.entry →
-            Wrote s (fields_item index len xs) (state W.Write W.FaultCount self.exit.0.now)) }
-        ensures err { IfErr result (λ e. (s : State) (index len : ℕ) (xs : List Item) →
-            HasVariant W.Write W.FaultCount s index len xs self.entry → length xs ≡ len →
-            Refused s (fields_item index len xs) e
-            (state W.Write W.FaultCount self.exit.0.now)) }
-        ensures lacking { (s : State) (index len : ℕ) (xs : List Item) →
-            HasVariant W.Write W.FaultCount s index len xs self.entry → length xs ≢ len →
-            result ≡ Err Error.SequenceLengthMismatch }
-        ensures kept { EndsHeld (state W.Write W.FaultCount self.entry.ser.now) result
+        ensures { EndsPair W.Write W.FaultCount self.entry result
             (state W.Write W.FaultCount self.exit.0.now) }
-        ensures ended { VariantEnded self.entry → result ≡ Err Error.InvalidValue }
     {
         let Compound {
             ser,
@@ -560,23 +518,10 @@ pub(crate) fn write_in_turn<W: Sink, T: Serialize>(
     is_value: bool,
     part: &T,
 ) -> Result<(), Error>
-    ensures ok { OnOk result ((s : State) (xs : List Item) →
-        Holds s Shape.Map xs (open_parts true (state W.Write W.FaultCount ser.old) parts.old) →
-        Holds s Shape.Map (xs ++ T.meaning.item part.now Setting.Plain ∷ [])
-        (open_parts true (state W.Write W.FaultCount ser.new) parts.new)) }
-    ensures err { IfErr result (λ e. (s : State) (xs all : List Item) →
-        Holds s Shape.Map xs (open_parts true (state W.Write W.FaultCount ser.old) parts.old) →
-        awaits_value xs ≡ is_value →
-        BeginsWith all (xs ++ T.meaning.item part.now Setting.Plain ∷ []) →
-        awaits_value all ≡ false →
-        Refused s (whole Shape.Map all) e (state W.Write W.FaultCount ser.new)) }
-    ensures turn { (s : State) (xs : List Item) →
-        Holds s Shape.Map xs (open_parts true (state W.Write W.FaultCount ser.old) parts.old) →
-        (awaits_value xs ≡ is_value → ⊥) → result ≡ Err Error.InvalidValue }
-    ensures kept { Keeps (open_parts true (state W.Write W.FaultCount ser.old) parts.old)
+    ensures { WritesEntries is_value (T.meaning.item part.now Setting.Plain ∷ [])
+        (open_parts true (state W.Write W.FaultCount ser.old) parts.old) result
+        (state W.Write W.FaultCount ser.new)
         (open_parts true (state W.Write W.FaultCount ser.new) parts.new) }
-    ensures stops { EndsCompound (open_parts true (state W.Write W.FaultCount ser.old) parts.old)
-        result (open_parts true (state W.Write W.FaultCount ser.new) parts.new) }
 {
     if parts.buffer.place.ended {
         return Err(refused(Refusal::InvalidValue));

@@ -5,9 +5,8 @@ ghost use Rattle.amqp_base.specs.Canon.{descriptor_text};
 ghost use Rattle.amqp_base.specs.Item.{described};
 ghost use Rattle.amqp_base.specs.Wire.{under_pair};
 ghost use Rattle.amqp_types.specs.Descriptors.{descriptor_of};
-ghost use Rattle.amqp_ser.specs.State.{state, mark_in, first, mark_of};
+ghost use Rattle.amqp_ser.specs.State.{state, first};
 ghost use Rattle.amqp_ser.specs.Law.{Wrote, Refused, Stops};
-ghost use Rattle.amqp_ser.specs.Compound.{outer_in};
 ghost use Rattle.amqp_ser.specs.Describing.{IsOwn, StandsAs, WroteBehind, RefusesAbsent};
 ghost use Rattle.amqp_ser.specs.Describing.{by_descriptor, why_undescribed, WritesDescriptor};
 ghost use Rattle.amqp_base.specs.declared.error.Error.TheVariants.{Io, OutOfMemory};
@@ -15,14 +14,12 @@ ghost use Rattle.std.specs.declared.io.ErrorKind.TheVariants.{Other};
 ghost use Rattle.amqp_write.specs.declared.described.Behind.TheVariants.{Another};
 
 use crate::answer::answer;
-use crate::compound::Outer;
 use crate::{Serialize, Serializer};
 use amqp_base::{EncodingCodes, Error, Setting, Sink};
 use amqp_types::{Described, Descriptor};
 use amqp_write::{Behind, Constructor, Mark, Refusal, is_too_long, refused};
 use std::alloc::Global;
 use std::io::ErrorKind;
-use std::mem;
 
 /// The refusal of a value whose descriptor isn't written with it: a descriptor that is too long
 /// comes first.

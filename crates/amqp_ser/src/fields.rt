@@ -6,14 +6,13 @@ ghost use Rattle.amqp_base.specs.Structs.{FieldItem, named, struct_item, is_desc
 ghost use Rattle.amqp_base.specs.Structs.{is_descriptor_name, struct_shape};
 ghost use Rattle.amqp_ser.specs.State.{State, state};
 ghost use Rattle.amqp_ser.specs.Law.{Wrote, Refused};
-ghost use Rattle.amqp_ser.specs.Compound.{FailedAs};
-ghost use Rattle.amqp_ser.specs.Compound.{open_state, HoldsFields, BeginsWith};
+ghost use Rattle.amqp_ser.specs.Compound.{FailedAs, open_state, HoldsFields, BeginsWith};
 
 use crate::answer::answer;
 use crate::compound::write_part;
 use crate::structs::is_name;
 use crate::{Serialize, Serializer, WholeStruct};
-use amqp_base::{DESCRIPTOR, Error, Setting, Shape, Sink, Typed};
+use amqp_base::{DESCRIPTOR, Error, Setting, Shape, Sink};
 use amqp_write::no_memory;
 use std::alloc::Global;
 

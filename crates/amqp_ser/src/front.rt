@@ -1,7 +1,6 @@
 //! What stands in front of a value that is written behind a descriptor, part by part.
 
-ghost use Rattle.std.specs.Prelude.{◌≡◌, false, true, None, IfOk, IfErr, OnOk, OnErr};
-ghost use Rattle.amqp_base.specs.Canon.{descriptor_text};
+ghost use Rattle.std.specs.Prelude.{◌≡◌, false, true, IfOk, IfErr, OnOk, OnErr};
 ghost use Rattle.amqp_base.specs.Item.{Item, described};
 ghost use Rattle.amqp_types.specs.Descriptors.{descriptor_of};
 ghost use Rattle.amqp_ser.specs.State.{state};

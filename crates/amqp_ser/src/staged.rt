@@ -6,7 +6,7 @@ ghost use Rattle.amqp_base.specs.Item.{Item, described};
 ghost use Rattle.amqp_types.specs.Descriptors.{descriptor_of};
 ghost use Rattle.amqp_base.specs.Shapes.{whole};
 ghost use Rattle.amqp_ser.specs.State.{State, state, answering};
-ghost use Rattle.amqp_ser.specs.Law.{Wrote, Refused, Kept, Stops};
+ghost use Rattle.amqp_ser.specs.Law.{Wrote, Refused, Stops};
 ghost use Rattle.amqp_ser.specs.Compound.{BeginsWith, open_parts, is_map, EndsWhole, RefusesOpen};
 ghost use Rattle.amqp_ser.specs.Staged.{HoldsParts, Awaits, Before, plain, behind, item_under};
 ghost use Rattle.amqp_ser.specs.Staged.{shape_behind, EndsStage, encoding_named, row_encoding};

@@ -1,22 +1,22 @@
 //! Tuples, part by part.
 
 ghost use Rattle.std.specs.Prelude.{◌≡◌, ℕ, ◌++◌, ◌∷◌, [], length, Some, true};
-ghost use Rattle.std.specs.Prelude.{false, IsTrue, IfOk, IfErr, OnOk, OnErr, Err, List};
+ghost use Rattle.std.specs.Prelude.{false, IsTrue, IfOk, IfErr, OnOk, Err, List};
 ghost use Rattle.std.specs.Borrow.{sem, RestsIfErr};
-ghost use Rattle.amqp_base.specs.Item.{Item, items_of};
+ghost use Rattle.amqp_base.specs.Item.{Item};
 ghost use Rattle.amqp_base.specs.Shapes.{whole};
 ghost use Rattle.amqp_ser.specs.State.{State, state};
-ghost use Rattle.amqp_ser.specs.Law.{Wrote, Refused, Kept};
-ghost use Rattle.amqp_ser.specs.Compound.{open_state, parts_text, RefusesOpen, Holds, Keeps};
-ghost use Rattle.amqp_ser.specs.Compound.{BeginsWith, FailedAs, WritesEach};
+ghost use Rattle.amqp_ser.specs.Law.{Wrote, Refused};
+ghost use Rattle.amqp_ser.specs.Compound.{open_state, RefusesOpen, Holds, BeginsWith, FailedAs};
+ghost use Rattle.amqp_ser.specs.Compound.{WritesEach};
 ghost use Rattle.amqp_ser.specs.Variants.{HasVariant, fields_item};
 ghost use Rattle.amqp_ser.specs.contracts.serializer.Serializer.{the_row};
 
 use crate::answer::answer;
-use crate::compound::{Announced, Compound, write_part};
+use crate::compound::{Announced, Compound};
 use crate::{Serialize, Serializer, VariantSerializer};
 use amqp_base::{Error, Setting, Shape, Sink};
-use amqp_write::{Refusal, no_memory, refused};
+use amqp_write::no_memory;
 use std::alloc::Global;
 
 /// A tuple that is being written, part by part: a list of just so many elements as were announced.

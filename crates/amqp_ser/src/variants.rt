@@ -1,16 +1,12 @@
 //! The variants of an enum.
 
-ghost use Rattle.std.specs.Prelude.{◌≡◌, ◌++◌, ◌∷◌, [], true, false, ℕ};
-ghost use Rattle.std.specs.Prelude.{List, length, IfOk, IfErr, OnOk, Err};
+ghost use Rattle.std.specs.Prelude.{◌≡◌, [], true, false, length, IfOk, IfErr, OnOk, Err};
 ghost use Rattle.std.specs.Borrow.{sem, RestsIfErr};
-ghost use Rattle.amqp_base.specs.Item.{Item};
 ghost use Rattle.amqp_base.specs.Structs.{is_descriptor_name};
-ghost use Rattle.amqp_ser.specs.State.{State, state};
-ghost use Rattle.amqp_ser.specs.Compound.{BeginsWith};
-ghost use Rattle.amqp_ser.specs.Staged.{StaysHeld};
+ghost use Rattle.amqp_ser.specs.State.{state};
 ghost use Rattle.amqp_ser.specs.Law.{Wrote, Refused, Stops, Writes};
 ghost use Rattle.amqp_ser.specs.Variants.{unit_item, variant_item, fields_item, HasVariant};
-ghost use Rattle.amqp_ser.specs.Variants.{RefusesVariant, EndsVariant};
+ghost use Rattle.amqp_ser.specs.Variants.{RefusesVariant, WritesVariantField};
 ghost use Rattle.amqp_ser.specs.contracts.serializer.Serializer.{the_row};
 
 use crate::answer::answer;
@@ -265,18 +261,8 @@ impl<'a, W: Sink> VariantSerializer<'a, W> {
     /// is refused at `end`.
     pub fn serialize_field<T: Serialize>(&mut self, alloc: Global, value: &T) -> Result<(), Error>
         ensures same_reference { self.new.ser.ghost_name ≡ self.old.ser.ghost_name }
-        ensures ok { OnOk result ((s : State) (index len : ℕ) (xs : List Item) →
-            HasVariant W.Write W.FaultCount s index len xs self.old →
-            HasVariant W.Write W.FaultCount s index len
-            (xs ++ T.meaning.item value.now Setting.Plain ∷ []) self.new) }
-        ensures err { IfErr result (λ e. (s : State) (index len : ℕ) (xs all : List Item) →
-            HasVariant W.Write W.FaultCount s index len xs self.old →
-            BeginsWith all (xs ++ T.meaning.item value.now Setting.Plain ∷ []) →
-            Refused s (fields_item index len all) e
-            (state W.Write W.FaultCount self.new.ser.now)) }
-        ensures kept { StaysHeld (state W.Write W.FaultCount self.old.ser.now)
-            (state W.Write W.FaultCount self.new.ser.now) }
-        ensures stops { EndsVariant W.Write W.FaultCount self.old result self.new }
+        ensures law { WritesVariantField W.Write W.FaultCount (T.meaning.item value.now) self.old
+            result self.new }
     {
         answer!(write_paired(&mut *self.ser, &mut self.parts, alloc, value))
     }
@@ -289,18 +275,8 @@ impl<'a, W: Sink> VariantSerializer<'a, W> {
         value: &T,
     ) -> Result<(), Error>
         ensures same_reference { self.new.ser.ghost_name ≡ self.old.ser.ghost_name }
-        ensures ok { OnOk result ((s : State) (index len : ℕ) (xs : List Item) →
-            HasVariant W.Write W.FaultCount s index len xs self.old →
-            HasVariant W.Write W.FaultCount s index len
-            (xs ++ T.meaning.item value.now Setting.Plain ∷ []) self.new) }
-        ensures err { IfErr result (λ e. (s : State) (index len : ℕ) (xs all : List Item) →
-            HasVariant W.Write W.FaultCount s index len xs self.old →
-            BeginsWith all (xs ++ T.meaning.item value.now Setting.Plain ∷ []) →
-            Refused s (fields_item index len all) e
-            (state W.Write W.FaultCount self.new.ser.now)) }
-        ensures kept { StaysHeld (state W.Write W.FaultCount self.old.ser.now)
-            (state W.Write W.FaultCount self.new.ser.now) }
-        ensures stops { EndsVariant W.Write W.FaultCount self.old result self.new }
+        ensures law { WritesVariantField W.Write W.FaultCount (T.meaning.item value.now) self.old
+            result self.new }
     {
         let _ = key;
         self.serialize_field(alloc, value)

@@ -118,6 +118,23 @@ fn are_three(alloc: Global) -> bool {
     reader.pop_first().is_none() && is_so
 }
 
+/// So many bytes are passed or not, and these are at hand then.
+fn passes<R: Read>(reader: &mut R, n: usize, is_passed: bool, at_hand: &[u8]) -> bool {
+    let is_so = reader.pass_at_hand(n) == is_passed;
+    reader.bytes_at_hand() == at_hand && is_so
+}
+
+/// Of three bytes, one a read, those that were received are at hand, and no other is passed.
+fn are_at_hand(alloc: Global) -> bool {
+    let mut reader = over(alloc, 3, 1, 0);
+    let mut is_so = passes(&mut reader, 1, false, b"");
+    is_so = is(reader.peek_at(1), Ok(Some(1))) && is_so;
+    is_so = passes(&mut reader, 3, false, b"\x00\x01") && is_so;
+    is_so = passes(&mut reader, 1, true, b"\x01") && is_so;
+    is_so = passes(&mut reader, 1, true, b"") && is_so;
+    reader.bytes_consumed() == 2 && is_so
+}
+
 /// The twenty-one bytes are the same over a slice and over sources that give 1, 2, 7 or all of them
 /// a read.
 fn are_same(alloc: Global) -> bool {
@@ -134,6 +151,7 @@ fn are_same(alloc: Global) -> bool {
 #[test]
 fn a_source_is_read_however_it_cuts_its_bytes(rt: HostRuntime) {
     assert!(rt; are_three(rt.alloc()));
+    assert!(rt; are_at_hand(rt.alloc()));
     assert!(rt; are_same(rt.alloc()));
     assert!(rt; fails_at(rt.alloc(), 1));
     assert!(rt; fails_at(rt.alloc(), 2));

@@ -19,10 +19,13 @@ enum Call {
     At(usize, Option<u8>),
     Copied(usize, usize, Option<&'static [u8]>),
     Skip(usize, Answer),
+    AtHand(&'static [u8]),
+    PassAtHand(usize, bool),
 }
 
 use Call::{
-    At, Copied, GetByteSlice, Next, Peek, PeekBytes, ReadBytes, ReadNothing, ReadTwo, Skip,
+    At, AtHand, Copied, GetByteSlice, Next, PassAtHand, Peek, PeekBytes, ReadBytes, ReadNothing,
+    ReadTwo, Skip,
 };
 
 /// A buffer of two bytes is filled so, or refused and left.
@@ -41,6 +44,8 @@ fn is_ahead<R: Read>(reader: &mut R, alloc: Global, call: Call) -> bool {
         At(i, byte) => is(reader.peek_at(i), Ok(byte)),
         Copied(from, n, bytes) => gave_bytes(reader.peek_copied(alloc, from, n), bytes),
         Skip(n, answer) => told(reader.skip(n)) == answer,
+        AtHand(bytes) => reader.bytes_at_hand() == bytes,
+        PassAtHand(n, is_passed) => reader.pass_at_hand(n) == is_passed,
         _ => false,
     }
 }
@@ -178,6 +183,20 @@ const SKIPS: &[(Call, usize)] = &[
     (Skip(1, UNEXPECTED_EOF), 3),
 ];
 
+/// All bytes to come are at hand, and are passed where so many are there.
+const AT_HAND: &[(Call, usize)] = &[
+    (AtHand(BYTES), 0),
+    (PassAtHand(4, false), 0),
+    (PassAtHand(0, true), 0),
+    (AtHand(BYTES), 0),
+    (PassAtHand(2, true), 2),
+    (AtHand(b"\xbe"), 2),
+    (PassAtHand(usize::MAX, false), 2),
+    (PassAtHand(1, true), 3),
+    (AtHand(b""), 3),
+    (PassAtHand(1, false), 3),
+];
+
 /// No bytes are to come.
 const NONE_TO_COME: &[(Call, usize)] = &[
     (Peek(None), 0),
@@ -197,6 +216,7 @@ fn a_call_takes_all_that_it_asks_for_or_nothing(rt: HostRuntime) {
     assert!(rt; goes(alloc, BYTES, AHEAD));
     assert!(rt; goes(alloc, BYTES, COPIES));
     assert!(rt; goes(alloc, BYTES, SKIPS));
+    assert!(rt; goes(alloc, BYTES, AT_HAND));
     assert!(rt; goes(alloc, b"", NONE_TO_COME));
 }
 

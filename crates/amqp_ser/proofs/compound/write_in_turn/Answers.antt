@@ -1,4 +1,4 @@
-use Rattle.std.proofs.Common.{◌≡◌, Bool, true, false, refl, sym, ◌∙◌}
+use Rattle.std.proofs.Common.{rules, ◌≡◌, Bool, true, false, refl, sym, ◌∙◌}
 use Rattle.std.proofs.Math.Bool.{beq}
 use Rattle.std.proofs.lemmas.Result.{IfErr-weaker, on_ok_weaker}
 use Rattle.amqp_base.specs.declared.shape.Shape.{Shape}
@@ -17,20 +17,25 @@ apart true false e h = cc
 apart false true e h = cc
 apart false false e h = cc
 
-pub returns-then-turn-is_value-clause-ok : goal.returns-then-turn-is_value-clause-ok
-returns-then-turn-is_value-clause-ok g c = on_ok_weaker c.write_part.result (λ k s xs h. k s Shape.Map xs h) (c.write_part.ensures.ok true)
+pub returns-then-parts : goal.returns-then-parts
+returns-then-parts g c = record { ok = tt; err = (search rules); turn = (search rules); kept = (search rules); stops = (search rules) }
 
-pub returns-then-turn-is_value-clause-err : goal.returns-then-turn-is_value-clause-err
-returns-then-turn-is_value-clause-err g c = IfErr-weaker c.write_part.result _ _ (λ e k s xs all h turn begins complete. k s Shape.Map xs all h begins complete) (c.write_part.ensures.err true)
+pub returns-then-turn-is_value : goal.returns-then-turn-is_value
+returns-then-turn-is_value g c =
+    let w = c.write_part.ensures in
+    record {
+      ok = on_ok_weaker c.write_part.result (λ k s xs h. k s Shape.Map xs h) (w.ok true);
+      err = IfErr-weaker c.write_part.result _ _ (λ e k s xs all h turn begins complete. k s Shape.Map xs all h begins complete) (w.err true);
+      turn = λ s xs h differ. absurd (differ (sym (turn_is s xs _ _ h c.awaits_value-turn.ensures) ∙ same _ _ c.if-turn-is_value.true));
+      kept = w.kept true;
+      stops = w.stops true;
+    }
 
-pub returns-then-turn-is_value-clause-turn : goal.returns-then-turn-is_value-clause-turn
-returns-then-turn-is_value-clause-turn g c = λ s xs h differ. absurd (differ (sym (turn_is s xs _ _ h c.awaits_value-turn.ensures) ∙ same _ _ c.if-turn-is_value.true))
-
-pub returns-then-turn-is_value-clause-kept : goal.returns-then-turn-is_value-clause-kept
-returns-then-turn-is_value-clause-kept g c = c.write_part.ensures.kept true
-
-pub returns-then-turn-is_value-clause-stops : goal.returns-then-turn-is_value-clause-stops
-returns-then-turn-is_value-clause-stops g c = c.write_part.ensures.stops true
-
-pub returns-clause-err : goal.returns-clause-err
-returns-clause-err g c = λ s xs all h turn. absurd (apart _ _ c.if-turn-is_value.false (turn_is s xs _ _ h c.awaits_value-turn.ensures ∙ turn))
+pub returns : goal.returns
+returns g c = record {
+  ok = tt;
+  err = λ s xs all h turn. absurd (apart _ _ c.if-turn-is_value.false (turn_is s xs _ _ h c.awaits_value-turn.ensures ∙ turn));
+  turn = (search rules);
+  kept = (search rules);
+  stops = (search rules);
+}

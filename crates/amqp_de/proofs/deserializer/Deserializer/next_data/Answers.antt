@@ -26,7 +26,7 @@ returns g c =
     let bytes = c.bytes_at_hand-bytes.result.now in
     let few : n * w ≤ c.min.result = whole n w c.min.result (omega (arith, c.min-many.ensures)) in
     let passes : Passes (n * w) (g.R.Read.reading c.self.inside.reader) (g.R.Read.reading c.pass_at_hand.new.self) = c.pass_at_hand.ensures.passed c.if-not-pass_at_hand.false in
-    let same : passes.bytes ≡ take (n * w) bytes = shown_passed _ _ _ bytes c.bytes_at_hand-bytes.ensures passes (omega (arith, few, c.min.ensures)) in (
+    let same : passes.bytes ≡ take (n * w) bytes = shown_passed _ _ _ bytes c.bytes_at_hand-bytes.ensures.shown passes (omega (arith, few, c.min.ensures)) in (
       p.values,
       rw (← c.self.view_is) (all_read g.T.Typed.meaning (under g.T.Wide.widest) n p.values passes.bytes _ _ (subst (λ b. AreElements g.T.Typed.meaning (under g.T.Wide.widest) b p.values) (sym same) p.meant) p.many some record {
         step = passes.step;

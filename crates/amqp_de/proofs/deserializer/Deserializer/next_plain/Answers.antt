@@ -20,7 +20,7 @@ returns g c =
     let some : (n ≡ 0 → ⊥) = omega (arith, c.if-found-eq0.false) in
     let bytes = c.bytes_at_hand-bytes.result.now in
     let passes : Passes c.push_front-found.result.1 (g.R.Read.reading c.self.inside.reader) (g.R.Read.reading c.pass_at_hand.new.self) = c.pass_at_hand.ensures.passed c.if-not-pass_at_hand.false in
-    let same : passes.bytes ≡ take c.push_front-found.result.1 bytes = shown_passed _ _ _ bytes c.bytes_at_hand-bytes.ensures passes c.push_front-found.ensures.within in (
+    let same : passes.bytes ≡ take c.push_front-found.result.1 bytes = shown_passed _ _ _ bytes c.bytes_at_hand-bytes.ensures.shown passes c.push_front-found.ensures.within in (
       p.values,
       rw (← c.self.view_is) (all_read g.T.Typed.meaning bare n p.values passes.bytes _ _ (subst (λ b. AreElements g.T.Typed.meaning bare b p.values) (sym same) p.meant) p.many some record {
         step = passes.step;

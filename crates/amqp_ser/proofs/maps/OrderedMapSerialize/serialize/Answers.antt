@@ -19,7 +19,7 @@ loop-key-preserved g c =
     let came = c.loop-key.yielded in
     record {
       same_reference = c.in-Ok-serialize_entry.ensures.same_reference ∙ c.loop-key.invariant.same_reference;
-      holds = holds_pair key value _ came (c.in-Some.key, c.in-Some.value) _ (c.in-Ok-serialize_entry.ensures.ok _ (pair_items key value (map deref_pair came)) c.loop-key.invariant.holds);
+      holds = holds_pair key value _ came (c.in-Some.key, c.in-Some.value) _ (c.in-Ok-serialize_entry.ensures.law.ok _ (pair_items key value (map deref_pair came)) c.loop-key.invariant.holds);
     }
 
 pub returns-in-Err-serialize_entry-clause-err : goal.returns-in-Err-serialize_entry-clause-err
@@ -30,7 +30,7 @@ returns-in-Err-serialize_entry-clause-err g c =
     let came = c.loop-key.yielded in
     let start = c.into_iter-key-iterator.ensures.into_iter_gives ∙ c.iter-key-items.ensures.pairs in
     let begins = begins_pair key value all came _ _ _ _ (c.in-Some.key, c.in-Some.value) start c.loop-key.yielded_by c.in-Some.is c.next.ensures.steps in
-    let refused = c.in-Err-serialize_entry.ensures.err _ (pair_items key value (map deref_pair came)) (pair_items key value all) c.loop-key.invariant.holds (pairs_complete key value (map deref_pair came)) begins (pairs_complete key value all) in
+    let refused = c.in-Err-serialize_entry.ensures.law.err _ (pair_items key value (map deref_pair came)) (pair_items key value all) c.loop-key.invariant.holds (pairs_complete key value (map deref_pair came)) begins (pairs_complete key value all) in
     moved (λ n. Refused (state g.W.Write g.W.FaultCount c.args.ser.now) (whole Shape.Map (pair_items key value all)) c.in-Err-serialize_entry.e (state g.W.Write g.W.FaultCount n)) c.serialize_entry.new.self.ser.now _ (search rules) refused
 
 pub returns-clause-ok : goal.returns-clause-ok

@@ -15,14 +15,14 @@ use Rattle.amqp_ser.proofs.serializer.Serializer.serialize_newtype_variant.Goals
 
 pub returns-in-Ok-serialize_entry-clause-ok : goal.returns-in-Ok-serialize_entry-clause-ok
 returns-in-Ok-serialize_entry-clause-ok g c =
-    let held = c.in-Ok-serialize_entry.ensures.ok _ [] c.in-Ok.ensures.opened in
+    let held = c.in-Ok-serialize_entry.ensures.law.ok _ [] c.in-Ok.ensures.opened in
     let item = variant_item c.args.index (g.T.Typed.meaning.item c.args.value.now Plain) in
     moved (λ n. OnOk c.end.result (Wrote (state g.W.Write g.W.FaultCount c.args.self.now) item (state g.W.Write g.W.FaultCount n))) c.end.new.self.0 _ (search rules)
     (on_ok_weaker c.end.result (λ wrote. wrote _ Shape.Map _ held) (c.end.ensures.law true).ok)
 
 pub returns-in-Ok-serialize_entry-clause-err : goal.returns-in-Ok-serialize_entry-clause-err
 returns-in-Ok-serialize_entry-clause-err g c = λ plain.
-    let held = c.in-Ok-serialize_entry.ensures.ok _ [] c.in-Ok.ensures.opened in
+    let held = c.in-Ok-serialize_entry.ensures.law.ok _ [] c.in-Ok.ensures.opened in
     let item = variant_item c.args.index (g.T.Typed.meaning.item c.args.value.now Plain) in
     moved (λ n. IfErr c.end.result (λ e. Refused (state g.W.Write g.W.FaultCount c.args.self.now) item e (state g.W.Write g.W.FaultCount n))) c.end.new.self.0 _ (search rules)
     (IfErr-weaker c.end.result _ _ (λ e refused. refused _ Shape.Map _ held refl) (c.end.ensures.law true).err)
@@ -30,14 +30,14 @@ returns-in-Ok-serialize_entry-clause-err g c = λ plain.
 pub returns-in-Err-serialize_entry-clause-err : goal.returns-in-Err-serialize_entry-clause-err
 returns-in-Err-serialize_entry-clause-err g c = λ plain.
     let item = variant_item c.args.index (g.T.Typed.meaning.item c.args.value.now Plain) in
-    let refused = c.in-Err-serialize_entry.ensures.err _ [] (scalar (uint c.args.index) ∷ g.T.Typed.meaning.item c.args.value.now Plain ∷ []) c.in-Ok.ensures.opened refl (refl, (refl, tt)) refl in
+    let refused = c.in-Err-serialize_entry.ensures.law.err _ [] (scalar (uint c.args.index) ∷ g.T.Typed.meaning.item c.args.value.now Plain ∷ []) c.in-Ok.ensures.opened refl (refl, (refl, tt)) refl in
     moved (λ n. Refused (state g.W.Write g.W.FaultCount c.args.self.now) item c.in-Err-serialize_entry.e (state g.W.Write g.W.FaultCount n)) c.serialize_entry.new.self.ser.now _ (search rules) refused
 
 pub returns-in-Ok-serialize_entry-clause-stops : goal.returns-in-Ok-serialize_entry-clause-stops
 unfolding state stand open_as
 returns-in-Ok-serialize_entry-clause-stops g c =
     let law = c.end.ensures.law true in
-    let kept = c.serialize_entry.ensures.kept in
+    let kept = c.serialize_entry.ensures.law.kept in
     let o = state g.W.Write g.W.FaultCount c.in-Ok.pair.ser.now in
     let n = state g.W.Write g.W.FaultCount c.serialize_entry.new.self.ser.now in
     let held = (parts_keep c.in-Ok.pair.parts c.serialize_entry.new.self.parts o n (record { kept = kept.kept; ended = kept.ended })).held c.in-Ok.ensures.held in

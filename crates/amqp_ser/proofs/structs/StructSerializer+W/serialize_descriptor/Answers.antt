@@ -7,14 +7,24 @@ use Rattle.amqp_base.specs.Structs.{fields_parts}
 use Rattle.amqp_ser.specs.Staged.{behind, shape_under, shape_behind, HasFields, AwaitsDescriptor}
 use Rattle.amqp_ser.proofs.structs.StructSerializer+W.serialize_descriptor.Goals as goal
 
-pub returns-in-Ok-clause-uncalled : goal.returns-in-Ok-clause-uncalled
+pub returns-in-Ok-clause-law : goal.returns-in-Ok-clause-law
 unfolding HasFields AwaitsDescriptor
-returns-in-Ok-clause-uncalled g c = λ s b fs h. c.in-Ok.ensures.uncalled s b (shape_under b s.setting) (fields_parts (shape_under b s.setting) fs) h
+returns-in-Ok-clause-law g c =
+    let w = c.in-Ok.ensures in
+    record {
+      ok = w.ok;
+      err = tt;
+      uncalled = λ s b fs h. w.uncalled s b (shape_under b s.setting) (fields_parts (shape_under b s.setting) fs) h;
+      stops = w.stops;
+    }
 
-pub returns-in-Err-clause-err : goal.returns-in-Err-clause-err
+pub returns-in-Err-clause-law : goal.returns-in-Err-clause-law
 unfolding HasFields AwaitsDescriptor
-returns-in-Err-clause-err g c = λ s x fs a. subst (λ i. Refused s i c.in-Err.e (state g.W.Write g.W.FaultCount c.write_descriptor.new.ser)) (struct_is (behind x (descriptor_of c.args.descriptor.now)) s.setting fs) (c.in-Err.ensures.err s x (fields_parts (shape_behind x) fs) a)
-
-pub returns-in-Err-clause-uncalled : goal.returns-in-Err-clause-uncalled
-unfolding HasFields AwaitsDescriptor
-returns-in-Err-clause-uncalled g c = λ s b fs h. c.in-Err.ensures.uncalled s b (shape_under b s.setting) (fields_parts (shape_under b s.setting) fs) h
+returns-in-Err-clause-law g c =
+    let w = c.in-Err.ensures in
+    record {
+      ok = tt;
+      err = λ s x fs a. subst (λ i. Refused s i c.in-Err.e (state g.W.Write g.W.FaultCount c.write_descriptor.new.ser)) (struct_is (behind x (descriptor_of c.args.descriptor.now)) s.setting fs) (w.err s x (fields_parts (shape_behind x) fs) a);
+      uncalled = λ s b fs h. w.uncalled s b (shape_under b s.setting) (fields_parts (shape_under b s.setting) fs) h;
+      stops = w.stops;
+    }

@@ -6,20 +6,25 @@ use Rattle.amqp_ser.specs.Staged.{behind, HoldsParts, HasRow, AwaitsDescriptor}
 use Rattle.amqp_ser.proofs.Stages.{row_shape}
 use Rattle.amqp_ser.proofs.tuple_structs.TupleStructSerializer+W.serialize_descriptor.Goals as goal
 
-pub returns-in-Ok-clause-ok : goal.returns-in-Ok-clause-ok
+pub returns-in-Ok-clause-law : goal.returns-in-Ok-clause-law
 unfolding HasRow AwaitsDescriptor
-returns-in-Ok-clause-ok g c = λ s x a row.
+returns-in-Ok-clause-law g c =
+    let w = c.in-Ok.ensures in
     let d = descriptor_of c.args.descriptor.now in
-    (row, subst (λ z. HoldsParts s (behind x d) z [] (state g.W.Write g.W.FaultCount c.write_descriptor.new.ser) c.write_descriptor.new.of) (row_shape x d row) (c.in-Ok.ensures.ok s x a))
+    record {
+      ok = λ s x a row. (row, subst (λ z. HoldsParts s (behind x d) z [] (state g.W.Write g.W.FaultCount c.write_descriptor.new.ser) c.write_descriptor.new.of) (row_shape x d row) (w.ok s x a));
+      err = tt;
+      uncalled = λ s b xs h. w.uncalled s b Shape.List xs h.1;
+      stops = w.stops;
+    }
 
-pub returns-in-Ok-clause-uncalled : goal.returns-in-Ok-clause-uncalled
+pub returns-in-Err-clause-law : goal.returns-in-Err-clause-law
 unfolding HasRow AwaitsDescriptor
-returns-in-Ok-clause-uncalled g c = λ s b xs h. c.in-Ok.ensures.uncalled s b Shape.List xs h.1
-
-pub returns-in-Err-clause-err : goal.returns-in-Err-clause-err
-unfolding HasRow AwaitsDescriptor
-returns-in-Err-clause-err g c = λ s x xs a row. c.in-Err.ensures.err s x xs a
-
-pub returns-in-Err-clause-uncalled : goal.returns-in-Err-clause-uncalled
-unfolding HasRow AwaitsDescriptor
-returns-in-Err-clause-uncalled g c = λ s b xs h. c.in-Err.ensures.uncalled s b Shape.List xs h.1
+returns-in-Err-clause-law g c =
+    let w = c.in-Err.ensures in
+    record {
+      ok = tt;
+      err = λ s x xs a row. w.err s x xs a;
+      uncalled = λ s b xs h. w.uncalled s b Shape.List xs h.1;
+      stops = w.stops;
+    }
