@@ -1,7 +1,7 @@
 -- A length, and the payload behind it.
-use Rattle.std.proofs.Common.{◌≡◌, ℕ, ◌≤◌, Bool, IsTrue, true, false, if◌then◌else◌, List, ◌++◌, length, take, Option, Some, None, Result, Ok, Err, refl, sym, ap, subst, ◌∙◌, inl, inr, ◌⊎◌, append_assoc, String, Global, string_bytes}
+use Rattle.std.proofs.Common.{◌≡◌, ℕ, ◌≤◌, Bool, IsTrue, true, false, if◌then◌else◌, List, ◌++◌, length, take, Option, Some, None, Result, Ok, Err, refl, sym, ap, subst, ◌∙◌, inl, inr, ◌⊎◌, append_assoc}
 use Rattle.std.specs.Prelude.{IfOk, IfErr, OnErr, IsUtf8}
-use Rattle.std.proofs.lemmas.Str.{IsUtf8-from_is_utf8, is_utf8-from_IsUtf8, IsUtf8-string_bytes}
+use Rattle.std.proofs.lemmas.Str.{IsUtf8-from_is_utf8, is_utf8-from_IsUtf8}
 use Rattle.std.specs.Str.{is_utf8}
 use Rattle.amqp_base.specs.declared.error.Error.{Error}
 use Rattle.std.proofs.lemmas.Bool.{le-ltb}
@@ -57,13 +57,10 @@ no_device d = d
 pub text_refused : {grows : Bool} (buffers : Bool) (w : ℕ) (b : List ℕ) (old new : Reading) → Payload w b old new → (IsUtf8 b → ⊥) → Rejects grows buffers (text_at w) old new InvalidUtf8Encoding
 text_refused buffers w b old new p n = rejects_after (text_at w) old new (p.digits ++ b) InvalidUtf8Encoding p.step no_device (λ s. bad_text w p.digits b s p.len p.value (not_utf8 b n))
 
-pub text_of : (w : ℕ) (b t : List ℕ) (old new : Reading) → Payload w b old new → t ≡ b → IsUtf8 t → Text w t old new
-text_of w b t old new p h u = record { payload = rw h p; utf8 = is_utf8-from_IsUtf8 t u }
-
 -- ---- a text that the reader makes of the bytes behind the length
 
-pub text_took : (w n : ℕ) (old mid new : Reading) (t : String Global) → Number w n old mid → (length (string_bytes t) ≡ n) × Takes mid new (string_bytes t) → Text w (string_bytes t) old new
-text_took w n old mid new t d k = text_of w (string_bytes t) (string_bytes t) old new (payload_ok string_bytes w n old mid new (Ok t) d k) refl (IsUtf8-string_bytes t)
+pub text_took : (w n : ℕ) (old mid new : Reading) (t : List ℕ) → Number w n old mid → (length t ≡ n) × Takes mid new t → IsUtf8 t → Text w t old new
+text_took w n old mid new t d k u = record { payload = payload_ok {V = List ℕ} (λ b. b) w n old mid new (Ok t) d k; utf8 = is_utf8-from_IsUtf8 t u }
 
 -- n bytes that are UTF-8
 abbrev text_there : ℕ → List ℕ → Parsed (List ℕ)
@@ -87,11 +84,11 @@ no_text_rejects n old new e s u = rw u.0 (record {
 behind_length : (w n : ℕ) (l s : List ℕ) (e : Error) → length l ≡ w → number l ≡ n → text_there n s ≡ Err e → text_at w (l ++ s) ≡ Err e
 behind_length w n l s e h v p = rw (length_there w l s h, v) p
 
-pub text_not_taken : (buffers : Bool) (w n : ℕ) (old mid new : Reading) (e : Error) → Number w n old mid → Stays mid new → NoText n mid e ⊎ NotTaken true buffers n mid new e → Rejects true buffers (text_at w) old new e
-text_not_taken buffers w n old mid new e d s u =
+pub text_not_taken : {grows : Bool} (buffers : Bool) (w n : ℕ) (old mid new : Reading) (e : Error) → Number w n old mid → Stays mid new → NoText n mid e ⊎ NotTaken grows buffers n mid new e → Rejects grows buffers (text_at w) old new e
+text_not_taken {grows} buffers w n old mid new e d s u =
     rejects_then (text_at w) (text_there n) old mid new d.digits e d.step (λ t p. behind_length w n d.digits t e d.len d.value p) (tell u)
   where
-    tell : NoText n mid e ⊎ NotTaken true buffers n mid new e → Rejects true buffers (text_there n) mid new e
+    tell : NoText n mid e ⊎ NotTaken grows buffers n mid new e → Rejects grows buffers (text_there n) mid new e
     tell (inl q) = no_text_rejects n mid new e s q
     tell (inr q) = unread_rejects (text_there n) n mid new e (λ t h. rw (bytes_short n t h) refl) (record { stays = s; why = q })
 

@@ -1,6 +1,6 @@
 //! The descriptor of a described value that is looked at: all of its bytes stay.
 
-ghost use Rattle.std.specs.Prelude.{◌≡◌, ◌⊎◌, ◌+◌, ◌≤◌, ◌<◌, true};
+ghost use Rattle.std.specs.Prelude.{◌≡◌, ◌⊎◌, ◌+◌, ◌≤◌, ◌<◌};
 ghost use Rattle.std.specs.Prelude.{IfOk, IfErr, string_bytes};
 ghost use Rattle.amqp_base.specs.declared.error.Error.TheVariants.{InvalidFormatCode};
 ghost use Rattle.amqp_base.specs.Parse.{behind_byte, descriptor_at, descriptor_data, text_at};

@@ -34,10 +34,10 @@ fn text<'s>(reader: &mut SliceReader<'s>, width: u32) -> Result<&'s str, Error>
     ensures err { IfErr result (λ e.
         Rejects false false (text_at width) reader.old reader.new e) }
 {
-    match payload(reader, width) {
-        Ok(bytes) => match std::str::from_utf8(bytes) {
+    match number(reader, width) {
+        Ok(len) => match reader.get_text_slice(len as usize) {
             Ok(text) => Ok(text),
-            Err(_) => Err(Error::InvalidUtf8Encoding),
+            Err(e) => Err(e),
         },
         Err(e) => Err(e),
     }

@@ -1,5 +1,5 @@
 -- What asking a source for more does to what is to come.
-use Rattle.std.proofs.Common.{◌≡◌, ◌⊎◌, ◌<◌, ◌≤◌, ◌+◌, ◌++◌, [], ◌∷◌, List, ℕ, zero, suc, length, take, drop, arith, Option, Some, None, refl, sym, ap, ◌∙◌, append_assoc, Bool, true, false, IsTrue, MatchOption, OnOk, Result, Ok, Err, inl, inr, subst, max}
+use Rattle.std.proofs.Common.{◌≡◌, ◌⊎◌, ◌<◌, ◌≤◌, ◌+◌, ◌++◌, [], ◌∷◌, List, ℕ, zero, suc, length, take, drop, arith, Option, Some, None, refl, sym, ap, ◌∙◌, append_assoc, Bool, true, false, IsTrue, MatchOption, IfSome, OnOk, Result, Ok, Err, inl, inr, subst, max}
 use Rattle.std.specs.Borrow.{GName}
 use Rattle.std.specs.Io.KnownBytes.{Consumes, Keeps, prepend_known}
 use Rattle.std.proofs.lemmas.List.{drop-append-le, take-append-le, drop_all, take_all, length-append, length-take-le, drop-drop, take-append-drop}
@@ -12,7 +12,7 @@ use Rattle.amqp_base.specs.declared.error.Error.TheVariants.{InvalidFormatCode, 
 use Rattle.amqp_base.specs.Faults.{refusal_of, IsFault}
 use Rattle.amqp_read.specs.Reading.{Reading, Agree, Stays, Steady, Takes}
 use Rattle.amqp_read.specs.Steps.{Looked, IsShort, ShortOf, Passes, PassesSome, MayCome, Admits, Fails, Failed}
-use Rattle.amqp_read.specs.Streaming.{reads}
+use Rattle.amqp_read.specs.Streaming.{reads, with_received, IsApart}
 
 -- bytes that go from the source to the received ones are to come as before
 pub still_to_come : (u got : List ℕ) (r r' : Option (List ℕ)) → Consumes r r' got → Keeps (prepend_known u r) (prepend_known (u ++ got) r')
@@ -163,6 +163,31 @@ source_taken k u bytes r r' t f f' l l' h h' o o' e none c len faults honest ori
       steady = record { honest = honest; origin = origin; faults = omega arith; taken = omega arith };
     }))
 
+agree_self : (xs : List ℕ) → Agree xs xs
+agree_self [] = tt
+agree_self (x ∷ xs) = (refl, agree_self xs)
+
+front_is_consumed : (bytes : List ℕ) (r : Option (List ℕ)) → Consumes (prepend_known bytes (prepend_known [] r)) (prepend_known [] r) bytes
+front_is_consumed bytes None = tt
+front_is_consumed bytes (Some s) = refl
+
+-- bytes that stand apart from the buffer are counted
+pub apart_counted : (u bytes : List ℕ) (r : Option (List ℕ)) (t f : ℕ) (l : Option ErrorKind) (h : Bool) (o : List GName) {old : Reading} →
+    reads u r t f l h o ≡ old → old.received ≡ [] → Takes (with_received bytes old) (reads u r (t + length bytes) f l h o) bytes
+apart_counted u bytes r t f l h o e none =
+    let empty : u ≡ [] = ap (λ (z : Reading). z.received) e ∙ none in
+    subst (λ (z : Reading). Takes (with_received bytes z) (reads u r (t + length bytes) f l h o) bytes) e (rw empty (record {
+      to_come = front_is_consumed bytes r;
+      taken = refl;
+      received = sym (drop_all (length bytes) bytes (omega arith));
+      agrees = agree_self bytes;
+      steady = record { honest = refl; origin = refl; faults = omega arith; taken = omega arith };
+    }))
+
+-- bytes that were received apart from the buffer are consumed
+pub apart_takes : {bytes held : List ℕ} {a b d : Reading} → IsApart bytes a b → held ≡ bytes → Takes (with_received held b) d held → Takes a d bytes
+apart_takes p same q = looked_takes p.looked (rw (sym same) q) refl
+
 consumes_none : (known : Option (List ℕ)) → Consumes known known []
 consumes_none None = tt
 consumes_none (Some s) = refl
@@ -241,6 +266,10 @@ none_passed k r e = record { bytes = []; len = sym e; step = takes_none r }
 
 pub refused_at_once : (n : ℕ) (r : Reading) → PassesSome n r r
 refused_at_once n r = record { bytes = []; few = omega arith; step = takes_none r }
+
+-- what holds of an answer, once it is known
+pub when_some : {A : Type 0} (P : A → Type 0) {o : Option A} {x : A} → IfSome o P → o ≡ Some x → P x
+when_some {A} P h e = subst (λ (z : Option A). IfSome z P) e h
 
 -- a front that is shown, or that isn't there
 pub front_shown : {A : Type 0} (now : A → List ℕ) (o : Option A) (n : ℕ) (u : List ℕ) (old : Reading) {short : Type 0} →

@@ -1,9 +1,10 @@
 -- What a reader over a source holds, and what asking the source does.
-use Rattle.std.specs.Prelude.{◌≡◌, ℕ, ◌+◌, ◌*◌, ◌<◌, ◌≤◌, max, Bool, List, length, Option}
+use Rattle.std.specs.Prelude.{◌≡◌, ℕ, ◌+◌, ◌*◌, ◌<◌, ◌≤◌, ◌^◌, max, Bool, List, [], length, Option}
 use Rattle.std.specs.Borrow.{GName}
 use Rattle.std.specs.Io.KnownBytes.{prepend_known}
 use Rattle.std.specs.declared.io.ErrorKind.{ErrorKind}
 use Rattle.amqp_read.specs.Reading.{Reading}
+use Rattle.amqp_read.specs.Steps.{Looked}
 
 pub record Buffered : Type 0 where
   -- the received bytes that were not consumed
@@ -51,3 +52,13 @@ reads received left taken faults last honest origin = record {
 -- the most bytes that were unread at once are those of before, or those that are unread now
 abbrev pub SawMore : Streaming → Streaming → Type 0
 SawMore old new = new.buffer.most ≡ max old.buffer.most (length new.reading.received)
+
+-- the same, where these bytes stand in front of what is to come, and no others were received
+abbrev pub with_received : List ℕ → Reading → Reading
+with_received bytes r = record r { to_come = prepend_known bytes r.to_come; received = bytes }
+
+-- the next bytes were received, and stand apart from the buffer, which holds none
+pub record IsApart (bytes : List ℕ) (old new : Reading) : Type 0 where
+  pub looked : Looked (length bytes) old (with_received bytes new)
+  pub none : new.received ≡ []
+  pub counted : new.taken + length bytes < 2 ^ 64

@@ -1,7 +1,7 @@
 //! Bytes that were received and not consumed yet.
 
 ghost use Rattle.std.specs.Prelude.{◌≡◌, ◌<◌, ◌≤◌, ◌+◌, ◌-◌, ◌*◌};
-ghost use Rattle.std.specs.Prelude.{◌++◌, max, true, List, [], ℕ, length};
+ghost use Rattle.std.specs.Prelude.{◌++◌, max, true, [], length};
 ghost use Rattle.std.specs.Prelude.{take, drop, OnOk, OnErr, IfOk, IfErr, IfSome, IsTrue, None};
 ghost use Rattle.std.specs.Prelude.{MatchOption};
 ghost use Rattle.std.specs.Io.KnownBytes.{IsAtEnd, ReadConsumes};
@@ -197,8 +197,8 @@ impl Buffer {
     /// stands in front of them.
     pub(crate) fn hand_over(&mut self, alloc: Global, n: usize) -> Option<Vec<u8>>
         ensures given { IfSome result (λ v.
-            (v.items ≡ take n self.old.unread) × (length v.items ≡ n)) }
-        ensures used_up { IfSome result (λ _. (self.new.unread ≡ drop n self.old.unread)
+            (v.items ≡ self.old.unread) × (length v.items ≡ n)) }
+        ensures used_up { IfSome result (λ _. (self.new.unread ≡ [])
             × (self.new.start ≡ 0) × (self.new.length ≡ 0)) }
         ensures else_kept { result ≡ None → self.new ≡ self.old }
         ensures counts { (self.new.moved ≡ self.old.moved) × (self.new.most ≡ self.old.most) }

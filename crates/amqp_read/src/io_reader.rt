@@ -1,31 +1,28 @@
 //! A reader over a source, which gives its bytes piece by piece.
 
 ghost use Rattle.std.specs.Prelude.{◌≡◌, ◌⊎◌, ◌<◌, ◌≤◌, ◌+◌, ◌^◌};
-ghost use Rattle.std.specs.Prelude.{ℕ, Bool, true, false, List, [], ◌∷◌, length, take};
-ghost use Rattle.std.specs.Prelude.{IfOk, IfErr, IfSome, OnOk, OnErr, IsTrue, MatchOption};
-ghost use Rattle.std.specs.Prelude.{Some, None, slice_get, string_bytes};
-ghost use Rattle.amqp_read.specs.Texts.{NoText};
+ghost use Rattle.std.specs.Prelude.{true, false, [], ◌∷◌, length, take};
+ghost use Rattle.std.specs.Prelude.{IfErr, OnOk, IsTrue, MatchOption};
+ghost use Rattle.std.specs.Prelude.{Some, None, slice_get};
 ghost use Rattle.std.specs.declared.io.ErrorKind.TheVariants.{UnexpectedEof};
 ghost use Rattle.amqp_base.specs.declared.error.Error.TheVariants.{Io, OutOfMemory};
-ghost use Rattle.amqp_read.specs.Reading.{Reading, Stays, Takes};
-ghost use Rattle.amqp_read.specs.Steps.{IsShort, Ended, Looked, Fails, NotSeen, NotTaken, Passes};
-ghost use Rattle.amqp_read.specs.Steps.{PassesSome, PassesCount};
-ghost use Rattle.amqp_read.specs.Streaming.{IsLean, SawMore, reads};
+ghost use Rattle.amqp_read.specs.Reading.{Takes};
+ghost use Rattle.amqp_read.specs.Steps.{Looked, NotAtHand, NotSeen};
+ghost use Rattle.amqp_read.specs.Streaming.{IsLean, SawMore};
+ghost use Rattle.amqp_read.specs.Streaming.{reads};
+
+mod blocks;
+mod filling;
+mod passing;
+mod payloads;
 
 use crate::Read;
-use crate::buffer::{Buffer, PIECE};
+use crate::buffer::Buffer;
 use crate::read::sealed::Sealed;
-use crate::read::text_of;
 use amqp_base::{Error, Source};
 use std::alloc::Global;
 use std::io::ErrorKind;
 use std::marker::Model;
-
-/// The most bytes that are read straight from the source where none was received.
-const SMALL: usize = 16;
-
-/// The most bytes that are passed over at once.
-const BLOCK: usize = 256;
 
 /// Reads from a source, which is never asked for more bytes than a call needs.
 #[derive(Drop)]
@@ -96,41 +93,6 @@ impl<S: Source> IoReader<S> {
         Some(b)
     }
 
-    /// Asks the source once for what `n` unread bytes lack: whether it gave some.
-    fn more(&mut self, n: usize) -> Result<bool, Error>
-        requires { length self.old.reading.received < n }
-        ensures looked { Looked n self.old.reading self.new.reading }
-        ensures some { IfOk result (λ some. IsTrue some →
-            length self.old.reading.received < length self.new.reading.received) }
-        ensures short { IfOk result (λ some. some ≡ false → IsShort n self.old.reading) }
-        ensures why { IfErr result (λ e.
-            Fails true true self.old.reading self.new.reading e) }
-        ensures most { SawMore self.old self.new }
-    {
-        let lacking = n - self.buffer.len();
-        let got = self.buffer.receive(&mut self.source, lacking)?;
-        Ok(got != 0)
-    }
-
-    /// Whether `n` bytes are received and unread, once the source was asked for what they lack.
-    fn fill(&mut self, n: usize) -> Result<bool, Error>
-        ensures looked { Looked n self.old.reading self.new.reading }
-        ensures full { IfOk result (λ f. IsTrue f → n ≤ length self.new.reading.received) }
-        ensures short { IfOk result (λ f. f ≡ false → IsShort n self.old.reading) }
-        ensures why { IfErr result (λ e.
-            Fails true true self.old.reading self.new.reading e) }
-        ensures most { SawMore self.old self.new }
-    {
-        'bytes: while self.received() < n {
-            match self.more(n) {
-                Ok(true) => {}
-                Ok(false) => return Ok(false),
-                Err(e) => return Err(e),
-            }
-        }
-        Ok(true)
-    }
-
     /// How many bytes are received and unread.
     #[inline(always)]
     fn received(&self) -> usize
@@ -156,22 +118,6 @@ impl<S: Source> IoReader<S> {
         }
     }
 
-    /// Receives bytes until `n` are unread that can be counted.
-    fn receive_all(&mut self, n: usize) -> Result<(), Error>
-        ensures looked { Looked n self.old.reading self.new.reading }
-        ensures ok { OnOk result ((n ≤ length self.new.reading.received)
-            × (self.new.reading.taken + n < 2 ^ 64)) }
-        ensures why { IfErr result (λ e.
-            NotTaken true true n self.old.reading self.new.reading e) }
-    {
-        match self.fill(n) {
-            Ok(true) if n > usize::MAX - self.taken => Err(Error::Io(ErrorKind::Other)),
-            Ok(true) => Ok(()),
-            Ok(false) => Err(Error::Io(ErrorKind::UnexpectedEof)),
-            Err(e) => Err(e),
-        }
-    }
-
     /// `n` of the bytes that were received are consumed.
     #[inline(always)]
     fn consume(&mut self, n: usize)
@@ -181,154 +127,6 @@ impl<S: Source> IoReader<S> {
     {
         self.buffer.consume(n);
         self.taken += n;
-    }
-
-    /// Fills `block` with bytes that were received, and consumes them.
-    #[inline(always)]
-    fn take_into(&mut self, block: &mut [u8])
-        requires received { length block.old ≤ length self.old.reading.received }
-        requires counted { self.old.reading.taken + length block.old < 2 ^ 64 }
-        ensures len { length block.new ≡ length block.old }
-        ensures taken { Takes self.old.reading self.new.reading block.new }
-    {
-        let n = block.len();
-        block.copy_from_slice(&self.buffer.unread()[..n]);
-        self.consume(n);
-    }
-
-    /// A copy of the next `n` bytes, which were received.
-    fn front_copied(&self, alloc: Global, n: usize) -> Result<Vec<u8>, Error>
-        requires { n ≤ length self.now.reading.received }
-        ensures ok { IfOk result (λ v. v.items ≡ take n self.now.reading.received) }
-        ensures err { IfErr result (λ e. e ≡ OutOfMemory) }
-    {
-        match Vec::from_slice(alloc, &self.buffer.unread()[..n]) {
-            Ok(bytes) => Ok(bytes),
-            Err(_) => Err(Error::OutOfMemory),
-        }
-    }
-
-    /// The next `n` bytes, which were received: with the buffer's memory where they are all of it,
-    /// else copied.
-    fn take_front(&mut self, alloc: Global, n: usize) -> Result<Vec<u8>, Error>
-        requires received { n ≤ length self.old.reading.received }
-        requires counted { self.old.reading.taken + n < 2 ^ 64 }
-        ensures len { IfOk result (λ v. length v.items ≡ n) }
-        ensures ok { IfOk result (λ v. Takes self.old.reading self.new.reading v.items) }
-        ensures kept { OnErr result (self.new.reading ≡ self.old.reading) }
-        ensures err { IfErr result (λ e. e ≡ OutOfMemory) }
-    {
-        match self.buffer.hand_over(alloc, n) {
-            Some(bytes) => {
-                self.taken += n;
-                return Ok(bytes);
-            }
-            None => {}
-        }
-        let bytes = self.front_copied(alloc, n)?;
-        self.consume(n);
-        Ok(bytes)
-    }
-
-    /// Asks the source once for `n` bytes, not many, where nothing was received: the bytes, where
-    /// it gave them all. What it gave else is kept.
-    fn read_whole(&mut self, alloc: Global, n: usize) -> Result<Option<Vec<u8>>, Error>
-        requires received { self.old.reading.received ≡ [] }
-        requires some { 0 < n }
-        requires counted { self.old.reading.taken + n < 2 ^ 64 }
-        ensures len { IfOk result (λ o. IfSome o (λ v. length v.items ≡ n)) }
-        ensures taken { IfOk result (λ o. IfSome o (λ v.
-            Takes self.old.reading self.new.reading v.items)) }
-        ensures else_kept { IfOk result (λ o. o ≡ None →
-            Looked n self.old.reading self.new.reading) }
-        ensures err { OnErr result (Stays self.old.reading self.new.reading) }
-        ensures why { IfErr result (λ e.
-            Fails true true self.old.reading self.new.reading e) }
-    {
-        let mut bytes = match Vec::from_elem(alloc, 0, n) {
-            Ok(bytes) => bytes,
-            Err(_) => return Err(Error::OutOfMemory),
-        };
-        match self.source.read_some(&mut bytes) {
-            Ok(got) => {
-                if got == n {
-                    self.taken += n;
-                    return Ok(Some(bytes));
-                }
-                bytes.truncate(got);
-                self.buffer.take_over(bytes);
-                Ok(None)
-            }
-            Err(kind) => Err(Error::from(kind)),
-        }
-    }
-
-    /// Asks the source once for a payload of `n` bytes, where nothing was received and they aren't
-    /// many: the bytes, where it gave them all.
-    fn read_whole_at_once(&mut self, alloc: Global, n: usize) -> Result<Option<Vec<u8>>, Error>
-        ensures len { IfOk result (λ o. IfSome o (λ v. length v.items ≡ n)) }
-        ensures taken { IfOk result (λ o. IfSome o (λ v.
-            Takes self.old.reading self.new.reading v.items)) }
-        ensures else_kept { IfOk result (λ o. o ≡ None →
-            Looked n self.old.reading self.new.reading) }
-        ensures err { OnErr result (Stays self.old.reading self.new.reading) }
-        ensures why { IfErr result (λ e.
-            Fails true true self.old.reading self.new.reading e) }
-    {
-        if self.can_ask_at_once(n, PIECE) {
-            return self.read_whole(alloc, n);
-        }
-        Ok(None)
-    }
-
-    /// The next `n` bytes, by the buffer.
-    fn read_bytes_buffered(&mut self, alloc: Global, n: usize) -> Result<Vec<u8>, Error>
-        ensures len { IfOk result (λ v. length v.items ≡ n) }
-        ensures ok { IfOk result (λ v. Takes self.old.reading self.new.reading v.items) }
-        ensures err { OnErr result (Stays self.old.reading self.new.reading) }
-        ensures why { IfErr result (λ e.
-            NotTaken true true n self.old.reading self.new.reading e) }
-    {
-        match self.receive_all(n) {
-            Ok(()) => match self.take_front(alloc, n) {
-                Ok(bytes) => Ok(bytes),
-                Err(e) => Err(e),
-            },
-            Err(e) => Err(e),
-        }
-    }
-
-    /// The next `n` bytes as a text, which were received.
-    fn front_text(&self, alloc: Global, n: usize) -> Result<String, Error>
-        requires { n ≤ length self.now.reading.received }
-        ensures ok { IfOk result (λ t. string_bytes t ≡ take n self.now.reading.received) }
-        ensures why { IfErr result (λ e.
-            NoText n self.now.reading e ⊎ (e ≡ OutOfMemory)) }
-    {
-        text_of(alloc, &self.buffer.unread()[..n])
-    }
-
-    /// The next byte, straight from the source.
-    #[inline(always)]
-    fn next_of_source(&mut self) -> Result<Option<u8>, Error>
-        requires received { self.old.reading.received ≡ [] }
-        requires counted { self.old.reading.taken + 1 < 2 ^ 64 }
-        ensures ok { IfOk result (λ o. MatchOption o
-            (Stays self.old.reading self.new.reading × Ended self.old.reading)
-            (λ b. Takes self.old.reading self.new.reading (b ∷ []))) }
-        ensures err { OnErr result (Stays self.old.reading self.new.reading) }
-        ensures why { IfErr result (λ e.
-            Fails true true self.old.reading self.new.reading e) }
-    {
-        let mut one = [0; 1];
-        match self.source.read_some(&mut one) {
-            Ok(0) => Ok(None),
-            Ok(_) => {
-                self.taken += 1;
-                Ok(Some(one[0]))
-            }
-            Err(kind) => Err(Error::from(kind)),
-        }
     }
 
     /// Whether nothing was received, and `n` bytes, `most` at most, can be counted.
@@ -341,207 +139,14 @@ impl<S: Source> IoReader<S> {
         self.received() == 0 && 0 < n && n <= most && n <= usize::MAX - self.bytes_consumed()
     }
 
-    /// Asks the source once for all of `block`: whether it gave it. What it gave else is kept, and
-    /// `block` stays.
-    fn read_small(&mut self, block: &mut [u8]) -> Result<bool, Error>
-        requires received { self.old.reading.received ≡ [] }
-        requires some { 0 < length block.old }
-        requires few { length block.old ≤ 16 }
-        requires counted { self.old.reading.taken + length block.old < 2 ^ 64 }
-        ensures len { length block.new ≡ length block.old }
-        ensures taken { IfOk result (λ all. IsTrue all →
-            Takes self.old.reading self.new.reading block.new) }
-        ensures else_kept { IfOk result (λ all. all ≡ false →
-            Looked (length block.old) self.old.reading self.new.reading
-            × (block.new ≡ block.old)) }
-        ensures err { OnErr result (Stays self.old.reading self.new.reading
-            × (block.new ≡ block.old)) }
-        ensures why { IfErr result (λ e.
-            Fails true true self.old.reading self.new.reading e) }
-    {
-        let n = block.len();
-        match self.buffer.make_room(n, n) {
-            Ok(()) => {}
-            Err(e) => return Err(e),
-        }
-        let mut small = [0; SMALL];
-        match self.source.read_some(&mut small[..n]) {
-            Ok(got) => {
-                if got == n {
-                    block.copy_from_slice(&small[..n]);
-                    self.taken += n;
-                    Ok(true)
-                } else {
-                    self.buffer.append(&small[..got]);
-                    Ok(false)
-                }
-            }
-            Err(kind) => Err(Error::from(kind)),
-        }
-    }
-
-    /// Asks the source once for a small `block` where nothing was received: whether it gave it.
-    fn read_at_once(&mut self, block: &mut [u8]) -> Result<bool, Error>
-        ensures len { length block.new ≡ length block.old }
-        ensures taken { IfOk result (λ all. IsTrue all →
-            Takes self.old.reading self.new.reading block.new) }
-        ensures else_kept { IfOk result (λ all. all ≡ false →
-            Looked (length block.old) self.old.reading self.new.reading
-            × (block.new ≡ block.old)) }
-        ensures err { OnErr result (Stays self.old.reading self.new.reading
-            × (block.new ≡ block.old)) }
-        ensures why { IfErr result (λ e.
-            Fails true true self.old.reading self.new.reading e) }
-    {
-        let n = block.len();
-        if self.can_ask_at_once(n, SMALL) {
-            return self.read_small(block);
-        }
-        Ok(false)
-    }
-
-    /// Fills `block` by the buffer.
-    fn read_buffered(&mut self, block: &mut [u8]) -> Result<(), Error>
-        ensures len { length block.new ≡ length block.old }
-        ensures ok { OnOk result (Takes self.old.reading self.new.reading block.new) }
-        ensures err { OnErr result (Stays self.old.reading self.new.reading
-            × (block.new ≡ block.old)) }
-        ensures why { IfErr result (λ e. NotTaken true true (length block.old)
-            self.old.reading self.new.reading e) }
-    {
-        let n = block.len();
-        match self.receive_all(n) {
-            Ok(()) => {
-                self.take_into(block);
-                Ok(())
-            }
-            Err(e) => Err(e),
-        }
-    }
-
-    /// The next byte, where none is received that can be counted.
-    fn next_not_received(&mut self) -> Result<Option<u8>, Error>
-        requires { (self.old.reading.received ≡ []) ⊎ (2 ^ 64 ≤ self.old.reading.taken + 1) }
-        ensures ok { IfOk result (λ o. MatchOption o
-            (Stays self.old.reading self.new.reading × Ended self.old.reading)
-            (λ b. Takes self.old.reading self.new.reading (b ∷ []))) }
-        ensures err { OnErr result (Stays self.old.reading self.new.reading) }
-        ensures why { IfErr result (λ e. Fails true true self.old.reading self.new.reading e
-            ⊎ PassesCount true 1 self.old.reading e) }
-    {
-        if self.bytes_consumed() != usize::MAX {
-            return self.next_of_source();
-        }
-        match self.fill(1) {
-            Ok(true) => Err(self.uncounted_byte()),
-            Ok(false) => Ok(None),
-            Err(e) => Err(e),
-        }
-    }
-
-    /// Fills `block`, where fewer bytes are received or can be counted.
-    fn read_not_received(&mut self, block: &mut [u8]) -> Result<(), Error>
-        ensures len { length block.new ≡ length block.old }
-        ensures ok { OnOk result (Takes self.old.reading self.new.reading block.new) }
-        ensures err { OnErr result (Stays self.old.reading self.new.reading
-            × (block.new ≡ block.old)) }
-        ensures why { IfErr result (λ e. NotTaken true true (length block.old)
-            self.old.reading self.new.reading e) }
-    {
-        match self.read_at_once(block) {
-            Ok(true) => Ok(()),
-            Ok(false) => self.read_buffered(block),
-            Err(e) => Err(e),
-        }
-    }
-
-    /// Fills `block` with bytes that were received, and consumes them, where all of them were and
-    /// can be counted; else nothing changes.
+    /// Whether `n` bytes are received that can be counted.
     #[inline(always)]
-    fn take_received(&mut self, block: &mut [u8]) -> bool
-        ensures len { length block.new ≡ length block.old }
-        ensures taken { IsTrue result → Takes self.old.reading self.new.reading block.new }
-        ensures else_kept { result ≡ false → self.new ≡ self.old }
-        ensures else_as_it_was { result ≡ false → block.new ≡ block.old }
+    fn has_received(&self, n: usize) -> bool
+        ensures received { IsTrue result → n ≤ length self.now.reading.received }
+        ensures counted { IsTrue result → self.now.reading.taken + n < 2 ^ 64 }
+        ensures else_few { result ≡ false → NotAtHand true n self.now.reading }
     {
-        let n = block.len();
-        if self.received() < n || usize::MAX - self.bytes_consumed() < n {
-            return false;
-        }
-        self.take_into(block);
-        true
-    }
-
-    /// Consumes some of the next bytes, `n` at most, and says how many.
-    fn pass(&mut self, n: usize) -> Result<usize, Error>
-        requires some { 0 < n }
-        requires counted { self.old.reading.taken + n < 2 ^ 64 }
-        ensures few { IfOk result (λ k. k ≤ n) }
-        ensures ok { IfOk result (λ k. Passes k self.old.reading self.new.reading) }
-        ensures short { IfOk result (λ k. k ≡ 0 → IsShort 1 self.old.reading) }
-        ensures err { OnErr result (Stays self.old.reading self.new.reading) }
-        ensures received { OnErr result
-            (self.new.reading.received ≡ self.old.reading.received) }
-        ensures why { IfErr result (λ e.
-            Fails true true self.old.reading self.new.reading e) }
-    {
-        let received = self.buffer.len();
-        if received > 0 {
-            let k = n.min(received);
-            self.consume(k);
-            return Ok(k);
-        }
-        self.pass_of_source(n)
-    }
-
-    /// Consumes some of the next bytes, straight from the source.
-    fn pass_of_source(&mut self, n: usize) -> Result<usize, Error>
-        requires received { self.old.reading.received ≡ [] }
-        requires some { 0 < n }
-        requires counted { self.old.reading.taken + n < 2 ^ 64 }
-        ensures few { IfOk result (λ k. k ≤ n) }
-        ensures ok { IfOk result (λ k. Passes k self.old.reading self.new.reading) }
-        ensures short { IfOk result (λ k. k ≡ 0 → IsShort 1 self.old.reading) }
-        ensures err { OnErr result (Stays self.old.reading self.new.reading) }
-        ensures received { OnErr result
-            (self.new.reading.received ≡ self.old.reading.received) }
-        ensures why { IfErr result (λ e.
-            Fails true true self.old.reading self.new.reading e) }
-    {
-        let mut block = [0; BLOCK];
-        let few = n.min(BLOCK);
-        match self.source.read_some(&mut block[..few]) {
-            Ok(k) => {
-                self.taken += k;
-                Ok(k)
-            }
-            Err(kind) => Err(Error::from(kind)),
-        }
-    }
-
-    /// Why a received byte that can't be counted isn't consumed.
-    #[cold]
-    fn uncounted_byte(&self) -> Error
-        requires received { 0 < length self.now.reading.received }
-        requires uncounted { 2 ^ 64 ≤ self.now.reading.taken + 1 }
-        ensures { PassesCount true 1 self.now.reading result }
-    {
-        let _received = self.buffer.len();
-        Error::Io(ErrorKind::Other)
-    }
-
-    /// Why `n` bytes that can't be counted aren't passed over. Whether they are there is known of
-    /// received ones alone, and for more there is no room.
-    #[cold]
-    fn uncounted(&self, n: usize) -> Error
-        requires { 2 ^ 64 ≤ self.now.reading.taken + n }
-        ensures { NotTaken true true n self.now.reading self.now.reading result }
-    {
-        if self.buffer.len() >= n {
-            Error::Io(ErrorKind::Other)
-        } else {
-            Error::OutOfMemory
-        }
+        self.received() >= n && usize::MAX - self.bytes_consumed() >= n
     }
 }
 
@@ -599,25 +204,27 @@ impl<S: Source> Read for IoReader<S> {
     }
 
     fn read_bytes(&mut self, alloc: Global, n: usize) -> Result<Vec<u8>, Error> {
-        match self.read_whole_at_once(alloc, n) {
-            Ok(whole) => match whole {
-                Some(bytes) => Ok(bytes),
-                None => match self.read_bytes_buffered(alloc, n) {
-                    Ok(bytes) => Ok(bytes),
-                    Err(e) => Err(e),
-                },
+        match self.receive_at_once(alloc, n) {
+            Ok(Some(bytes)) => {
+                self.consume_apart(&bytes);
+                Ok(bytes)
+            }
+            Ok(None) => match self.read_bytes_buffered(alloc, n) {
+                Ok(bytes) => Ok(bytes),
+                Err(e) => Err(e),
             },
             Err(e) => Err(e),
         }
     }
 
     fn forward_read_str(&mut self, alloc: Global, n: usize) -> Result<String, Error> {
-        match self.receive_all(n) {
-            Ok(()) => match self.front_text(alloc, n) {
-                Ok(text) => {
-                    self.consume(n);
-                    Ok(text)
-                }
+        match self.receive_at_once(alloc, n) {
+            Ok(Some(bytes)) => match self.take_text(bytes) {
+                Ok(text) => Ok(text),
+                Err(e) => Err(e),
+            },
+            Ok(None) => match self.read_text_buffered(alloc, n) {
+                Ok(text) => Ok(text),
                 Err(e) => Err(e),
             },
             Err(e) => Err(e),
@@ -660,11 +267,11 @@ impl<S: Source> Read for IoReader<S> {
 
     #[inline(always)]
     fn pass_at_hand(&mut self, n: usize) -> bool {
-        let at_hand = self.received() >= n && usize::MAX - self.bytes_consumed() >= n;
-        if at_hand {
+        let is_at_hand = self.has_received(n);
+        if is_at_hand {
             self.consume(n);
         }
-        at_hand
+        is_at_hand
     }
 
     #[inline(always)]

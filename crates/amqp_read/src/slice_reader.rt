@@ -1,8 +1,8 @@
 //! A reader over bytes in memory.
 
-ghost use Rattle.std.specs.Prelude.{◌≡◌, ◌<◌, ◌≤◌, ◌+◌, ◌^◌, ℕ, Bool};
-ghost use Rattle.std.specs.Prelude.{true, false, List, [], ◌∷◌, length, IfOk, IfErr, OnOk};
-ghost use Rattle.std.specs.Prelude.{OnErr, IsTrue, MatchOption, Some, None};
+ghost use Rattle.std.specs.Prelude.{◌≡◌, ◌⊎◌, ◌<◌, ◌+◌, ◌^◌};
+ghost use Rattle.std.specs.Prelude.{true, false, [], length, IfOk, IfErr, OnOk};
+ghost use Rattle.std.specs.Prelude.{OnErr, IsTrue, IsUtf8, MatchOption, Some, None};
 ghost use Rattle.std.specs.declared.io.ErrorKind.TheVariants.{UnexpectedEof};
 ghost use Rattle.amqp_base.specs.declared.error.Error.TheVariants.{Io};
 ghost use Rattle.std.specs.Borrow.{sem};
@@ -10,6 +10,7 @@ ghost use Rattle.std.specs.Io.BufRead.{Rests};
 ghost use mir.Syntax.{named};
 ghost use Rattle.amqp_read.specs.contracts.slice_reader.SliceReader.{the_row};
 ghost use Rattle.amqp_read.specs.Reading.{Reading, Takes};
+ghost use Rattle.amqp_read.specs.Texts.{NoText};
 ghost use Rattle.amqp_read.specs.Steps.{ShortOf, MayCome, IsShort, Looked, NotTaken, Passes};
 ghost use Rattle.amqp_read.specs.Steps.{PassesSome, Failed};
 
@@ -30,7 +31,7 @@ pub struct SliceReader<'s> {
 }
 
 impl<'s> Model for SliceReader<'s> {
-    ghost use Rattle.std.specs.Prelude.{ℕ, ◌<◌, ◌+◌, ◌^◌, length, true, [], Some};
+    ghost use Rattle.std.specs.Prelude.{◌<◌, ◌+◌, ◌^◌, length, true, [], Some};
     ghost use Rattle.std.specs.Prelude.{None};
     ghost use Rattle.amqp_read.specs.Reading.{Reading};
 
@@ -84,6 +85,31 @@ impl<'s> SliceReader<'s> {
         self.rest = rest;
         self.taken += n;
         Ok(front)
+    }
+
+    /// As `get_byte_slice`, as a text; `InvalidUtf8Encoding` where the bytes aren't UTF-8, which
+    /// changes nothing either.
+    #[doc(hidden)]
+    #[inline(always)]
+    pub fn get_text_slice(&mut self, n: usize) -> Result<&'s str, Error>
+        ensures ok { IfOk result (λ t. (length t.now ≡ n) × Takes self.old self.new t.now) }
+        ensures utf8 { IfOk result (λ t. IsUtf8 t.now) }
+        ensures err { OnErr result (self.new ≡ self.old) }
+        ensures why { IfErr result (λ e.
+            NoText n self.old e ⊎ NotTaken false false n self.old self.new e) }
+    {
+        if n > self.rest.len() {
+            return Err(Error::Io(ErrorKind::UnexpectedEof));
+        }
+        let (front, rest) = self.rest.split_at(n);
+        match std::str::from_utf8(front) {
+            Ok(text) => {
+                self.rest = rest;
+                self.taken += n;
+                Ok(text)
+            }
+            Err(_) => Err(Error::InvalidUtf8Encoding),
+        }
     }
 
     /// The next `n` bytes, where there are so many. They stay.

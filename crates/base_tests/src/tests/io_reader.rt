@@ -229,3 +229,37 @@ fn a_long_payload_is_one_vector_however_it_is_cut(rt: HostRuntime) {
         }
     }
 }
+
+/// A text comes from a source in such pieces, and is handed on; or it is refused, and still there.
+fn is_text_in_pieces(alloc: Global, bytes: &[u8], most: usize, want: Answer) -> bool {
+    let n = bytes.len();
+    let mut reader = IoReader::new(alloc, Counted::new(Cut { rest: bytes, most }));
+    match reader.forward_read_str(alloc, n) {
+        Ok(text) => {
+            let is_handed_on = text.as_bytes() == bytes && reader.bytes_consumed() == n;
+            want == Answer::Taken && is_handed_on
+        }
+        Err(e) => {
+            let is_so = name_of(&e) == want && reader.bytes_consumed() == 0;
+            is_payload(&mut reader, alloc, n, Some(bytes)) && is_so
+        }
+    }
+}
+
+#[test]
+fn a_text_of_a_source_is_handed_on_however_it_is_cut(rt: HostRuntime) {
+    let alloc = rt.alloc();
+    let text = [b'a'; 9000];
+    let mut refused = [b'a'; 9000];
+    refused[299] = 0xff;
+    for n in [0, 1, 300, 4096, 5000, 9000] {
+        for most in [100, 1000, 4096, 20_000] {
+            let no_text = match n {
+                0 | 1 => Answer::Taken,
+                _ => Answer::InvalidUtf8Encoding,
+            };
+            assert!(rt; is_text_in_pieces(alloc, &text[..n], most, Answer::Taken));
+            assert!(rt; is_text_in_pieces(alloc, &refused[..n], most, no_text));
+        }
+    }
+}

@@ -249,6 +249,20 @@ fn a_lent_slice_lives_as_long_as_the_bytes(rt: HostRuntime) {
     assert!(rt; lends_two(rt.alloc(), BYTES, b"\xde\xad"));
 }
 
+/// A text of `n` bytes is lent, or refused, and the reader is at the position behind it.
+fn lends_text(bytes: &[u8], n: usize, want: Result<&str, Answer>, position: usize) -> bool {
+    let mut reader = SliceReader::new(bytes);
+    is(reader.get_text_slice(n), want) && reader.bytes_consumed() == position
+}
+
+#[test]
+fn a_lent_text_is_utf8_or_stays(rt: HostRuntime) {
+    assert!(rt; lends_text(b"\xc3\xa9a", 2, Ok("é"), 2));
+    assert!(rt; lends_text(b"\xc3\xa9a", 0, Ok(""), 0));
+    assert!(rt; lends_text(b"\xc3\xa9a", 1, Err(Answer::InvalidUtf8Encoding), 0));
+    assert!(rt; lends_text(b"\xc3\xa9a", 4, Err(UNEXPECTED_EOF), 0));
+}
+
 const TWENTY_ONE: &[u8] =
     b"\x00\x01\x02\x03\x04\x05\x06\x07\x08\x09\x0a\x0b\x0c\x0d\x0e\x0f\x10\x11\x12\x13\x14";
 

@@ -46,7 +46,7 @@ fn text_and_binary(bytes: &[u8]) -> (Answer, Answer, usize) {
 #[test]
 fn texts_and_bytes_are_lent_by_name(rt: HostRuntime) {
     assert!(rt; text(b"\xa1\x02hi\x40") == (Ok("hi"), 4));
-    assert!(rt; text(b"\xa3\x01\xff\x40") == (Err(InvalidUtf8Encoding), 3));
+    assert!(rt; text(b"\xa3\x01\xff\x40") == (Err(InvalidUtf8Encoding), 2));
     assert!(rt; text(b"\xa0\x01a") == (Err(InvalidFormatCode), 1));
     assert!(rt; binary(b"\xa0\x01\xff\x40") == (Ok(b"\xff"), 3));
     assert!(rt; binary(b"\xa0\x02\xff") == (Err(UNEXPECTED_EOF), 2));

@@ -1,10 +1,13 @@
-use Rattle.std.proofs.Common.{◌≡◌, length, take}
-use Rattle.std.proofs.lemmas.List.{length-take-le}
-use Rattle.amqp_read.proofs.Streams.{looked_takes}
+use Rattle.std.proofs.Common.{refl}
+use Rattle.amqp_read.proofs.Streams.{apart_takes, looked_takes, when_some}
 use Rattle.amqp_read.proofs.io_reader.IoReaderRead.forward_read_str.Goals as goal
 
-pub returns-in-Ok-front_text-clause-ok : goal.returns-in-Ok-front_text-clause-ok
-returns-in-Ok-front_text-clause-ok g c =
-    let received = c.receive_all.new.self.reading.received in
-    let len : length (take c.args.n received) ≡ c.args.n = length-take-le c.args.n received c.in-Ok.ensures.ok.0 in
-    rw c.in-Ok-front_text.ensures.ok (len, looked_takes c.receive_all.ensures.looked c.consume.ensures len)
+pub returns-in-Ok-clause-ok : goal.returns-in-Ok-clause-ok
+returns-in-Ok-clause-ok g c =
+    let some = c.in-Ok-Some.field-0-is in
+    rw c.in-Ok.ensures.text (when_some _ c.in-Ok-Some.ensures.len some, apart_takes (when_some _ c.in-Ok-Some.ensures.apart some) refl c.in-Ok.ensures.ok)
+
+pub returns-in-Ok-read_text_buffered-clause-ok : goal.returns-in-Ok-read_text_buffered-clause-ok
+returns-in-Ok-read_text_buffered-clause-ok g c =
+    let len = c.in-Ok-read_text_buffered.ensures.len in
+    (len, looked_takes (c.in-Ok-None.ensures.else_kept c.in-Ok-None.field-0-is) c.in-Ok-read_text_buffered.ensures.ok len)

@@ -1,7 +1,7 @@
 use Rattle.std.proofs.Common.{ap}
 use Rattle.amqp_read.specs.Streaming.{Streaming}
 use Rattle.amqp_read.proofs.Streams.{fault_fails}
-use Rattle.amqp_read.proofs.io_reader.IoReader.read_whole.Goals as goal
+use Rattle.amqp_read.proofs.io_reader.IoReader.receive_at_once.Goals as goal
 
 pub returns-in-Err-read_some-clause-why : goal.returns-in-Err-read_some-clause-why
 returns-in-Err-read_some-clause-why g c =

@@ -1,0 +1,197 @@
+//! A block of bytes that is filled, and single bytes.
+
+ghost use Rattle.std.specs.Prelude.{◌≡◌, ◌⊎◌, ◌<◌, ◌≤◌, ◌+◌, ◌^◌};
+ghost use Rattle.std.specs.Prelude.{true, false, [], ◌∷◌, length};
+ghost use Rattle.std.specs.Prelude.{IfOk, IfErr, OnOk, OnErr, IsTrue, MatchOption};
+ghost use Rattle.std.specs.Prelude.{Some, None};
+ghost use Rattle.amqp_base.specs.declared.error.Error.TheVariants.{Io};
+ghost use Rattle.amqp_read.specs.Reading.{Stays, Takes};
+ghost use Rattle.amqp_read.specs.Steps.{Ended, Looked, Fails, NotTaken};
+ghost use Rattle.amqp_read.specs.Steps.{PassesCount};
+
+use super::IoReader;
+use crate::Read;
+use amqp_base::{Error, Source};
+use std::io::ErrorKind;
+
+/// The most bytes that are read straight from the source where none was received.
+const SMALL: usize = 16;
+
+impl<S: Source> IoReader<S> {
+    /// Fills `block` with bytes that were received, and consumes them.
+    #[inline(always)]
+    fn take_into(&mut self, block: &mut [u8])
+        requires received { length block.old ≤ length self.old.reading.received }
+        requires counted { self.old.reading.taken + length block.old < 2 ^ 64 }
+        ensures len { length block.new ≡ length block.old }
+        ensures taken { Takes self.old.reading self.new.reading block.new }
+    {
+        let n = block.len();
+        block.copy_from_slice(&self.buffer.unread()[..n]);
+        self.consume(n);
+    }
+
+    /// Fills `block` with bytes that were received, and consumes them, where all of them were and
+    /// can be counted; else nothing changes.
+    #[inline(always)]
+    pub(super) fn take_received(&mut self, block: &mut [u8]) -> bool
+        ensures len { length block.new ≡ length block.old }
+        ensures taken { IsTrue result → Takes self.old.reading self.new.reading block.new }
+        ensures else_kept { result ≡ false → self.new ≡ self.old }
+        ensures else_as_it_was { result ≡ false → block.new ≡ block.old }
+    {
+        let is_received = self.has_received(block.len());
+        if is_received {
+            self.take_into(block);
+        }
+        is_received
+    }
+
+    /// Asks the source once for all of `block`: whether it gave it. What it gave else is kept, and
+    /// `block` stays.
+    fn read_small(&mut self, block: &mut [u8]) -> Result<bool, Error>
+        requires received { self.old.reading.received ≡ [] }
+        requires some { 0 < length block.old }
+        requires few { length block.old ≤ 16 }
+        requires counted { self.old.reading.taken + length block.old < 2 ^ 64 }
+        ensures len { length block.new ≡ length block.old }
+        ensures taken { IfOk result (λ all. IsTrue all →
+            Takes self.old.reading self.new.reading block.new) }
+        ensures else_kept { IfOk result (λ all. all ≡ false →
+            Looked (length block.old) self.old.reading self.new.reading
+            × (block.new ≡ block.old)) }
+        ensures err { OnErr result (Stays self.old.reading self.new.reading
+            × (block.new ≡ block.old)) }
+        ensures why { IfErr result (λ e.
+            Fails true true self.old.reading self.new.reading e) }
+    {
+        let n = block.len();
+        match self.buffer.make_room(n, n) {
+            Ok(()) => {}
+            Err(e) => return Err(e),
+        }
+        let mut small = [0; SMALL];
+        match self.source.read_some(&mut small[..n]) {
+            Ok(got) => {
+                if got == n {
+                    block.copy_from_slice(&small[..n]);
+                    self.taken += n;
+                    Ok(true)
+                } else {
+                    self.buffer.append(&small[..got]);
+                    Ok(false)
+                }
+            }
+            Err(kind) => Err(Error::from(kind)),
+        }
+    }
+
+    /// Asks the source once for a small `block` where nothing was received: whether it gave it.
+    fn read_at_once(&mut self, block: &mut [u8]) -> Result<bool, Error>
+        ensures len { length block.new ≡ length block.old }
+        ensures taken { IfOk result (λ all. IsTrue all →
+            Takes self.old.reading self.new.reading block.new) }
+        ensures else_kept { IfOk result (λ all. all ≡ false →
+            Looked (length block.old) self.old.reading self.new.reading
+            × (block.new ≡ block.old)) }
+        ensures err { OnErr result (Stays self.old.reading self.new.reading
+            × (block.new ≡ block.old)) }
+        ensures why { IfErr result (λ e.
+            Fails true true self.old.reading self.new.reading e) }
+    {
+        let n = block.len();
+        if self.can_ask_at_once(n, SMALL) {
+            return self.read_small(block);
+        }
+        Ok(false)
+    }
+
+    /// Fills `block` by the buffer.
+    fn read_buffered(&mut self, block: &mut [u8]) -> Result<(), Error>
+        ensures len { length block.new ≡ length block.old }
+        ensures ok { OnOk result (Takes self.old.reading self.new.reading block.new) }
+        ensures err { OnErr result (Stays self.old.reading self.new.reading
+            × (block.new ≡ block.old)) }
+        ensures why { IfErr result (λ e. NotTaken true true (length block.old)
+            self.old.reading self.new.reading e) }
+    {
+        let n = block.len();
+        match self.receive_all(n) {
+            Ok(()) => {
+                self.take_into(block);
+                Ok(())
+            }
+            Err(e) => Err(e),
+        }
+    }
+
+    /// Fills `block`, where fewer bytes are received or can be counted.
+    pub(super) fn read_not_received(&mut self, block: &mut [u8]) -> Result<(), Error>
+        ensures len { length block.new ≡ length block.old }
+        ensures ok { OnOk result (Takes self.old.reading self.new.reading block.new) }
+        ensures err { OnErr result (Stays self.old.reading self.new.reading
+            × (block.new ≡ block.old)) }
+        ensures why { IfErr result (λ e. NotTaken true true (length block.old)
+            self.old.reading self.new.reading e) }
+    {
+        match self.read_at_once(block) {
+            Ok(true) => Ok(()),
+            Ok(false) => self.read_buffered(block),
+            Err(e) => Err(e),
+        }
+    }
+
+    /// The next byte, straight from the source.
+    #[inline(always)]
+    fn next_of_source(&mut self) -> Result<Option<u8>, Error>
+        requires received { self.old.reading.received ≡ [] }
+        requires counted { self.old.reading.taken + 1 < 2 ^ 64 }
+        ensures ok { IfOk result (λ o. MatchOption o
+            (Stays self.old.reading self.new.reading × Ended self.old.reading)
+            (λ b. Takes self.old.reading self.new.reading (b ∷ []))) }
+        ensures err { OnErr result (Stays self.old.reading self.new.reading) }
+        ensures why { IfErr result (λ e.
+            Fails true true self.old.reading self.new.reading e) }
+    {
+        let mut one = [0; 1];
+        match self.source.read_some(&mut one) {
+            Ok(0) => Ok(None),
+            Ok(_) => {
+                self.taken += 1;
+                Ok(Some(one[0]))
+            }
+            Err(kind) => Err(Error::from(kind)),
+        }
+    }
+
+    /// The next byte, where none is received that can be counted.
+    pub(super) fn next_not_received(&mut self) -> Result<Option<u8>, Error>
+        requires { (self.old.reading.received ≡ []) ⊎ (2 ^ 64 ≤ self.old.reading.taken + 1) }
+        ensures ok { IfOk result (λ o. MatchOption o
+            (Stays self.old.reading self.new.reading × Ended self.old.reading)
+            (λ b. Takes self.old.reading self.new.reading (b ∷ []))) }
+        ensures err { OnErr result (Stays self.old.reading self.new.reading) }
+        ensures why { IfErr result (λ e. Fails true true self.old.reading self.new.reading e
+            ⊎ PassesCount true 1 self.old.reading e) }
+    {
+        if self.bytes_consumed() != usize::MAX {
+            return self.next_of_source();
+        }
+        match self.fill(1) {
+            Ok(true) => Err(self.uncounted_byte()),
+            Ok(false) => Ok(None),
+            Err(e) => Err(e),
+        }
+    }
+
+    /// Why a received byte that can't be counted isn't consumed.
+    #[cold]
+    fn uncounted_byte(&self) -> Error
+        requires received { 0 < length self.now.reading.received }
+        requires uncounted { 2 ^ 64 ≤ self.now.reading.taken + 1 }
+        ensures { PassesCount true 1 self.now.reading result }
+    {
+        let _received = self.buffer.len();
+        Error::Io(ErrorKind::Other)
+    }
+}

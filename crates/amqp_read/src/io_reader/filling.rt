@@ -1,0 +1,66 @@
+//! Receiving until so many bytes are unread.
+
+ghost use Rattle.std.specs.Prelude.{◌≡◌, ◌<◌, ◌≤◌, ◌+◌, ◌^◌};
+ghost use Rattle.std.specs.Prelude.{true, false, length};
+ghost use Rattle.std.specs.Prelude.{IfOk, IfErr, OnOk, IsTrue};
+ghost use Rattle.std.specs.declared.io.ErrorKind.TheVariants.{UnexpectedEof};
+ghost use Rattle.amqp_base.specs.declared.error.Error.TheVariants.{Io};
+ghost use Rattle.amqp_read.specs.Steps.{IsShort, Looked, Fails, NotTaken};
+ghost use Rattle.amqp_read.specs.Streaming.{SawMore};
+
+use super::IoReader;
+use amqp_base::{Error, Source};
+use std::io::ErrorKind;
+
+impl<S: Source> IoReader<S> {
+    /// Asks the source once for what `n` unread bytes lack: whether it gave some.
+    pub(super) fn more(&mut self, n: usize) -> Result<bool, Error>
+        requires { length self.old.reading.received < n }
+        ensures looked { Looked n self.old.reading self.new.reading }
+        ensures some { IfOk result (λ some. IsTrue some →
+            length self.old.reading.received < length self.new.reading.received) }
+        ensures short { IfOk result (λ some. some ≡ false → IsShort n self.old.reading) }
+        ensures why { IfErr result (λ e.
+            Fails true true self.old.reading self.new.reading e) }
+        ensures most { SawMore self.old self.new }
+    {
+        let lacking = n - self.buffer.len();
+        let got = self.buffer.receive(&mut self.source, lacking)?;
+        Ok(got != 0)
+    }
+
+    /// Whether `n` bytes are received and unread, once the source was asked for what they lack.
+    pub(super) fn fill(&mut self, n: usize) -> Result<bool, Error>
+        ensures looked { Looked n self.old.reading self.new.reading }
+        ensures full { IfOk result (λ f. IsTrue f → n ≤ length self.new.reading.received) }
+        ensures short { IfOk result (λ f. f ≡ false → IsShort n self.old.reading) }
+        ensures why { IfErr result (λ e.
+            Fails true true self.old.reading self.new.reading e) }
+        ensures most { SawMore self.old self.new }
+    {
+        'bytes: while self.received() < n {
+            match self.more(n) {
+                Ok(true) => {}
+                Ok(false) => return Ok(false),
+                Err(e) => return Err(e),
+            }
+        }
+        Ok(true)
+    }
+
+    /// Receives bytes until `n` are unread that can be counted.
+    pub(super) fn receive_all(&mut self, n: usize) -> Result<(), Error>
+        ensures looked { Looked n self.old.reading self.new.reading }
+        ensures ok { OnOk result ((n ≤ length self.new.reading.received)
+            × (self.new.reading.taken + n < 2 ^ 64)) }
+        ensures why { IfErr result (λ e.
+            NotTaken true true n self.old.reading self.new.reading e) }
+    {
+        match self.fill(n) {
+            Ok(true) if n > usize::MAX - self.taken => Err(Error::Io(ErrorKind::Other)),
+            Ok(true) => Ok(()),
+            Ok(false) => Err(Error::Io(ErrorKind::UnexpectedEof)),
+            Err(e) => Err(e),
+        }
+    }
+}

@@ -1,0 +1,190 @@
+//! Payloads and texts, in memory of their own.
+
+ghost use Rattle.std.specs.Prelude.{◌≡◌, ◌⊎◌, ◌<◌, ◌≤◌, ◌+◌, ◌^◌};
+ghost use Rattle.std.specs.Prelude.{true, [], length, take};
+ghost use Rattle.std.specs.Prelude.{IfOk, IfErr, IfSome, OnOk, OnErr};
+ghost use Rattle.std.specs.Prelude.{Some, None, string_bytes};
+ghost use Rattle.amqp_read.specs.Texts.{NotText, NoText};
+ghost use Rattle.amqp_base.specs.declared.error.Error.TheVariants.{OutOfMemory};
+ghost use Rattle.amqp_read.specs.Reading.{Stays, Takes};
+ghost use Rattle.amqp_read.specs.Steps.{Looked, Fails, NotTaken};
+ghost use Rattle.amqp_read.specs.Streaming.{IsApart};
+ghost use Rattle.amqp_read.specs.Streaming.{with_received};
+
+use super::IoReader;
+use crate::buffer::PIECE;
+use crate::read::text_of;
+use amqp_base::{Error, Source};
+use std::alloc::Global;
+
+impl<S: Source> IoReader<S> {
+    /// A copy of the next `n` bytes, which were received.
+    fn front_copied(&self, alloc: Global, n: usize) -> Result<Vec<u8>, Error>
+        requires { n ≤ length self.now.reading.received }
+        ensures ok { IfOk result (λ v. v.items ≡ take n self.now.reading.received) }
+        ensures err { IfErr result (λ e. e ≡ OutOfMemory) }
+    {
+        match Vec::from_slice(alloc, &self.buffer.unread()[..n]) {
+            Ok(bytes) => Ok(bytes),
+            Err(_) => Err(Error::OutOfMemory),
+        }
+    }
+
+    /// The next `n` bytes, which were received, apart from the buffer with its memory, where they
+    /// are many and all that it holds.
+    fn hand_over(&mut self, alloc: Global, n: usize) -> Option<Vec<u8>>
+        requires counted { self.old.reading.taken + n < 2 ^ 64 }
+        ensures len { IfSome result (λ v. length v.items ≡ n) }
+        ensures apart { IfSome result (λ v.
+            IsApart v.items self.old.reading self.new.reading) }
+        ensures else_kept { result ≡ None → self.new ≡ self.old }
+    {
+        self.buffer.hand_over(alloc, n)
+    }
+
+    /// A copy of the next `n` bytes, which were received, and which are consumed.
+    fn take_front(&mut self, alloc: Global, n: usize) -> Result<Vec<u8>, Error>
+        requires received { n ≤ length self.old.reading.received }
+        requires counted { self.old.reading.taken + n < 2 ^ 64 }
+        ensures len { IfOk result (λ v. length v.items ≡ n) }
+        ensures ok { IfOk result (λ v. Takes self.old.reading self.new.reading v.items) }
+        ensures kept { OnErr result (self.new.reading ≡ self.old.reading) }
+        ensures err { IfErr result (λ e. e ≡ OutOfMemory) }
+    {
+        let bytes = self.front_copied(alloc, n)?;
+        self.consume(n);
+        Ok(bytes)
+    }
+
+    /// A copy of the next `n` bytes as a text, which were received, and which are consumed.
+    fn take_front_text(&mut self, alloc: Global, n: usize) -> Result<String, Error>
+        requires received { n ≤ length self.old.reading.received }
+        requires counted { self.old.reading.taken + n < 2 ^ 64 }
+        ensures len { IfOk result (λ t. length (string_bytes t) ≡ n) }
+        ensures ok { IfOk result (λ t.
+            Takes self.old.reading self.new.reading (string_bytes t)) }
+        ensures kept { OnErr result (self.new.reading ≡ self.old.reading) }
+        ensures why { IfErr result (λ e.
+            NoText n self.old.reading e ⊎ (e ≡ OutOfMemory)) }
+    {
+        let text = text_of(alloc, &self.buffer.unread()[..n])?;
+        self.consume(n);
+        Ok(text)
+    }
+
+    /// Asks the source once for `n` bytes, where nothing was received and they aren't many: the
+    /// bytes, apart from the buffer, where it gave them all. What it gave else is kept.
+    pub(super) fn receive_at_once(
+        &mut self,
+        alloc: Global,
+        n: usize,
+    ) -> Result<Option<Vec<u8>>, Error>
+        ensures len { IfOk result (λ o. IfSome o (λ v. length v.items ≡ n)) }
+        ensures apart { IfOk result (λ o. IfSome o (λ v.
+            IsApart v.items self.old.reading self.new.reading)) }
+        ensures else_kept { IfOk result (λ o. o ≡ None →
+            Looked n self.old.reading self.new.reading) }
+        ensures err { OnErr result (Stays self.old.reading self.new.reading) }
+        ensures why { IfErr result (λ e.
+            Fails true true self.old.reading self.new.reading e) }
+    {
+        if !self.can_ask_at_once(n, PIECE) {
+            return Ok(None);
+        }
+        let mut bytes = match Vec::from_elem(alloc, 0, n) {
+            Ok(bytes) => bytes,
+            Err(_) => return Err(Error::OutOfMemory),
+        };
+        match self.source.read_some(&mut bytes) {
+            Ok(got) => {
+                if got == n {
+                    return Ok(Some(bytes));
+                }
+                bytes.truncate(got);
+                self.buffer.take_over(bytes);
+                Ok(None)
+            }
+            Err(kind) => Err(Error::from(kind)),
+        }
+    }
+
+    /// Bytes that were received apart from the buffer are consumed.
+    pub(super) fn consume_apart(&mut self, bytes: &[u8])
+        requires received { self.old.reading.received ≡ [] }
+        requires counted { self.old.reading.taken + length bytes.now < 2 ^ 64 }
+        ensures { Takes (with_received bytes.now self.old.reading) self.new.reading bytes.now }
+    {
+        self.taken += bytes.len();
+    }
+
+    /// Bytes that were received apart from the buffer are consumed as a text. What isn't UTF-8 goes
+    /// into the buffer.
+    pub(super) fn take_text(&mut self, bytes: Vec<u8>) -> Result<String, Error>
+        requires received { self.old.reading.received ≡ [] }
+        requires counted { self.old.reading.taken + length bytes.items < 2 ^ 64 }
+        ensures text { IfOk result (λ t. string_bytes t ≡ bytes.items) }
+        ensures ok { OnOk result (Takes (with_received bytes.items self.old.reading)
+            self.new.reading bytes.items) }
+        ensures err { OnErr result (Stays (with_received bytes.items self.old.reading)
+            self.new.reading) }
+        ensures why { IfErr result (λ e. NotText bytes.items e) }
+    {
+        match String::from_utf8(bytes) {
+            Ok(text) => {
+                self.consume_apart(text.as_bytes());
+                Ok(text)
+            }
+            Err(refused) => {
+                self.buffer.take_over(refused.into_bytes());
+                Err(Error::InvalidUtf8Encoding)
+            }
+        }
+    }
+
+    /// The next `n` bytes, by the buffer.
+    pub(super) fn read_bytes_buffered(&mut self, alloc: Global, n: usize) -> Result<Vec<u8>, Error>
+        ensures len { IfOk result (λ v. length v.items ≡ n) }
+        ensures ok { IfOk result (λ v. Takes self.old.reading self.new.reading v.items) }
+        ensures err { OnErr result (Stays self.old.reading self.new.reading) }
+        ensures why { IfErr result (λ e.
+            NotTaken true true n self.old.reading self.new.reading e) }
+    {
+        match self.receive_all(n) {
+            Ok(()) => match self.hand_over(alloc, n) {
+                Some(bytes) => {
+                    self.consume_apart(&bytes);
+                    Ok(bytes)
+                }
+                None => match self.take_front(alloc, n) {
+                    Ok(bytes) => Ok(bytes),
+                    Err(e) => Err(e),
+                },
+            },
+            Err(e) => Err(e),
+        }
+    }
+
+    /// The next `n` bytes as a text, by the buffer.
+    pub(super) fn read_text_buffered(&mut self, alloc: Global, n: usize) -> Result<String, Error>
+        ensures len { IfOk result (λ t. length (string_bytes t) ≡ n) }
+        ensures ok { IfOk result (λ t.
+            Takes self.old.reading self.new.reading (string_bytes t)) }
+        ensures err { OnErr result (Stays self.old.reading self.new.reading) }
+        ensures why { IfErr result (λ e. NoText n self.old.reading e
+            ⊎ NotTaken true true n self.old.reading self.new.reading e) }
+    {
+        match self.receive_all(n) {
+            Ok(()) => match self.hand_over(alloc, n) {
+                Some(bytes) => match self.take_text(bytes) {
+                    Ok(text) => Ok(text),
+                    Err(e) => Err(e),
+                },
+                None => match self.take_front_text(alloc, n) {
+                    Ok(text) => Ok(text),
+                    Err(e) => Err(e),
+                },
+            },
+            Err(e) => Err(e),
+        }
+    }
+}
