@@ -1,6 +1,6 @@
 //! The call that looks at any item.
 
-ghost use Rattle.std.specs.Prelude.{false, IfOk, IfErr, Some};
+ghost use Rattle.std.specs.Prelude.{IfOk, IfErr, Some};
 ghost use Rattle.amqp_de.specs.Look.{Looks, LooksNot, Peeks, PeeksNot};
 ghost use Rattle.amqp_de.specs.Steps.{Stops};
 

@@ -2,7 +2,7 @@
 
 ghost use Rattle.std.specs.Prelude.{◌≡◌, true, false, IsTrue, IfOk, IfErr, codes};
 ghost use Rattle.amqp_base.specs.Codes.{Kind, row};
-ghost use Rattle.amqp_base.specs.Describing.{is_described, describing_at, undescribed};
+ghost use Rattle.amqp_base.specs.Describing.{is_described, undescribed};
 ghost use Rattle.amqp_base.specs.Refusals.{IsCustom};
 ghost use Rattle.amqp_base.specs.declared.error.Error.TheVariants.{InvalidFormatCode};
 ghost use Rattle.amqp_de.specs.DescribedEnums.{none_behind, first_behind};

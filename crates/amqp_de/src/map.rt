@@ -1,9 +1,9 @@
 //! The keys and values of a map, one pair at a time.
 
-ghost use Rattle.std.specs.Prelude.{◌≡◌, ◌%◌, Bool, true, false, Option, Some, None, Ok};
+ghost use Rattle.std.specs.Prelude.{◌≡◌, ◌%◌, Bool, false, Option, Some, None, Ok};
 ghost use Rattle.std.specs.Prelude.{Err, IfOk, IfErr};
 ghost use Rattle.std.specs.Borrow.{sem, RestsIfErr};
-ghost use Rattle.amqp_base.specs.Item.{Item, no_pairs, map};
+ghost use Rattle.amqp_base.specs.Item.{Item, no_pairs};
 ghost use Rattle.amqp_data.specs.Parts.{HasPairs};
 ghost use Rattle.amqp_de.specs.Access.{Opens, OpensExactly, OpensNot, Plain};
 ghost use Rattle.amqp_base.specs.Parse.{map_data};

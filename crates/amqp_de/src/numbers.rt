@@ -8,7 +8,7 @@ ghost use Rattle.amqp_base.specs.declared.format_code.EncodingCodes.TheVariants.
 ghost use Rattle.amqp_base.specs.Wire.{bare, under};
 ghost use Rattle.amqp_data.specs.Parts.{Within};
 ghost use Rattle.amqp_de.specs.Many.{ReadsMany, ReadsSome, IsElement, PutBehind};
-ghost use Rattle.amqp_data.specs.Places.{limit_of, constructor_of};
+ghost use Rattle.amqp_data.specs.Places.{limit_of};
 ghost use Rattle.amqp_de.specs.ReadParts.{open_list};
 ghost use Rattle.amqp_de.specs.Seq.{at_open};
 

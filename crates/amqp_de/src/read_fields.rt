@@ -1,6 +1,6 @@
 //! Structs that are read by their fields.
 
-ghost use Rattle.std.specs.Prelude.{◌≡◌, IsTrue, IfOk, IfErr, OnErr};
+ghost use Rattle.std.specs.Prelude.{IsTrue, IfOk, IfErr, OnErr};
 ghost use Rattle.amqp_de.specs.Calls.{FieldsRead, NamedRead, RowRead, FieldsRefused, NamedRefused};
 ghost use Rattle.amqp_de.specs.Calls.{RowRefused, RowNamed, MapNamed, FieldsNamed};
 ghost use Rattle.amqp_de.specs.Steps.{Stops};

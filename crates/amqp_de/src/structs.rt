@@ -1,7 +1,7 @@
 //! Structs by their form: a list of the fields, a map from their names, or one of them under a
 //! descriptor.
 
-ghost use Rattle.std.specs.Prelude.{◌≡◌, true, false, ◌||◌, Ok, Err, IfOk, IfErr, IsTrue};
+ghost use Rattle.std.specs.Prelude.{◌≡◌, true, false, Ok, Err, IfOk, IfErr, IsTrue};
 ghost use Rattle.std.specs.Borrow.{sem, RestsIfErr};
 ghost use Rattle.amqp_base.specs.Codes.{Kind, row};
 ghost use Rattle.amqp_de.specs.Access.{Ends};

@@ -1,6 +1,6 @@
 //! The key by which an item names a variant of an enum.
 
-ghost use Rattle.std.specs.Prelude.{◌≡◌, IfOk, IfErr};
+ghost use Rattle.std.specs.Prelude.{◌≡◌};
 ghost use Rattle.amqp_base.specs.Codes.{row};
 ghost use Rattle.amqp_base.specs.Enums.{key_meaning};
 ghost use Rattle.amqp_base.specs.VariantItems.{is_first, behind_first};

@@ -1,16 +1,14 @@
 //! The variants of an enum: which of them stands there, and what it holds.
 
-ghost use Rattle.std.specs.Prelude.{◌≡◌, false, true, ◌∷◌, [], IfOk, IfErr, IsTrue};
+ghost use Rattle.std.specs.Prelude.{◌≡◌, false, true, IfOk, IfErr};
 ghost use Rattle.std.specs.Borrow.{sem, RestsIfErr};
 ghost use Rattle.amqp_base.specs.Codes.{row};
-ghost use Rattle.amqp_base.specs.Identifiers.{is_key, IsKey};
+ghost use Rattle.amqp_base.specs.Identifiers.{is_key};
 ghost use Rattle.amqp_base.specs.Parse.{list_data, map_data, is_descriptor_kind};
 ghost use Rattle.amqp_base.specs.Variants.{tagging_named, two_of, held_by};
 ghost use Rattle.amqp_base.specs.Variants.{tagged, untagged, of_value, of_descriptor};
-ghost use Rattle.amqp_base.specs.Wire.{bare};
 ghost use Rattle.amqp_data.specs.Parts.{HasParts, HasPairs};
 ghost use Rattle.amqp_de.specs.Access.{Opens, OpensExactly, Plain};
-ghost use Rattle.amqp_de.specs.Decoding.{stands_under};
 ghost use Rattle.amqp_de.specs.Identifies.{identifier_of};
 ghost use Rattle.amqp_de.specs.Seq.{at_open, listing};
 ghost use Rattle.amqp_de.specs.VariantsRead.{tagging_of, payload_of, variant_stage, opened_at};

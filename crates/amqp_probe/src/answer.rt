@@ -1,6 +1,6 @@
 //! One line: which lines are good, and what is printed for one.
 
-ghost use Rattle.std.specs.Prelude.{◌≡◌, ◌==◌, ℕ, length, position, IfOk, IfErr};
+ghost use Rattle.std.specs.Prelude.{◌≡◌, ◌==◌, position, IfOk, IfErr};
 ghost use Rattle.std.specs.Prelude.{MatchOption, string_bytes};
 ghost use Rattle.amqp_base.specs.declared.error.Error.TheVariants.{OutOfMemory};
 ghost use Rattle.amqp_probe.specs.Answer.{Answers, IsBad, Spells, error_name, text_of};

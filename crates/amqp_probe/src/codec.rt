@@ -1,6 +1,6 @@
 //! What a type's codec makes of bytes.
 
-ghost use Rattle.std.specs.Prelude.{◌≡◌, ◌≢◌, ℕ, IfOk, IfErr};
+ghost use Rattle.std.specs.Prelude.{◌≡◌, IfOk, IfErr};
 ghost use Rattle.amqp_base.specs.declared.error.Error.TheVariants.{OutOfMemory};
 ghost use Rattle.amqp_base.specs.declared.shape.Setting.{Setting};
 ghost use Rattle.amqp_probe.specs.Codec.{Decoded, Recoded, IsRefused};

@@ -31,7 +31,7 @@ impl Lines {
     ghost use Rattle.std.specs.Prelude.{IfSome};
     ghost use Rattle.std.specs.Io.KnownBytes.{Keeps, IsAtEnd};
     ghost use Rattle.std.specs.declared.io.ErrorKind.TheVariants.{Other};
-    ghost use Rattle.amqp_base.specs.declared.error.Error.TheVariants.{Io, OutOfMemory};
+    ghost use Rattle.amqp_base.specs.declared.error.Error.TheVariants.{Io};
     ghost use Rattle.amqp_probe.specs.Lines.{unread, taken, to_come, IsNextIfAny, Weighs, TooMany};
     ghost use Rattle.amqp_probe.specs.Pieces.{Moved, Fails};
 
