@@ -1,7 +1,8 @@
 -- Elements that are read many at a time.
-use Rattle.std.proofs.Common.{◌≡◌, ℕ, ◌+◌, ◌<◌, ◌≤◌, Bool, true, false, List, [], ◌∷◌, ◌++◌, length, length-take, suc, slice_index_or, take, drop, Option, Some, None, refl, sym, ap, subst, ◌∙◌, arith, append_assoc}
+use Rattle.std.proofs.Common.{◌≡◌, ℕ, ◌+◌, ◌<◌, ◌≤◌, Bool, true, false, nat_eq, inl, inr, List, [], ◌∷◌, ◌++◌, length, length-take, suc, slice_index_or, take, drop, Option, Some, None, refl, sym, ap, subst, ◌∙◌, arith, append_assoc}
 use Rattle.std.proofs.lemmas.List.{length-append, append-nil, drop-drop, take-take}
 use Rattle.std.proofs.Math.Seq.{take-add, take-append_seam}
+use Rattle.std.proofs.lemmas.Bool.Decides.{eqb_tells}
 use Rattle.std.specs.Io.KnownBytes.{Consumes}
 use Rattle.amqp_base.specs.declared.format_code.EncodingCodes.{EncodingCodes}
 use Rattle.amqp_base.specs.Codes.{code_of}
@@ -208,6 +209,10 @@ behind_code m e n x (y ∷ ys) v c h l i = record {
   one = i.one;
   some = omega arith;
 }
+
+-- another byte, as the code compares it
+pub other_byte : (x y : ℕ) → (x ≡ y → ⊥) → nat_eq x y ≡ false
+other_byte x y n = elim (eqb_tells x y) [ inl t ↦ absurd (n t.1) | inr t ↦ t.0 ]
 
 -- the byte behind the code
 pub second : (b : List ℕ) → 2 ≤ length b → take 1 (drop 1 b) ≡ slice_index_or b 1 0 ∷ []

@@ -60,11 +60,18 @@ impl Wide<4> for i32 {
 
     #[inline(always)]
     fn at_front(bytes: &[u8]) -> (i32, usize) {
-        match bytes[0] {
-            codes::INT if bytes.len() >= 5 => (Self::of_data(&bytes[1..5]), 5),
-            codes::SMALL_INT if bytes.len() >= 2 => (i8::from_be_bytes([bytes[1]]) as i32, 2),
-            _ => (0, 0),
+        if bytes.len() < 5 {
+            return match bytes[0] {
+                codes::SMALL_INT if bytes.len() >= 2 => (i8::from_be_bytes([bytes[1]]) as i32, 2),
+                _ => (0, 0),
+            };
         }
+        let is_wide = bytes[0] == codes::INT;
+        let is_small = bytes[0] == codes::SMALL_INT;
+        let wide = Self::of_data(&bytes[1..5]);
+        let small = i8::from_be_bytes([bytes[1]]) as i32;
+        let number = if is_wide { wide } else { small };
+        (number, 5 * is_wide as usize + 2 * is_small as usize)
     }
 }
 
@@ -88,12 +95,23 @@ impl Wide<4> for u32 {
 
     #[inline(always)]
     fn at_front(bytes: &[u8]) -> (u32, usize) {
-        match bytes[0] {
-            codes::UINT if bytes.len() >= 5 => (Self::of_data(&bytes[1..5]), 5),
-            codes::SMALL_UINT if bytes.len() >= 2 => (bytes[1] as u32, 2),
-            codes::UINT0 => (0, 1),
-            _ => (0, 0),
+        if bytes.len() < 5 {
+            return match bytes[0] {
+                codes::SMALL_UINT if bytes.len() >= 2 => (bytes[1] as u32, 2),
+                codes::UINT0 => (0, 1),
+                _ => (0, 0),
+            };
         }
+        let is_wide = bytes[0] == codes::UINT;
+        let is_small = bytes[0] == codes::SMALL_UINT;
+        let is_zero = bytes[0] == codes::UINT0;
+        let wide = Self::of_data(&bytes[1..5]);
+        let small = bytes[1] as u32 * is_small as u32;
+        let number = if is_wide { wide } else { small };
+        (
+            number,
+            5 * is_wide as usize + 2 * is_small as usize + is_zero as usize,
+        )
     }
 }
 
@@ -117,12 +135,23 @@ impl Wide<8> for u64 {
 
     #[inline(always)]
     fn at_front(bytes: &[u8]) -> (u64, usize) {
-        match bytes[0] {
-            codes::ULONG if bytes.len() >= 9 => (Self::of_data(&bytes[1..9]), 9),
-            codes::SMALL_ULONG if bytes.len() >= 2 => (bytes[1] as u64, 2),
-            codes::ULONG0 => (0, 1),
-            _ => (0, 0),
+        if bytes.len() < 9 {
+            return match bytes[0] {
+                codes::SMALL_ULONG if bytes.len() >= 2 => (bytes[1] as u64, 2),
+                codes::ULONG0 => (0, 1),
+                _ => (0, 0),
+            };
         }
+        let is_wide = bytes[0] == codes::ULONG;
+        let is_small = bytes[0] == codes::SMALL_ULONG;
+        let is_zero = bytes[0] == codes::ULONG0;
+        let wide = Self::of_data(&bytes[1..9]);
+        let small = bytes[1] as u64 * is_small as u64;
+        let number = if is_wide { wide } else { small };
+        (
+            number,
+            9 * is_wide as usize + 2 * is_small as usize + is_zero as usize,
+        )
     }
 }
 

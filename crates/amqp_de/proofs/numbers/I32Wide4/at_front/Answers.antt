@@ -1,6 +1,7 @@
 -- The number's own constructor, and its data.
-use Rattle.std.proofs.Common.{[], ◌∷◌, refl, rules, arith, slice_index_or, to_z, of_z, w8, w32}
+use Rattle.std.proofs.Common.{inl, inr, [], ◌∷◌, refl, rules, arith, slice_index_or, to_z, of_z, w8, w32}
 use Rattle.std.proofs.lemmas.Int.{to_z-of_z}
+use Rattle.std.proofs.lemmas.Bool.Decides.{eqb_tells}
 use mir.Val.{SFits}
 use Rattle.amqp_base.specs.Codes.{row, code_of}
 use Rattle.amqp_base.specs.SameKind.{same_kind, place}
@@ -9,15 +10,35 @@ use Rattle.amqp_base.specs.Value.{payload, read}
 use Rattle.amqp_base.specs.declared.format_code.EncodingCodes.TheVariants.{Int, SmallInt}
 use Rattle.amqp_data.proofs.FixedWidth.{fixed_spells}
 use Rattle.amqp_data.proofs.ByteNumbers.{be_widened}
-use Rattle.amqp_de.proofs.Many.{behind_code, second}
+use Rattle.amqp_de.proofs.Many.{behind_code, second, other_byte}
+use Rattle.amqp_de.proofs.numbers.I32Wide4.at_front.Goals.{then-is_wide, else-is_wide}
 use Rattle.amqp_de.proofs.numbers.I32Wide4.at_front.Goals as goal
 
-pub returns-in-113-clause-number : goal.returns-in-113-clause-number
-unfolding row code_of
-returns-in-113-clause-number c = λ _.
-    let v = c.of_data.result in
-    let f : SFits w32 v = search rules in
-    rw (to_z-of_z w32 v f) (behind_code _ Int 4 113 c.args.bytes.now v refl c.in-113.is c.requires c.of_data.ensures)
+pub returns-clause-number : goal.returns-clause-number
+unfolding row code_of payload read same_kind place
+returns-clause-number c = elim c.if-is_wide.branch [
+  | then-is_wide w ↦
+      let is = w.if-is_wide.true in
+      let v = c.of_data-wide.result in
+      let f : SFits w32 v = search rules in
+      rw (w.number-is, to_z-of_z w32 v f, is) (λ _. behind_code _ Int 4 113 c.args.bytes.now v refl is c.requires c.of_data-wide.ensures)
+  | else-is_wide w ↦ elim (eqb_tells (slice_index_or c.args.bytes.now 0 0) 84) [
+    | inl small ↦
+        let z = c.from_be_bytes-small.result in
+        let f : SFits w8 z = search rules in
+        let n = slice_index_or c.args.bytes.now 1 0 in
+        let v = to_z w32 (of_z w32 (to_z w8 (of_z w8 z))) in
+        rw (w.number-is, small.1) (λ _. behind_code _ SmallInt 1 84 c.args.bytes.now v refl small.1 c.requires (rw (second c.args.bytes.now (omega (arith, c.if-bytes-lt5.false))) record {
+          item = scalar (int v);
+          spelled = fixed_spells SmallInt 1 (n ∷ []) (int v) refl refl (rw (be_widened w32 (n ∷ []) z refl c.from_be_bytes-small.ensures f) refl);
+          taken = refl;
+          value = refl;
+          one = refl;
+          some = omega arith;
+        }))
+    | inr other ↦ rw (other.0, other_byte (slice_index_or c.args.bytes.now 0 0) 113 w.if-is_wide.false) (λ h. absurd (omega (arith, h)))
+  ]
+]
 
 pub returns-in-84-clause-number : goal.returns-in-84-clause-number
 unfolding row code_of payload read same_kind place
