@@ -53,7 +53,7 @@ reads received left taken faults last honest origin = record {
 abbrev pub SawMore : Streaming → Streaming → Type 0
 SawMore old new = new.buffer.most ≡ max old.buffer.most (length new.reading.received)
 
--- the same, where these bytes stand in front of what is to come, and no others were received
+-- the reader, where these bytes stand in front of what is to come, and no others were received
 abbrev pub with_received : List ℕ → Reading → Reading
 with_received bytes r = record r { to_come = prepend_known bytes r.to_come; received = bytes }
 

@@ -1,5 +1,5 @@
 -- The number's own constructor, and its data.
-use Rattle.std.proofs.Common.{◌≡◌, ◌*◌, inl, inr, [], ◌∷◌, refl, arith, slice_index_or}
+use Rattle.std.proofs.Common.{inl, inr, [], ◌∷◌, refl, arith, slice_index_or}
 use Rattle.std.proofs.lemmas.Bool.Decides.{eqb_tells}
 use Rattle.amqp_base.specs.Codes.{row, code_of}
 use Rattle.amqp_base.specs.SameKind.{same_kind, place}
@@ -21,29 +21,15 @@ returns-clause-number c = elim c.if-is_wide.branch [
   | else-is_wide w ↦ elim (eqb_tells (slice_index_or c.args.bytes.now 0 0) 83) [
     | inl small ↦
         let n = slice_index_or c.args.bytes.now 1 0 in
-        let same : n * 1 ≡ n = omega arith in
-        rw (w.number-is, small.1) (λ _. behind_code _ SmallUlong 1 83 c.args.bytes.now (n * 1) refl small.1 c.requires (rw (second c.args.bytes.now (omega (arith, c.if-bytes-lt9.false))) record {
-          item = scalar (ulong (n * 1));
-          spelled = fixed_spells SmallUlong 1 (n ∷ []) (ulong (n * 1)) refl refl (rw (number_1 n, same) refl);
+        rw (w.number-is, small.1) (λ _. behind_code _ SmallUlong 1 83 c.args.bytes.now n refl small.1 c.requires (rw (second c.args.bytes.now (omega (arith, c.if-bytes-lt9.false))) record {
+          item = scalar (ulong n);
+          spelled = fixed_spells SmallUlong 1 (n ∷ []) (ulong n) refl refl (rw (number_1 n) refl);
           taken = refl;
           value = refl;
           one = refl;
           some = omega arith;
         }))
-    | inr other ↦ elim (eqb_tells (slice_index_or c.args.bytes.now 0 0) 68) [
-      | inl none ↦
-          let n = slice_index_or c.args.bytes.now 1 0 in
-          let zero : n * 0 ≡ 0 = omega arith in
-          rw (w.number-is, none.1) (λ _. behind_code _ Ulong0 0 68 c.args.bytes.now (n * 0) refl none.1 c.requires record {
-            item = scalar (ulong (n * 0));
-            spelled = fixed_spells Ulong0 0 [] (ulong (n * 0)) refl refl (rw zero refl);
-            taken = refl;
-            value = refl;
-            one = refl;
-            some = omega arith;
-          })
-      | inr none ↦ rw (none.0, other.0, other_byte (slice_index_or c.args.bytes.now 0 0) 128 w.if-is_wide.false) (λ h. absurd (omega (arith, h)))
-    ]
+    | inr other ↦ rw (other.0, other_byte (slice_index_or c.args.bytes.now 0 0) 128 w.if-is_wide.false) (λ h. absurd (omega (arith, h)))
   ]
 ]
 
@@ -60,9 +46,9 @@ returns-in-83-clause-number c = λ _.
       some = omega arith;
     })
 
-pub returns-in-68-clause-number : goal.returns-in-68-clause-number
+pub returns-then-bytes-eq-ULONG0-clause-number : goal.returns-then-bytes-eq-ULONG0-clause-number
 unfolding row code_of payload read same_kind place
-returns-in-68-clause-number c = λ _. behind_code _ Ulong0 0 68 c.args.bytes.now 0 refl c.in-68.is c.requires record {
+returns-then-bytes-eq-ULONG0-clause-number c = λ _. behind_code _ Ulong0 0 68 c.args.bytes.now 0 refl c.if-bytes-eq-ULONG0.true c.requires record {
   item = scalar (ulong 0);
   spelled = fixed_spells Ulong0 0 [] (ulong 0) refl refl refl;
   taken = refl;
