@@ -13,7 +13,7 @@ use Rattle.amqp_base.specs.declared.shape.Setting.{Setting}
 use Rattle.amqp_base.specs.declared.error.Error.TheVariants.{OutOfMemory}
 use Rattle.amqp_base.specs.declared.shape.Setting.TheVariants.{Plain}
 use Rattle.amqp_base.specs.declared.shape.Shape.{Shape}
-use Rattle.amqp_ser.specs.State.{State, Planned, Mark, unmarked, first, other, answering, size_in, contents_in}
+use Rattle.amqp_ser.specs.State.{State, Serializing, Planned, Mark, unmarked, first, other, answering, size_in, contents_in}
 use Rattle.amqp_write.specs.declared.pass.Opened.{Opened}
 use Rattle.amqp_base.specs.Faults.{Extends}
 use Rattle.amqp_write.proofs.Counting.{goes_more, next_refused}
@@ -24,7 +24,6 @@ use Rattle.amqp_write.proofs.Bytes.{extends_same, appends_none, none_extends}
 use Rattle.amqp_write.proofs.Steps.{Free, fits_free, wrote_pays, refused_pays, kept_two}
 use Rattle.amqp_base.specs.Faults.{IsFault}
 use Rattle.amqp_base.specs.declared.fault.Size.{Size as CodeSize}
-use Rattle.amqp_ser.specs.declared.serializer.Serializer.{Serializer}
 use Rattle.std.specs.declared.vec.Vec.{Vec}
 use Rattle.std.specs.Global.{Global}
 use Rattle.amqp_ser.specs.Compound.{Back, back, inner_of, outer_of, part_in, outside_in}
@@ -300,26 +299,26 @@ part_unwritten s shape xs rest x e q h complete w = record {
 }
 
 -- a refused part refuses the whole
-element_refused_at : (s : State) (shape : Shape) (xs rest : List Item) (f : Setting → Item) (e : Error) (q : Open) (b : State) → b.faults ≡ q.inner.faults → Refused q.inner (f q.inner.setting) e b → Holds s shape xs q → Complete q.pairs (xs ++ f (setting_inside shape) ∷ rest) → Refused s (whole shape (xs ++ f (setting_inside shape) ∷ rest)) e q.outer
-element_refused_at s shape xs rest g e q b same v h complete =
+element_refused_at : (s : State) (shape : Shape) (xs rest : List Item) (f : Setting → Item) (e : Error) (q : Open) (b : State) → b.faults ≡ 0 → Refused q.inner (f q.inner.setting) e b → Holds s shape xs q → Complete q.pairs (xs ++ f (setting_inside shape) ∷ rest) → Refused s (whole shape (xs ++ f (setting_inside shape) ∷ rest)) e q.outer
+element_refused_at s shape xs rest g e q b none v h complete =
     let x = g (setting_inside shape) in
     let r : Refused q.inner x e b = subst (λ setting. Refused q.inner (g setting) e b) h.run.inside v in
     record {
       kept = kept_begun shape s q.opened q.outer h.start h.begun;
-      device = λ d. absurd (omega (arith, same, r.device d));
+      device = λ d. absurd (omega (arith, none, r.device d));
       cause = λ a. elim (r.cause h.run.answers) [
         | inl m ↦ inl m
         | inr d ↦ elim d [
-          | inl io ↦ absurd (omega (arith, same, io.1))
+          | inl io ↦ absurd (omega (arith, none, io.1))
           | inr w ↦ inr (inr (part_unwritten s shape xs rest x e q h complete w))
         ]
       ];
     }
 
-pub element_refused : (s : State) (shape : Shape) (xs all : List Item) (f : Setting → Item) (e : Error) (q : Open) (b : State) → b.faults ≡ q.inner.faults → Refused q.inner (f q.inner.setting) e b → Holds s shape xs q → BeginsWith all (xs ++ f (setting_inside shape) ∷ []) → Complete q.pairs all → Refused s (whole shape all) e q.outer
-element_refused s shape xs all g e q b same v h split complete =
+pub element_refused : (s : State) (shape : Shape) (xs all : List Item) (f : Setting → Item) (e : Error) (q : Open) (b : State) → b.faults ≡ 0 → Refused q.inner (f q.inner.setting) e b → Holds s shape xs q → BeginsWith all (xs ++ f (setting_inside shape) ∷ []) → Complete q.pairs all → Refused s (whole shape all) e q.outer
+element_refused s shape xs all g e q b none v h split complete =
     let r = begins_rest xs all (g (setting_inside shape)) split in
-    subst (λ ys. Refused s (whole shape ys) e q.outer) (sym r.1) (element_refused_at s shape xs r.0 g e q b same v h (subst (λ ys. Complete q.pairs ys) r.1 complete))
+    subst (λ ys. Refused s (whole shape ys) e q.outer) (sym r.1) (element_refused_at s shape xs r.0 g e q b none v h (subst (λ ys. Complete q.pairs ys) r.1 complete))
 
 -- want of memory refuses the whole
 pub element_full : (s : State) (shape : Shape) (xs all : List Item) (q : Open) → Holds s shape xs q → (e : Error) → e ≡ OutOfMemory → Refused s (whole shape all) e q.outer
@@ -355,7 +354,7 @@ begun_moved shape s Opened.Buffered b o t start live k h = absurd (live refl)
 begun_moved shape s (Opened.Measured at before) b o t start live k h = record { so_far = h.so_far; room = h.room; plan = h.plan; measure = h.measure; place = h.place; counted = h.counted; no_plan = h.no_plan; counts = h.counts; outer = lent_moved s _ b o t k h.outer }
 begun_moved shape s (Opened.Written size from) b o t start live k h = record { so_far = h.so_far; left = h.left; head = h.head; plan = h.plan; next = h.next; measure = h.measure; text = h.text; goes_on = h.goes_on; no_measure = h.no_measure; behind = h.behind; outer = lent_moved s _ b o t k h.outer }
 
-pub inner_lives : (k : Opened) (o : State) (b : Serializer (Vec ℕ Global)) → Lives k → inner_of k o b ≡ record o { ended = b.place.ended }
+pub inner_lives : (k : Opened) (o : State) (b : Serializing (Vec ℕ Global)) → Lives k → inner_of k o b ≡ record o { ended = b.state.ended }
 inner_lives Opened.Buffered o b live = absurd (live refl)
 inner_lives (Opened.Measured at before) o b live = refl
 inner_lives (Opened.Written size from) o b live = refl
@@ -394,12 +393,12 @@ keeps_lives q p k b o t is after h ended = record {
   ended = λ _. ap (λ (x : State). x.ended) after ∙ ended_outer k b t ended;
 }
 
-pub inner_answers : (k : Opened) (o : State) (b : Serializer (Vec ℕ Global)) → (inner_of k o b).ended ≡ b.place.ended
+pub inner_answers : (k : Opened) (o : State) (b : Serializing (Vec ℕ Global)) → (inner_of k o b).ended ≡ b.state.ended
 inner_answers Opened.Buffered o b = refl
 inner_answers (Opened.Measured at before) o b = refl
 inner_answers (Opened.Written size from) o b = refl
 
-pub broken_lives : (k : Opened) (o : State) (b : Serializer (Vec ℕ Global)) → Lives k → b.place.ended ≡ true → (inner_of k o b).ended ≡ true
+pub broken_lives : (k : Opened) (o : State) (b : Serializing (Vec ℕ Global)) → Lives k → b.state.ended ≡ true → (inner_of k o b).ended ≡ true
 broken_lives k o b live h = ap (λ (x : State). x.ended) (inner_lives k o b live) ∙ h
 
 -- one part more, which stands on the serializer itself

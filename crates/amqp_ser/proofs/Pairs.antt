@@ -7,16 +7,15 @@ use Rattle.amqp_base.specs.declared.shape.Shape.{Shape}
 use Rattle.amqp_base.specs.Item.{Item, scalar, uint}
 use Rattle.amqp_base.specs.Shapes.{whole}
 use Rattle.amqp_write.specs.declared.pass.Opened.{Opened}
-use Rattle.amqp_ser.specs.State.{State}
+use Rattle.amqp_ser.specs.State.{State, Serializing}
 use Rattle.amqp_ser.specs.Law.{Wrote, Refused}
-use Rattle.amqp_ser.specs.Compound.{Back, Holds, EndsCompound, open_parts, the_buffer, inner_of, outer_of, outer_in, outside_in, part_in, turned}
+use Rattle.amqp_ser.specs.Compound.{Back, Holds, EndsCompound, open_parts, inner_of, outer_of, outer_in, outside_in, part_in, turned}
 use Rattle.amqp_ser.specs.declared.compound.Parts.{Parts}
-use Rattle.amqp_ser.specs.declared.serializer.Serializer.{Serializer}
 use Rattle.amqp_ser.specs.declared.paired.Paired.{Paired}
 use Rattle.amqp_ser.specs.Variants.{fields_item, InBuffer, OnItself, HoldsAs, beneath}
 use Rattle.amqp_ser.proofs.Compounds.{Lives, element_more, element_refused, direct_more, direct_refused, inner_lives, inner_answers}
 
-inner_buffered : (k : Opened) (o : State) (b : Serializer (Vec ℕ Global)) → k ≡ Opened.Buffered → inner_of k o b ≡ the_buffer b
+inner_buffered : (k : Opened) (o : State) (b : Serializing (Vec ℕ Global)) → k ≡ Opened.Buffered → inner_of k o b ≡ b.state
 inner_buffered k o b is = ap (λ z. inner_of z o b) is
 
 outer_buffered : (k : Opened) (o : State) (b : Back) → k ≡ Opened.Buffered → outer_of k o b ≡ o
@@ -25,7 +24,7 @@ outer_buffered k o b is = ap (λ z. outer_of z o b) is
 -- ---- in the buffer of the pair
 
 -- the list of the fields was written: it is the pair's value
-pub buffer_more : (s : State) (index len : ℕ) (xs : List Item) (o : State) (p f : Parts) (b : Serializer (Vec ℕ Global)) (w : State) → p.opened ≡ Opened.Buffered → (h : InBuffer s index len xs o p f) → Wrote (the_buffer h.had) (whole (Shape.Tuple len) xs) w → the_buffer b ≡ record w { mark = turned w.mark w.found }
+pub buffer_more : (s : State) (index len : ℕ) (xs : List Item) (o : State) (p f : Parts) (b : Serializing (Vec ℕ Global)) (w : State) → p.opened ≡ Opened.Buffered → (h : InBuffer s index len xs o p f) → Wrote h.had.state (whole (Shape.Tuple len) xs) w → b.state ≡ record w { mark = turned w.mark w.found }
     → Holds s Shape.Map (scalar (uint index) ∷ whole (Shape.Tuple len) xs ∷ []) (open_parts true o (record p { buffer = b; count = 2 }))
 buffer_more s index len xs o p f b w is h wrote at_b =
     let item = whole (Shape.Tuple len) xs in
@@ -37,19 +36,19 @@ buffer_more s index len xs o p f b w is h wrote at_b =
     refl refl refl refl (sym (ap (λ n. n + 1) h.pair.count)) h.pair
 
 -- a field, or the list of them, was refused: so is the pair
-pub buffer_refused : (s : State) (index len : ℕ) (all : List Item) (o : State) (p : Parts) (had : Serializer (Vec ℕ Global)) (w : State) (e : Error) → p.opened ≡ Opened.Buffered → Holds s Shape.Map (scalar (uint index) ∷ []) (open_parts true o (record p { buffer = had })) → w.faults ≡ 0 → Refused (the_buffer had) (whole (Shape.Tuple len) all) e w → Refused s (fields_item index len all) e o
+pub buffer_refused : (s : State) (index len : ℕ) (all : List Item) (o : State) (p : Parts) (had : Serializing (Vec ℕ Global)) (w : State) (e : Error) → p.opened ≡ Opened.Buffered → Holds s Shape.Map (scalar (uint index) ∷ []) (open_parts true o (record p { buffer = had })) → w.faults ≡ 0 → Refused had.state (whole (Shape.Tuple len) all) e w → Refused s (fields_item index len all) e o
 buffer_refused s index len all o p had w e is pair none refused =
     let item = whole (Shape.Tuple len) all in
     let q = open_parts true o (record p { buffer = had }) in
     let inner = inner_buffered p.opened o had is in
     subst (λ t. Refused s (fields_item index len all) e t) (outer_buffered p.opened o (outer_in p.outer) is)
     (element_refused s Shape.Map (scalar (uint index) ∷ []) (scalar (uint index) ∷ item ∷ []) (λ _. item) e q w
-    (none ∙ sym (ap (λ (x : State). x.faults) inner))
+    none
     (subst (λ v. Refused v item e w) (sym inner) refused) pair (refl, (refl, tt)) refl)
 
 -- ---- on the serializer itself
 
-unended : (s was : State) (p : Parts) (xs : List Item) → Holds s Shape.Map xs (open_parts true was p) → p.buffer.place.ended ≡ false
+unended : (s was : State) (p : Parts) (xs : List Item) → Holds s Shape.Map xs (open_parts true was p) → p.buffer.state.ended ≡ false
 unended s was p xs h = sym (inner_answers p.opened was p.buffer) ∙ h.run.answers
 
 stands : (s was : State) (p : Parts) (xs : List Item) → Lives p.opened → Holds s Shape.Map xs (open_parts true was p) → (open_parts true was p).inner ≡ record was { ended = false }
@@ -103,7 +102,7 @@ from_itself (Opened.Measured at before) live h = h
 from_itself (Opened.Written size from) live h = h
 
 -- a refusal ends the list of the fields
-pub ends_in_buffer : {A : Type 0} (k : Opened) → k ≡ Opened.Buffered → (o n : State) (v u : Paired) (r : Result A Error) → EndsCompound (open_parts false (the_buffer v.pair.buffer) v.fields) r (open_parts false (the_buffer u.pair.buffer) u.fields) → EndsCompound (open_parts false (beneath k o v) v.fields) r (open_parts false (beneath k n u) u.fields)
+pub ends_in_buffer : {A : Type 0} (k : Opened) → k ≡ Opened.Buffered → (o n : State) (v u : Paired) (r : Result A Error) → EndsCompound (open_parts false v.pair.buffer.state v.fields) r (open_parts false u.pair.buffer.state u.fields) → EndsCompound (open_parts false (beneath k o v) v.fields) r (open_parts false (beneath k n u) u.fields)
 ends_in_buffer Opened.Buffered is o n v u r h = h
 ends_in_buffer (Opened.Measured at before) is o n v u r h = cc
 ends_in_buffer (Opened.Written size from) is o n v u r h = cc

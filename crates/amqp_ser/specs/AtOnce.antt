@@ -16,4 +16,4 @@ AreThese is (AtOnce.Strings ts) = is ≡ map (λ t. scalar (string (string_bytes
 pub record SameParts (old new : Parts) : Type 0 where
   pub shape : new.shape ≡ old.shape
   pub opened : new.opened ≡ old.opened
-  pub answers : new.buffer.place.ended ≡ old.buffer.place.ended
+  pub answers : new.buffer.state.ended ≡ old.buffer.state.ended

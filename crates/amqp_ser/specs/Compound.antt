@@ -1,9 +1,7 @@
 -- What contracts see of an open compound.
 use Rattle.std.specs.Prelude.{◌≡◌, ◌≢◌, ◌⊎◌, ◌-◌, ◌<◌, Ok, ℕ, ◌≤◌, ◌+◌, ◌++◌, set, Bool, true, false, List, [], ◌∷◌, ◌==◌, ◌%◌, if◌then◌else◌, length, Option, Some, None, Result, Err, IfErr, OnErr, OnOk}
-use Rattle.std.specs.declared.io.Write as Write
 use Rattle.std.specs.declared.vec.Vec.{Vec}
 use Rattle.std.specs.Global.{Global}
-use Rattle.amqp_base.specs.declared.fault.FaultCount as FaultCount
 use Rattle.amqp_base.specs.declared.error.Error.{Error}
 use Rattle.amqp_base.specs.declared.error.Error.TheVariants.{InvalidValue, InvalidLength, SequenceLengthMismatch}
 use Rattle.amqp_base.specs.Item.{Item, items_of}
@@ -11,7 +9,7 @@ use Rattle.amqp_base.specs.Wire.{Constructor, under}
 use Rattle.amqp_base.specs.Shapes.{whole, setting_inside}
 use Rattle.amqp_base.specs.Structs.{FieldItem, struct_item, struct_shape, fields_parts, is_described_name}
 use Rattle.amqp_base.specs.Sizes.{Size, sizes_in}
-use Rattle.amqp_ser.specs.State.{State, answering, Planned, Measured, size_in, Mark, unmarked, state, mark_in, found_in, mark_of, found_of, contents_in, plan_in, measure_in}
+use Rattle.amqp_ser.specs.State.{State, answering, Planned, Measured, size_in, Mark, unmarked, Serializing, mark_in, found_in}
 use Rattle.amqp_write.specs.declared.pass.Opened.{Opened}
 pub use Rattle.amqp_write.specs.Wholes.{other_of, shape_code, narrow_of, empty_list, shape_text, turned, is_map, awaits_value, Complete}
 unfoldable pub use Rattle.amqp_write.specs.Wholes.{head_text, whole_text, parts_text, next_mark}
@@ -24,7 +22,6 @@ use Rattle.amqp_base.specs.declared.error.Error.TheVariants.{OutOfMemory}
 use Rattle.amqp_write.specs.Appending.{Pays}
 use Rattle.amqp_ser.specs.declared.compound.Compound.{Compound}
 use Rattle.amqp_ser.specs.declared.compound.Entries.{Entries}
-use Rattle.amqp_ser.specs.declared.serializer.Serializer.{Serializer}
 use Rattle.amqp_base.specs.declared.shape.Shape.{Shape}
 
 -- what a serializer is to have again
@@ -52,9 +49,6 @@ pub record Run (shape : Shape) (u : State) (xs : List Item) (v : State) : Type 0
   pub inside : v.setting ≡ setting_inside shape
   pub answers : v.ended ≡ false
 
-abbrev pub the_buffer : Serializer (Vec ℕ Global) → State
-the_buffer b = record { contents = contents_in b.place.direct (Some b.writer.items); faults = 0; last_fault = None; grows = true; setting = b.place.setting; mark = mark_of b.place; found = found_of b.place; plan = plan_in b.place.direct None; measure = measure_in b.place.direct None; ended = b.place.ended }
-
 -- parts on a serializer
 abbrev pub outer_in : CodeOuter → Back
 outer_in (CodeOuter.Had setting mark found descriptor) = record { setting = setting; mark = mark_in descriptor mark; found = found_in descriptor found }
@@ -64,10 +58,10 @@ abbrev pub back : Back → State → State
 back b o = record o { setting = b.setting; mark = b.mark; found = b.found }
 
 -- what its parts are written to: a buffer, or the serializer itself
-abbrev pub inner_of : Opened → State → Serializer (Vec ℕ Global) → State
-inner_of Opened.Buffered o b = the_buffer b
-inner_of (Opened.Measured at before) o b = record o { ended = b.place.ended }
-inner_of (Opened.Written size from) o b = record o { ended = b.place.ended }
+abbrev pub inner_of : Opened → State → Serializing (Vec ℕ Global) → State
+inner_of Opened.Buffered o b = b.state
+inner_of (Opened.Measured at before) o b = record o { ended = b.state.ended }
+inner_of (Opened.Written size from) o b = record o { ended = b.state.ended }
 
 -- the serializer as it is to be when the compound has ended
 abbrev pub outer_of : Opened → State → Back → State
@@ -79,14 +73,14 @@ abbrev pub open_parts : Bool → State → Parts → Open
 open_parts pairs o p = record { pairs = pairs; shape = p.shape; outer = outer_of p.opened o (outer_in p.outer); inner = inner_of p.opened o p.buffer; count = p.count; opened = p.opened }
 
 -- a compound, whose parts are keys and values in turn or not: of a struct's only its serializer's setting says it
-unfoldable pub open_as : {W F : Type 0} → Bool → Write.Ghosts W → FaultCount.Ghosts W → Compound W F Parts → Open
-open_as pairs w f q = open_parts pairs (state w f q.ser.now) q.parts
+unfoldable pub open_as : {W F : Type 0} → Bool → Compound W F Parts → Open
+open_as pairs q = open_parts pairs q.ser.now.state q.parts
 
-abbrev pub open_state : {W F : Type 0} → Write.Ghosts W → FaultCount.Ghosts W → Compound W F Parts → Open
-open_state w f q = open_as false w f q
+abbrev pub open_state : {W F : Type 0} → Compound W F Parts → Open
+open_state q = open_as false q
 
-abbrev pub map_state : {W : Type 0} → Write.Ghosts W → FaultCount.Ghosts W → Compound W Entries Parts → Open
-map_state w f q = open_as true w f q
+abbrev pub map_state : {W : Type 0} → Compound W Entries Parts → Open
+map_state q = open_as true q
 
 -- what a buffer is at first
 pub record Empty (u : State) : Type 0 where
@@ -276,5 +270,5 @@ pub record WritesEntries {A : Type 0} (awaited : Bool) (is : List Item) (q : Ope
   pub stops : EndsCompound q r p
 
 -- the same of a serializer of a map
-abbrev pub WritesInMap : {W A : Type 0} → Write.Ghosts W → FaultCount.Ghosts W → Bool → List Item → Compound W Entries Parts → Result A Error → Compound W Entries Parts → Type 0
-WritesInMap w f awaited is q r p = WritesEntries awaited is (map_state w f q) r (state w f p.ser.now) (map_state w f p)
+abbrev pub WritesInMap : {W A : Type 0} → Bool → List Item → Compound W Entries Parts → Result A Error → Compound W Entries Parts → Type 0
+WritesInMap awaited is q r p = WritesEntries awaited is (map_state q) r p.ser.now.state (map_state p)

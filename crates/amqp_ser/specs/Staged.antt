@@ -1,7 +1,5 @@
 -- A struct that is written field by field, plain or behind a descriptor.
 use Rattle.std.specs.Prelude.{◌≡◌, ⊤, Bool, true, false, if◌then◌else◌, ℕ, List, [], ◌∷◌, ◌++◌, Option, Some, None, Result, Err, OnOk, OnErr, IfErr, bytes_eq}
-use Rattle.std.specs.declared.io.Write as Write
-use Rattle.amqp_base.specs.declared.fault.FaultCount as FaultCount
 use Rattle.amqp_base.specs.declared.constants.TheConstants.{DESCRIBED_LIST, DESCRIBED_MAP, DESCRIBED_BASIC}
 use Rattle.amqp_base.specs.declared.error.Error.{Error}
 use Rattle.amqp_base.specs.declared.error.Error.TheVariants.{InvalidValue, SequenceLengthMismatch}
@@ -12,7 +10,7 @@ use Rattle.amqp_base.specs.Item.{Descriptor, Item, scalar, null, described}
 use Rattle.amqp_base.specs.Shapes.{whole}
 use Rattle.amqp_base.specs.Structs.{FieldItem, named, is_descriptor_name, fields_parts, struct_shape, struct_item}
 use Rattle.amqp_types.specs.Descriptors.{descriptor_of}
-use Rattle.amqp_ser.specs.State.{State, state}
+use Rattle.amqp_ser.specs.State.{State}
 use Rattle.amqp_ser.specs.Law.{Kept, Wrote, Refused, Stops}
 use Rattle.amqp_ser.specs.Compound.{Open, Holds, BeginsWith, open_parts, is_map, Complete, lacking}
 use Rattle.amqp_ser.specs.Front.{Stands}
@@ -224,16 +222,16 @@ pub record RefusesStart {A X : Type 0} (before : Option Encoding) (item : X → 
 -- ---- of a serializer of a struct's fields
 
 -- it was opened on a serializer in the state s, and has these fields behind that
-unfoldable pub HasFields : {W F : Type 0} → Write.Ghosts W → FaultCount.Ghosts W → State → Before → List FieldItem → Compound W F Staged → Type 0
-HasFields w f s b fs q = HoldsStruct s b fs (state w f q.ser.now) q.parts
+unfoldable pub HasFields : {W F : Type 0} → State → Before → List FieldItem → Compound W F Staged → Type 0
+HasFields s b fs q = HoldsStruct s b fs q.ser.now.state q.parts
 
 -- the same of a tuple struct
-unfoldable pub HasRow : {W F : Type 0} → Write.Ghosts W → FaultCount.Ghosts W → State → Before → List Item → Compound W F Staged → Type 0
-HasRow w f s b xs q = HoldsRow s b xs (state w f q.ser.now) q.parts
+unfoldable pub HasRow : {W F : Type 0} → State → Before → List Item → Compound W F Staged → Type 0
+HasRow s b xs q = HoldsRow s b xs q.ser.now.state q.parts
 
 -- its descriptor comes first
-unfoldable pub AwaitsDescriptor : {W F : Type 0} → Write.Ghosts W → FaultCount.Ghosts W → State → Encoding → Compound W F Staged → Type 0
-AwaitsDescriptor w f s x q = Awaits s x (state w f q.ser.now) q.parts
+unfoldable pub AwaitsDescriptor : {W F : Type 0} → State → Encoding → Compound W F Staged → Type 0
+AwaitsDescriptor s x q = Awaits s x q.ser.now.state q.parts
 
 -- a call was refused
 abbrev pub HasEnded : {W F : Type 0} → Compound W F Staged → Type 0
@@ -244,13 +242,13 @@ abbrev pub lacks_field_of : Before → Setting → List FieldItem → Bool
 lacks_field_of b k fs = lacks_field b (fields_parts (shape_under b k) fs)
 
 -- how it begins, by its name
-abbrev pub Starts : {W F : Type 0} → Option Encoding → Write.Ghosts W → FaultCount.Ghosts W → State → Compound W F Staged → Type 0
-Starts None w f s q = HasFields w f s plain [] q
-Starts (Some x) w f s q = AwaitsDescriptor w f s x q
+abbrev pub Starts : {W F : Type 0} → Option Encoding → State → Compound W F Staged → Type 0
+Starts None s q = HasFields s plain [] q
+Starts (Some x) s q = AwaitsDescriptor s x q
 
-abbrev pub RowStarts : {W F : Type 0} → Option Encoding → Write.Ghosts W → FaultCount.Ghosts W → State → Compound W F Staged → Type 0
-RowStarts None w f s q = HasRow w f s plain [] q
-RowStarts (Some x) w f s q = AwaitsDescriptor w f s x q
+abbrev pub RowStarts : {W F : Type 0} → Option Encoding → State → Compound W F Staged → Type 0
+RowStarts None s q = HasRow s plain [] q
+RowStarts (Some x) s q = AwaitsDescriptor s x q
 
 -- a struct was refused at its end, where it has as many fields as it is to have
 abbrev pub EndRefused : State → Before → List FieldItem → Error → State → Type 0
@@ -278,58 +276,58 @@ pub record EndsHeld {A : Type 0} (s : State) (r : Result A Error) (t : State) : 
 -- ---- the calls of a serializer of a struct's fields
 
 -- its descriptor was written, or refused; then it takes fields
-pub record WritesDescriptor {W F A : Type 0} (w : Write.Ghosts W) (f : FaultCount.Ghosts W) (d : Descriptor) (p : Compound W F Staged) (r : Result A Error) (q : Compound W F Staged) : Type 0 where
-  pub ok : OnOk r ((s : State) (x : Encoding) → AwaitsDescriptor w f s x p → HasFields w f s (behind x d) [] q)
-  pub err : IfErr r (λ e. (s : State) (x : Encoding) (fs : List FieldItem) → AwaitsDescriptor w f s x p → Refused s (struct_under (behind x d) s.setting fs) e (state w f q.ser.now))
+pub record WritesDescriptor {W F A : Type 0} (d : Descriptor) (p : Compound W F Staged) (r : Result A Error) (q : Compound W F Staged) : Type 0 where
+  pub ok : OnOk r ((s : State) (x : Encoding) → AwaitsDescriptor s x p → HasFields s (behind x d) [] q)
+  pub err : IfErr r (λ e. (s : State) (x : Encoding) (fs : List FieldItem) → AwaitsDescriptor s x p → Refused s (struct_under (behind x d) s.setting fs) e q.ser.now.state)
   -- none is awaited
-  pub uncalled : (s : State) (b : Before) (fs : List FieldItem) → HasFields w f s b fs p → r ≡ Err InvalidValue
-  pub stops : EndsStage (state w f p.ser.now) p.parts r (state w f q.ser.now) q.parts
+  pub uncalled : (s : State) (b : Before) (fs : List FieldItem) → HasFields s b fs p → r ≡ Err InvalidValue
+  pub stops : EndsStage p.ser.now.state p.parts r q.ser.now.state q.parts
 
 -- the same of a tuple struct
-pub record WritesRowDescriptor {W F A : Type 0} (w : Write.Ghosts W) (f : FaultCount.Ghosts W) (d : Descriptor) (p : Compound W F Staged) (r : Result A Error) (q : Compound W F Staged) : Type 0 where
-  pub ok : OnOk r ((s : State) (x : Encoding) → AwaitsDescriptor w f s x p → IsRow (behind x d) → HasRow w f s (behind x d) [] q)
-  pub err : IfErr r (λ e. (s : State) (x : Encoding) (xs : List Item) → AwaitsDescriptor w f s x p → IsRow (behind x d) → Refused s (item_under (behind x d) Shape.List xs) e (state w f q.ser.now))
+pub record WritesRowDescriptor {W F A : Type 0} (d : Descriptor) (p : Compound W F Staged) (r : Result A Error) (q : Compound W F Staged) : Type 0 where
+  pub ok : OnOk r ((s : State) (x : Encoding) → AwaitsDescriptor s x p → IsRow (behind x d) → HasRow s (behind x d) [] q)
+  pub err : IfErr r (λ e. (s : State) (x : Encoding) (xs : List Item) → AwaitsDescriptor s x p → IsRow (behind x d) → Refused s (item_under (behind x d) Shape.List xs) e q.ser.now.state)
   -- none is awaited
-  pub uncalled : (s : State) (b : Before) (xs : List Item) → HasRow w f s b xs p → r ≡ Err InvalidValue
-  pub stops : EndsStage (state w f p.ser.now) p.parts r (state w f q.ser.now) q.parts
+  pub uncalled : (s : State) (b : Before) (xs : List Item) → HasRow s b xs p → r ≡ Err InvalidValue
+  pub stops : EndsStage p.ser.now.state p.parts r q.ser.now.state q.parts
 
 -- one more field was written behind those that it has, or refused as any struct that begins with all of them, plain or behind its descriptor
-pub record WritesField {W F A : Type 0} (w : Write.Ghosts W) (f : FaultCount.Ghosts W) (name : List ℕ) (item : Setting → Item) (p : Compound W F Staged) (r : Result A Error) (q : Compound W F Staged) : Type 0 where
-  pub ok : OnOk r ((s : State) (b : Before) (fs : List FieldItem) → HasFields w f s b fs p → HasFields w f s b (fs ++ named name item ∷ []) q)
-  pub err : IfErr r (λ e. is_descriptor_name name ≡ false → (s : State) (fs all : List FieldItem) → HasFields w f s plain fs p → BeginsWith all (fs ++ named name item ∷ []) → Refused s (struct_item s.setting all) e (state w f q.ser.now))
-  pub behind : IfErr r (λ e. is_descriptor_name name ≡ false → (s : State) (x : Encoding) (d : Descriptor) (fs all : List FieldItem) → HasFields w f s (behind x d) fs p → BeginsWith all (fs ++ named name item ∷ []) → Refused s (struct_under (behind x d) s.setting all) e (state w f q.ser.now))
+pub record WritesField {W F A : Type 0} (name : List ℕ) (item : Setting → Item) (p : Compound W F Staged) (r : Result A Error) (q : Compound W F Staged) : Type 0 where
+  pub ok : OnOk r ((s : State) (b : Before) (fs : List FieldItem) → HasFields s b fs p → HasFields s b (fs ++ named name item ∷ []) q)
+  pub err : IfErr r (λ e. is_descriptor_name name ≡ false → (s : State) (fs all : List FieldItem) → HasFields s plain fs p → BeginsWith all (fs ++ named name item ∷ []) → Refused s (struct_item s.setting all) e q.ser.now.state)
+  pub behind : IfErr r (λ e. is_descriptor_name name ≡ false → (s : State) (x : Encoding) (d : Descriptor) (fs all : List FieldItem) → HasFields s (behind x d) fs p → BeginsWith all (fs ++ named name item ∷ []) → Refused s (struct_under (behind x d) s.setting all) e q.ser.now.state)
   pub descriptor : is_descriptor_name name ≡ true → r ≡ Err InvalidValue
   -- its descriptor comes first
-  pub early : (s : State) (x : Encoding) → AwaitsDescriptor w f s x p → r ≡ Err InvalidValue
-  pub kept : StaysHeld (state w f p.ser.now) (state w f q.ser.now)
-  pub stops : EndsStage (state w f p.ser.now) p.parts r (state w f q.ser.now) q.parts
+  pub early : (s : State) (x : Encoding) → AwaitsDescriptor s x p → r ≡ Err InvalidValue
+  pub kept : StaysHeld p.ser.now.state q.ser.now.state
+  pub stops : EndsStage p.ser.now.state p.parts r q.ser.now.state q.parts
 
 -- the same of a tuple struct
-pub record WritesRowField {W F A : Type 0} (w : Write.Ghosts W) (f : FaultCount.Ghosts W) (item : Setting → Item) (p : Compound W F Staged) (r : Result A Error) (q : Compound W F Staged) : Type 0 where
-  pub ok : OnOk r ((s : State) (b : Before) (xs : List Item) → HasRow w f s b xs p → HasRow w f s b (xs ++ item Plain ∷ []) q)
-  pub err : IfErr r (λ e. (s : State) (xs all : List Item) → HasRow w f s plain xs p → BeginsWith all (xs ++ item Plain ∷ []) → Refused s (whole Shape.List all) e (state w f q.ser.now))
-  pub behind : IfErr r (λ e. (s : State) (x : Encoding) (d : Descriptor) (xs all : List Item) → HasRow w f s (behind x d) xs p → BeginsWith all (xs ++ item Plain ∷ []) → Refused s (item_under (behind x d) Shape.List all) e (state w f q.ser.now))
+pub record WritesRowField {W F A : Type 0} (item : Setting → Item) (p : Compound W F Staged) (r : Result A Error) (q : Compound W F Staged) : Type 0 where
+  pub ok : OnOk r ((s : State) (b : Before) (xs : List Item) → HasRow s b xs p → HasRow s b (xs ++ item Plain ∷ []) q)
+  pub err : IfErr r (λ e. (s : State) (xs all : List Item) → HasRow s plain xs p → BeginsWith all (xs ++ item Plain ∷ []) → Refused s (whole Shape.List all) e q.ser.now.state)
+  pub behind : IfErr r (λ e. (s : State) (x : Encoding) (d : Descriptor) (xs all : List Item) → HasRow s (behind x d) xs p → BeginsWith all (xs ++ item Plain ∷ []) → Refused s (item_under (behind x d) Shape.List all) e q.ser.now.state)
   -- its descriptor comes first
-  pub early : (s : State) (x : Encoding) → AwaitsDescriptor w f s x p → r ≡ Err InvalidValue
-  pub kept : StaysHeld (state w f p.ser.now) (state w f q.ser.now)
-  pub stops : EndsStage (state w f p.ser.now) p.parts r (state w f q.ser.now) q.parts
+  pub early : (s : State) (x : Encoding) → AwaitsDescriptor s x p → r ≡ Err InvalidValue
+  pub kept : StaysHeld p.ser.now.state q.ser.now.state
+  pub stops : EndsStage p.ser.now.state p.parts r q.ser.now.state q.parts
 
 -- the whole was written, or refused; then its serializer is in the state t
-pub record EndsFields {W F A : Type 0} (w : Write.Ghosts W) (f : FaultCount.Ghosts W) (p : Compound W F Staged) (r : Result A Error) (t : State) : Type 0 where
-  pub ok : OnOk r ((s : State) (b : Before) (fs : List FieldItem) → HasFields w f s b fs p → Wrote s (struct_under b s.setting fs) t)
-  pub err : IfErr r (λ e. (s : State) (b : Before) (fs : List FieldItem) → HasFields w f s b fs p → EndRefused s b fs e t)
-  pub lacking : (s : State) (b : Before) (fs : List FieldItem) → HasFields w f s b fs p → lacks_field_of b s.setting fs ≡ true → r ≡ Err SequenceLengthMismatch
+pub record EndsFields {W F A : Type 0} (p : Compound W F Staged) (r : Result A Error) (t : State) : Type 0 where
+  pub ok : OnOk r ((s : State) (b : Before) (fs : List FieldItem) → HasFields s b fs p → Wrote s (struct_under b s.setting fs) t)
+  pub err : IfErr r (λ e. (s : State) (b : Before) (fs : List FieldItem) → HasFields s b fs p → EndRefused s b fs e t)
+  pub lacking : (s : State) (b : Before) (fs : List FieldItem) → HasFields s b fs p → lacks_field_of b s.setting fs ≡ true → r ≡ Err SequenceLengthMismatch
   -- its descriptor comes first
-  pub early : (s : State) (x : Encoding) → AwaitsDescriptor w f s x p → r ≡ Err InvalidValue
-  pub kept : EndsHeld (state w f p.ser.now) r t
+  pub early : (s : State) (x : Encoding) → AwaitsDescriptor s x p → r ≡ Err InvalidValue
+  pub kept : EndsHeld p.ser.now.state r t
   pub ended : HasEnded p → r ≡ Err InvalidValue
 
 -- the same of a tuple struct
-pub record EndsRow {W F A : Type 0} (w : Write.Ghosts W) (f : FaultCount.Ghosts W) (p : Compound W F Staged) (r : Result A Error) (t : State) : Type 0 where
-  pub ok : OnOk r ((s : State) (b : Before) (xs : List Item) → HasRow w f s b xs p → Wrote s (item_under b Shape.List xs) t)
-  pub err : IfErr r (λ e. (s : State) (b : Before) (xs : List Item) → HasRow w f s b xs p → RowEndRefused s b xs e t)
-  pub lacking : (s : State) (b : Before) (xs : List Item) → HasRow w f s b xs p → lacks_field b xs ≡ true → r ≡ Err SequenceLengthMismatch
+pub record EndsRow {W F A : Type 0} (p : Compound W F Staged) (r : Result A Error) (t : State) : Type 0 where
+  pub ok : OnOk r ((s : State) (b : Before) (xs : List Item) → HasRow s b xs p → Wrote s (item_under b Shape.List xs) t)
+  pub err : IfErr r (λ e. (s : State) (b : Before) (xs : List Item) → HasRow s b xs p → RowEndRefused s b xs e t)
+  pub lacking : (s : State) (b : Before) (xs : List Item) → HasRow s b xs p → lacks_field b xs ≡ true → r ≡ Err SequenceLengthMismatch
   -- its descriptor comes first
-  pub early : (s : State) (x : Encoding) → AwaitsDescriptor w f s x p → r ≡ Err InvalidValue
-  pub kept : EndsHeld (state w f p.ser.now) r t
+  pub early : (s : State) (x : Encoding) → AwaitsDescriptor s x p → r ≡ Err InvalidValue
+  pub kept : EndsHeld p.ser.now.state r t
   pub ended : HasEnded p → r ≡ Err InvalidValue

@@ -3,22 +3,28 @@ use Rattle.std.specs.Prelude.{◌≡◌, false, None}
 use Rattle.std.specs.declared.io.Write as Write
 use Rattle.amqp_base.specs.declared.fault.FaultCount as FaultCount
 use Rattle.amqp_base.specs.declared.shape.Setting.{Setting}
-use Rattle.amqp_write.specs.State.{stand}
-use Rattle.amqp_ser.specs.declared.serializer.Serializer.{Serializer}
+use Rattle.amqp_write.specs.declared.place.Place.{Place}
+unfoldable pub use Rattle.amqp_write.specs.State.{stand}
 pub use Rattle.amqp_write.specs.State.{Planned, Measured, Mark, unmarked, first, other, State, mark_in, found_in, mark_of, found_of, size_in, contents_in, plan_in, measure_in, answering}
 
-unfoldable pub state : {W : Type 0} → Write.Ghosts W → FaultCount.Ghosts W → Serializer W → State
-state w f s = stand w f s.writer s.place
+-- its writer, and what was written to it and where the next item stands
+pub record Serializing (W : Type 0) : Type 0 where
+  pub writer : W
+  pub state : State
+
+-- this is the state of a serializer with this writer
+abbrev pub IsStateOf : {W : Type 0} → Write.Ghosts W → FaultCount.Ghosts W → W → State → Type 0
+IsStateOf w f x s = (p : Place) × (s ≡ stand w f x p)
 
 -- a serializer that has written nothing yet
-pub record Fresh {W : Type 0} (w : Write.Ghosts W) (f : FaultCount.Ghosts W) (given : W) (chosen : Setting) (s : Serializer W) : Type 0 where
+pub record Fresh {W : Type 0} (w : Write.Ghosts W) (f : FaultCount.Ghosts W) (given : W) (chosen : Setting) (s : Serializing W) : Type 0 where
   pub writer : s.writer ≡ given
-  pub contents : (state w f s).contents ≡ w.contents given
-  pub faults : (state w f s).faults ≡ f.faults given
-  pub grows : (state w f s).grows ≡ f.grows given
-  pub setting : (state w f s).setting ≡ chosen
-  pub mark : (state w f s).mark ≡ unmarked
-  pub found : (state w f s).found ≡ None
-  pub plan : (state w f s).plan ≡ None
-  pub measure : (state w f s).measure ≡ None
-  pub answers : (state w f s).ended ≡ false
+  pub contents : s.state.contents ≡ w.contents given
+  pub faults : s.state.faults ≡ f.faults given
+  pub grows : s.state.grows ≡ f.grows given
+  pub setting : s.state.setting ≡ chosen
+  pub mark : s.state.mark ≡ unmarked
+  pub found : s.state.found ≡ None
+  pub plan : s.state.plan ≡ None
+  pub measure : s.state.measure ≡ None
+  pub answers : s.state.ended ≡ false

@@ -2,7 +2,6 @@
 
 ghost use Rattle.std.specs.Prelude.{◌≡◌, ◌≢◌, ◌≤◌, IfOk, OnOk, length, map, take};
 ghost use Rattle.std.specs.Prelude.{false};
-ghost use Rattle.amqp_ser.specs.State.{state};
 ghost use Rattle.amqp_write.specs.Appending.{as_error};
 ghost use Rattle.amqp_write.specs.declared.pass.Opened.TheVariants.{Buffered as IsBuffered};
 ghost use Rattle.amqp_ser.specs.Compound.{open_state, WritesEach};
@@ -22,36 +21,33 @@ impl<'a, W: Sink> SeqSerializer<'a, W> {
         &mut self,
         values: &[T],
     ) -> Result<usize, Error>
-        requires answers { self.old.parts.buffer.place.ended ≡ false }
+        requires answers { self.old.parts.buffer.state.ended ≡ false }
         requires direct { self.old.parts.opened ≢ IsBuffered }
-        requires stand { Stand P.mark self.old.parts.shape
-            (state W.Write W.FaultCount self.old.ser.now).mark }
+        requires stand { Stand P.mark self.old.parts.shape self.old.ser.now.state.mark }
         ensures same_reference { self.new.ser.ghost_name ≡ self.old.ser.ghost_name }
         ensures parts { OnOk result (SameParts self.old.parts self.new.parts) }
         ensures few { IfOk result (λ n.
             n ≤ length (map (λ v. T.meaning.item v Setting.Plain) values.now)) }
         ensures law { WritesEach
             (take (how_many result) (map (λ v. T.meaning.item v Setting.Plain) values.now))
-            (open_state W.Write W.FaultCount self.old) result
-            (state W.Write W.FaultCount self.new.ser.now)
-            (open_state W.Write W.FaultCount self.new) }
+            (open_state self.old) result self.new.ser.now.state (open_state self.new) }
     {
-        self.ser.place.ended = false;
+        self.ser.set_ended(false);
         let written = match self.ser.append_many::<P, T>(values) {
             Ok(written) => written,
             Err(e) => {
-                self.parts.buffer.place.ended = true;
+                self.parts.buffer.set_ended(true);
                 return Err(refused(e));
             }
         };
-        self.ser.place.ended = true;
+        self.ser.set_ended(true);
         match self.parts.count.checked_add(written) {
             Some(count) => {
                 self.parts.count = count;
                 Ok(written)
             }
             None => {
-                self.parts.buffer.place.ended = true;
+                self.parts.buffer.set_ended(true);
                 Err(no_memory())
             }
         }
@@ -66,8 +62,7 @@ impl<W: Sink> Serializer<W> {
         ensures few { IfOk result (λ n. n ≤ length values.now) }
         ensures law { WritesTexts P.mark
             (map (λ v. T.meaning.item v Setting.Plain) (take (how_many result) values.now))
-            (state W.Write W.FaultCount self.old) (as_error result)
-            (state W.Write W.FaultCount self.new) }
+            self.old.state (as_error result) self.new.state }
     {
         P::append(&mut self.place, &mut self.writer, values)
     }

@@ -5,10 +5,10 @@ ghost use Rattle.std.specs.Prelude.{Some, None, ◌∷◌, Bool, List, [], true,
 ghost use Rattle.std.specs.Prelude.{IfErr, OnOk, OnErr, Err};
 ghost use Rattle.amqp_base.specs.Item.{Item};
 ghost use Rattle.amqp_base.specs.Shapes.{whole, setting_inside};
-ghost use Rattle.amqp_ser.specs.State.{State, state, answering};
+ghost use Rattle.amqp_ser.specs.State.{State, answering};
 ghost use Rattle.amqp_write.specs.declared.pass.Opened.TheVariants.{Buffered as IsBuffered};
 ghost use Rattle.amqp_ser.specs.Law.{Refused};
-ghost use Rattle.amqp_ser.specs.Compound.{the_buffer, open_parts, awaits_value, Empty, Run, Holds};
+ghost use Rattle.amqp_ser.specs.Compound.{open_parts, awaits_value, Empty, Run, Holds};
 ghost use Rattle.amqp_ser.specs.Compound.{Complete, BeginsWith, EndsCompound, Keeps, WritesPart};
 ghost use Rattle.amqp_ser.specs.Compound.{WritesEach, WritesEntries, EndsWhole, EndsStruct};
 ghost use Rattle.amqp_ser.specs.Compound.{part_in, outside_in, open_state, open_as, lacking, lacks};
@@ -46,13 +46,13 @@ pub struct Parts {
 /// A compound that is being written, part by part. Until its `end` succeeded its serializer answers
 /// nothing but `InvalidValue`, also where it is dropped; over a caller's writer nothing of it
 /// reaches the writer before.
-pub struct Compound<'a, W, F, B = Parts> {
+pub struct Compound<'a, W: Sink, F, B = Parts> {
     pub(crate) ser: &'a mut Serializer<W>,
     pub(crate) parts: B,
     pub(crate) form: F,
 }
 
-impl<W, F: Drop, B: Drop> Drop for Compound<'_, W, F, B> {
+impl<W: Sink, F: Drop, B: Drop> Drop for Compound<'_, W, F, B> {
     fn drop(self)
         ensures { self.exit.0.now ≡ self.entry.ser.now }
     {
@@ -105,9 +105,7 @@ impl<'a, W: Sink, F: Drop> Compound<'a, W, F> {
     pub(crate) fn write_next<T: Serialize>(&mut self, alloc: Global, value: &T) -> Result<(), Error>
         ensures same_reference { self.new.ser.ghost_name ≡ self.old.ser.ghost_name }
         ensures law { WritesEach (T.meaning.item value.now Setting.Plain ∷ [])
-            (open_state W.Write W.FaultCount self.old) result
-            (state W.Write W.FaultCount self.new.ser.now)
-            (open_state W.Write W.FaultCount self.new) }
+            (open_state self.old) result self.new.ser.now.state (open_state self.new) }
     {
         answer!(write_part(&mut *self.ser, &mut self.parts, alloc, value))
     }
@@ -121,22 +119,20 @@ impl<'a, W: Sink, F: Drop> Compound<'a, W, F> {
     /// array that the whole is to stand in has elements under another constructor.
     #[inline(always)]
     pub fn end(self) -> Result<(), Error>
-        ensures law { (pairs : Bool) → EndsWhole (open_as pairs W.Write W.FaultCount self.entry)
-            (state W.Write W.FaultCount self.entry.ser.now) result
-            (state W.Write W.FaultCount self.exit.0.now) }
+        ensures law { (pairs : Bool) → EndsWhole (open_as pairs self.entry)
+            self.entry.ser.now.state result self.exit.0.now.state }
         ensures lacking { (pairs : Bool) (s : State) (shape : Shape) (xs : List Item)
-            (e : Error) → Holds s shape xs (open_as pairs W.Write W.FaultCount self.entry) →
+            (e : Error) → Holds s shape xs (open_as pairs self.entry) →
             lacking shape xs ≡ Some e →
             (result ≡ Err e) × (self.exit.0.now ≡ self.entry.ser.now) }
-        ensures fields { EndsStruct (open_state W.Write W.FaultCount self.entry) result
-            (state W.Write W.FaultCount self.exit.0.now) }
+        ensures fields { EndsStruct (open_state self.entry) result self.exit.0.now.state }
     {
         let Compound {
             ser,
             parts,
             form: _,
         } = self;
-        if parts.buffer.place.ended {
+        if parts.buffer.has_ended() {
             return Err(refused(Refusal::InvalidValue));
         }
         match parts.lacks() {
@@ -155,8 +151,7 @@ impl<'a, W: Sink> StructSerializer<'a, W> {
     /// the fields have more than 4,294,967,291 bytes. `InvalidValue`: the descriptor is missing, a
     /// call was refused, or the array that the whole is to stand in has other elements.
     pub fn end(self) -> Result<(), Error>
-        ensures { EndsFields W.Write W.FaultCount self.entry result
-            (state W.Write W.FaultCount self.exit.0.now) }
+        ensures { EndsFields self.entry result self.exit.0.now.state }
     {
         let Compound {
             ser,
@@ -175,8 +170,7 @@ impl<'a, W: Sink> TupleStructSerializer<'a, W> {
     /// the fields have more than 4,294,967,291 bytes. `InvalidValue`: the descriptor is missing, a
     /// call was refused, or the array that the whole is to stand in has other elements.
     pub fn end(self) -> Result<(), Error>
-        ensures { EndsRow W.Write W.FaultCount self.entry result
-            (state W.Write W.FaultCount self.exit.0.now) }
+        ensures { EndsRow self.entry result self.exit.0.now.state }
     {
         let Compound {
             ser,
@@ -196,8 +190,7 @@ impl<'a, W: Sink> VariantSerializer<'a, W> {
     /// `InvalidValue`: a field was refused, or the array that the whole is to stand in has other
     /// elements.
     pub fn end(self) -> Result<(), Error>
-        ensures { EndsPair W.Write W.FaultCount self.entry result
-            (state W.Write W.FaultCount self.exit.0.now) }
+        ensures { EndsPair self.entry result self.exit.0.now.state }
     {
         let Compound {
             ser,
@@ -218,36 +211,33 @@ pub(crate) fn write_part<W: Sink, T: Serialize>(
     value: &T,
 ) -> Result<(), Error>
     ensures ok { (pairs : Bool) → OnOk result ((s : State) (shape : Shape) (xs : List Item) →
-        Holds s shape xs (open_parts pairs (state W.Write W.FaultCount ser.old) parts.old) →
+        Holds s shape xs (open_parts pairs ser.old.state parts.old) →
         Holds s shape (xs ++ T.meaning.item value.now (setting_inside shape) ∷ [])
-        (open_parts pairs (state W.Write W.FaultCount ser.new) parts.new)) }
+        (open_parts pairs ser.new.state parts.new)) }
     ensures err { (pairs : Bool) →
         IfErr result (λ e. (s : State) (shape : Shape) (xs all : List Item) →
-        Holds s shape xs (open_parts pairs (state W.Write W.FaultCount ser.old) parts.old) →
+        Holds s shape xs (open_parts pairs ser.old.state parts.old) →
         BeginsWith all (xs ++ T.meaning.item value.now (setting_inside shape) ∷ []) →
-        Complete pairs all →
-        Refused s (whole shape all) e (state W.Write W.FaultCount ser.new)) }
-    ensures kept { (pairs : Bool) → Keeps
-        (open_parts pairs (state W.Write W.FaultCount ser.old) parts.old)
-        (open_parts pairs (state W.Write W.FaultCount ser.new) parts.new) }
-    ensures stops { (pairs : Bool) → EndsCompound
-        (open_parts pairs (state W.Write W.FaultCount ser.old) parts.old) result
-        (open_parts pairs (state W.Write W.FaultCount ser.new) parts.new) }
+        Complete pairs all → Refused s (whole shape all) e ser.new.state) }
+    ensures kept { (pairs : Bool) → Keeps (open_parts pairs ser.old.state parts.old)
+        (open_parts pairs ser.new.state parts.new) }
+    ensures stops { (pairs : Bool) → EndsCompound (open_parts pairs ser.old.state parts.old)
+        result (open_parts pairs ser.new.state parts.new) }
 {
-    if parts.buffer.place.ended {
+    if parts.buffer.has_ended() {
         return Err(refused(Refusal::InvalidValue));
     }
     match ser.writer.pass() {
         Pass::Buffers => match parts.opened {
             Opened::Buffered => answer!(parts.write(alloc, value)),
             _ => {
-                parts.buffer.place.ended = true;
+                parts.buffer.set_ended(true);
                 return Err(no_memory());
             }
         },
         _ => match parts.opened {
             Opened::Buffered => {
-                parts.buffer.place.ended = true;
+                parts.buffer.set_ended(true);
                 return Err(no_memory());
             }
             _ => answer!(write_direct(ser, parts, alloc, value)),
@@ -263,22 +253,20 @@ fn write_direct<W: Sink, T: Serialize>(
     alloc: Global,
     value: &T,
 ) -> Result<(), Error>
-    requires answers { parts.old.buffer.place.ended ≡ false }
+    requires answers { parts.old.buffer.state.ended ≡ false }
     requires direct { parts.old.opened ≢ IsBuffered }
     ensures ok { (pairs : Bool) → OnOk result ((s : State) (shape : Shape) (xs : List Item) →
-        Holds s shape xs (open_parts pairs (state W.Write W.FaultCount ser.old) parts.old) →
+        Holds s shape xs (open_parts pairs ser.old.state parts.old) →
         Holds s shape (xs ++ T.meaning.item value.now (setting_inside shape) ∷ [])
-        (open_parts pairs (state W.Write W.FaultCount ser.new) parts.new)) }
+        (open_parts pairs ser.new.state parts.new)) }
     ensures err { (pairs : Bool) →
         IfErr result (λ e. (s : State) (shape : Shape) (xs all : List Item) →
-        Holds s shape xs (open_parts pairs (state W.Write W.FaultCount ser.old) parts.old) →
+        Holds s shape xs (open_parts pairs ser.old.state parts.old) →
         BeginsWith all (xs ++ T.meaning.item value.now (setting_inside shape) ∷ []) →
-        Complete pairs all →
-        Refused s (whole shape all) e (state W.Write W.FaultCount ser.new)) }
-    ensures kept { (pairs : Bool) → Keeps
-        (open_parts pairs (state W.Write W.FaultCount ser.old) parts.old)
-        (open_parts pairs (state W.Write W.FaultCount ser.new) parts.new) }
-    ensures ended { OnErr result (parts.new.buffer.place.ended ≡ true) }
+        Complete pairs all → Refused s (whole shape all) e ser.new.state) }
+    ensures kept { (pairs : Bool) → Keeps (open_parts pairs ser.old.state parts.old)
+        (open_parts pairs ser.new.state parts.new) }
+    ensures ended { OnErr result (parts.new.buffer.state.ended ≡ true) }
 {
     match write_on(ser, parts.shape, alloc, value) {
         Ok(()) => match parts.count.checked_add(1) {
@@ -287,12 +275,12 @@ fn write_direct<W: Sink, T: Serialize>(
                 return Ok(());
             }
             None => {
-                parts.buffer.place.ended = true;
+                parts.buffer.set_ended(true);
                 return Err(no_memory());
             }
         },
         Err(e) => {
-            parts.buffer.place.ended = true;
+            parts.buffer.set_ended(true);
             return Err(handed_on(e));
         }
     }
@@ -306,9 +294,8 @@ fn write_on<W: Sink, T: Serialize>(
     alloc: Global,
     value: &T,
 ) -> Result<(), Error>
-    ensures { WritesPart (state W.Write W.FaultCount ser.old)
-        (part_in shape (state W.Write W.FaultCount ser.old)) (T.meaning.item value.now) result
-        (state W.Write W.FaultCount ser.new) }
+    ensures { WritesPart ser.old.state
+        (part_in shape ser.old.state) (T.meaning.item value.now) result ser.new.state }
 {
     match shape {
         Shape::Array => answer!(write_in_array(ser, alloc, value)),
@@ -323,19 +310,18 @@ fn write_in_array<W: Sink, T: Serialize>(
     alloc: Global,
     value: &T,
 ) -> Result<(), Error>
-    ensures { WritesPart (state W.Write W.FaultCount ser.old)
-        (answering (state W.Write W.FaultCount ser.old)) (T.meaning.item value.now) result
-        (state W.Write W.FaultCount ser.new) }
+    ensures { WritesPart ser.old.state (answering ser.old.state) (T.meaning.item value.now) result
+        ser.new.state }
 {
-    ser.place.ended = false;
+    ser.set_ended(false);
     match value.serialize(alloc, ser) {
         Ok(()) => {
-            ser.place.ended = true;
+            ser.set_ended(true);
             ser.turn();
             Ok(())
         }
         Err(e) => {
-            ser.place.ended = true;
+            ser.set_ended(true);
             Err(e)
         }
     }
@@ -350,20 +336,17 @@ pub(crate) fn write_outside<W: Sink, T: Serialize>(
     alloc: Global,
     value: &T,
 ) -> Result<(), Error>
-    ensures { WritesPart (state W.Write W.FaultCount ser.old)
-        (outside_in shape (state W.Write W.FaultCount ser.old)) (T.meaning.item value.now) result
-        (state W.Write W.FaultCount ser.new) }
+    ensures { WritesPart ser.old.state
+        (outside_in shape ser.old.state) (T.meaning.item value.now) result ser.new.state }
 {
-    ser.place.ended = false;
-    ser.place.mark = Mark::Unmarked;
-    ser.place.setting = setting_inside(shape);
+    ser.stand_outside(setting_inside(shape));
     match value.serialize(alloc, ser) {
         Ok(()) => {
-            ser.place.ended = true;
+            ser.set_ended(true);
             return Ok(());
         }
         Err(e) => {
-            ser.place.ended = true;
+            ser.set_ended(true);
             return Err(handed_on(e));
         }
     }
@@ -374,8 +357,8 @@ impl Parts {
     #[inline(always)]
     pub(crate) fn new(alloc: Global, shape: Shape) -> Result<Parts, AllocError>
         ensures shape { IfOk result (λ p. p.shape ≡ shape) }
-        ensures empty { IfOk result (λ p. Empty (the_buffer p.buffer)) }
-        ensures run { IfOk result (λ p. Run shape (the_buffer p.buffer) [] (the_buffer p.buffer)) }
+        ensures empty { IfOk result (λ p. Empty p.buffer.state) }
+        ensures run { IfOk result (λ p. Run shape p.buffer.state [] p.buffer.state) }
         ensures count { IfOk result (λ p. p.count ≡ 0) }
         ensures opened { IfOk result (λ p. p.opened ≡ IsBuffered) }
     {
@@ -485,7 +468,7 @@ impl Parts {
         ensures stops { (pairs : Bool) (outer : State) → EndsCompound
             (open_parts pairs outer self.old) result (open_parts pairs outer self.new) }
     {
-        if self.buffer.place.ended {
+        if self.buffer.has_ended() {
             return Err(refused(Refusal::InvalidValue));
         }
         match value.serialize(alloc, &mut self.buffer) {
@@ -496,12 +479,13 @@ impl Parts {
                     Ok(())
                 }
                 None => {
-                    self.buffer.place.ended = true;
+                    self.buffer.set_ended(true);
                     Err(Error::OutOfMemory)
                 }
             },
             Err(e) => {
-                self.buffer.place.ended = true;
+                self.buffer.has_no_fault();
+                self.buffer.set_ended(true);
                 Err(e)
             }
         }
@@ -519,17 +503,16 @@ pub(crate) fn write_in_turn<W: Sink, T: Serialize>(
     part: &T,
 ) -> Result<(), Error>
     ensures { WritesEntries is_value (T.meaning.item part.now Setting.Plain ∷ [])
-        (open_parts true (state W.Write W.FaultCount ser.old) parts.old) result
-        (state W.Write W.FaultCount ser.new)
-        (open_parts true (state W.Write W.FaultCount ser.new) parts.new) }
+        (open_parts true ser.old.state parts.old) result ser.new.state
+        (open_parts true ser.new.state parts.new) }
 {
-    if parts.buffer.place.ended {
+    if parts.buffer.has_ended() {
         return Err(refused(Refusal::InvalidValue));
     }
     let turn = parts.awaits_value();
     if turn == is_value {
         return write_part(ser, parts, alloc, part);
     }
-    parts.buffer.place.ended = true;
+    parts.buffer.set_ended(true);
     Err(refused(Refusal::InvalidValue))
 }

@@ -1,7 +1,6 @@
 //! Decimals.
 
 ghost use Rattle.amqp_base.specs.Item.{scalar, decimal32, decimal64, decimal128};
-ghost use Rattle.amqp_ser.specs.State.{state};
 ghost use Rattle.amqp_ser.specs.Law.{Writes};
 
 use crate::answer::answer;
@@ -17,8 +16,7 @@ impl<W: Sink> Serializer<W> {
     /// `InvalidValue`: the array that it is to stand in has elements under another constructor.
     #[inline(always)]
     pub fn serialize_decimal32(&mut self, alloc: Global, v: &Dec32) -> Result<(), Error>
-        ensures { Writes (state W.Write W.FaultCount self.old) (scalar (decimal32 v.now)) result
-            (state W.Write W.FaultCount self.new) }
+        ensures { Writes self.old.state (scalar (decimal32 v.now)) result self.new.state }
     {
         let _ = alloc;
         answer!(self.leaf(v))
@@ -30,8 +28,7 @@ impl<W: Sink> Serializer<W> {
     /// `InvalidValue`: the array that it is to stand in has elements under another constructor.
     #[inline(always)]
     pub fn serialize_decimal64(&mut self, alloc: Global, v: &Dec64) -> Result<(), Error>
-        ensures { Writes (state W.Write W.FaultCount self.old) (scalar (decimal64 v.now)) result
-            (state W.Write W.FaultCount self.new) }
+        ensures { Writes self.old.state (scalar (decimal64 v.now)) result self.new.state }
     {
         let _ = alloc;
         answer!(self.leaf(v))
@@ -43,8 +40,7 @@ impl<W: Sink> Serializer<W> {
     /// `InvalidValue`: the array that it is to stand in has elements under another constructor.
     #[inline(always)]
     pub fn serialize_decimal128(&mut self, alloc: Global, v: &Dec128) -> Result<(), Error>
-        ensures { Writes (state W.Write W.FaultCount self.old) (scalar (decimal128 v.now)) result
-            (state W.Write W.FaultCount self.new) }
+        ensures { Writes self.old.state (scalar (decimal128 v.now)) result self.new.state }
     {
         let _ = alloc;
         answer!(self.leaf(v))

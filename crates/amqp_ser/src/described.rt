@@ -5,7 +5,7 @@ ghost use Rattle.amqp_base.specs.Canon.{descriptor_text};
 ghost use Rattle.amqp_base.specs.Item.{described};
 ghost use Rattle.amqp_base.specs.Wire.{under_pair};
 ghost use Rattle.amqp_types.specs.Descriptors.{descriptor_of};
-ghost use Rattle.amqp_ser.specs.State.{state, first};
+ghost use Rattle.amqp_ser.specs.State.{first};
 ghost use Rattle.amqp_ser.specs.Law.{Wrote, Refused, Stops};
 ghost use Rattle.amqp_ser.specs.Describing.{IsOwn, StandsAs, WroteBehind, RefusesAbsent};
 ghost use Rattle.amqp_ser.specs.Describing.{by_descriptor, why_undescribed, WritesDescriptor};
@@ -56,21 +56,17 @@ impl<W: Sink> Serializer<W> {
         descriptor: &Descriptor,
         value: &T,
     ) -> Result<(), Error>
-        ensures ok { OnOk result (Wrote (state W.Write W.FaultCount self.old)
+        ensures ok { OnOk result (Wrote self.old.state (described (descriptor_of descriptor.now)
+            (T.meaning.item value.now Setting.DescribedBasic)) self.new.state) }
+        ensures err { IfErr result (λ e. Refused self.old.state
             (described (descriptor_of descriptor.now)
-            (T.meaning.item value.now Setting.DescribedBasic))
-            (state W.Write W.FaultCount self.new)) }
-        ensures err { IfErr result (λ e. Refused (state W.Write W.FaultCount self.old)
-            (described (descriptor_of descriptor.now)
-            (T.meaning.item value.now Setting.DescribedBasic)) e
-            (state W.Write W.FaultCount self.new)) }
-        ensures stops { Stops (state W.Write W.FaultCount self.old) result
-            (state W.Write W.FaultCount self.new) }
+            (T.meaning.item value.now Setting.DescribedBasic)) e self.new.state) }
+        ensures stops { Stops self.old.state result self.new.state }
     {
-        if self.place.ended {
+        if self.has_ended() {
             return Err(refused(Refusal::InvalidValue));
         }
-        match self.place.behind(descriptor) {
+        match self.stands_behind(descriptor) {
             Behind::Alone => answer!(self.behind(alloc, descriptor, value)),
             Behind::First => self.described_first(alloc, descriptor, value),
             Behind::Another(code) => self.described_again(alloc, code, descriptor, value),
@@ -88,8 +84,8 @@ impl<W: Sink> Serializer<W> {
         alloc: Global,
         descriptor: &Descriptor,
     ) -> Result<(), Error>
-        ensures { WritesDescriptor (state W.Write W.FaultCount self.old)
-            (descriptor_of descriptor.now) result (state W.Write W.FaultCount self.new) }
+        ensures { WritesDescriptor self.old.state
+            (descriptor_of descriptor.now) result self.new.state }
     {
         let _ = alloc;
         if self.place.ended {
@@ -104,6 +100,14 @@ impl<W: Sink> Serializer<W> {
         }
     }
 
+    /// Where a value behind this descriptor is to stand.
+    #[inline(always)]
+    pub(crate) fn stands_behind(&self, descriptor: &Descriptor) -> Behind
+        ensures { StandsAs self.now.state.mark (descriptor_of descriptor.now) result }
+    {
+        self.place.behind(descriptor)
+    }
+
     /// 00, the descriptor, and the value, which stands where the whole is to stand.
     #[inline(always)]
     fn behind<T: Serialize>(
@@ -112,29 +116,28 @@ impl<W: Sink> Serializer<W> {
         descriptor: &Descriptor,
         value: &T,
     ) -> Result<(), Error>
-        requires answers { self.old.place.ended ≡ false }
-        requires own { IsOwn (state W.Write W.FaultCount self.old).mark }
-        ensures ok { OnOk result (WroteBehind (state W.Write W.FaultCount self.old)
+        requires answers { self.old.state.ended ≡ false }
+        requires own { IsOwn self.old.state.mark }
+        ensures ok { OnOk result (WroteBehind self.old.state
             (descriptor_of descriptor.now) (T.meaning.item value.now Setting.DescribedBasic)
-            (state W.Write W.FaultCount self.new)) }
-        ensures err { IfErr result (λ e. Refused (state W.Write W.FaultCount self.old)
+            self.new.state) }
+        ensures err { IfErr result (λ e. Refused self.old.state
             (described (descriptor_of descriptor.now)
-            (T.meaning.item value.now Setting.DescribedBasic)) e
-            (state W.Write W.FaultCount self.new)) }
-        ensures ended { OnErr result (self.new.place.ended ≡ true) }
+            (T.meaning.item value.now Setting.DescribedBasic)) e self.new.state) }
+        ensures ended { OnErr result (self.new.state.ended ≡ true) }
     {
-        let setting = self.place.setting;
+        let setting = self.setting();
         match self.put_descriptor(descriptor) {
             Ok(()) => {}
             Err(e) => return Err(e),
         }
         match value.serialize(alloc, self) {
             Ok(()) => {
-                self.place.setting = setting;
+                self.set_setting(setting);
                 Ok(())
             }
             Err(e) => {
-                self.place.ended = true;
+                self.set_ended(true);
                 Err(e)
             }
         }
@@ -147,17 +150,14 @@ impl<W: Sink> Serializer<W> {
         descriptor: &Descriptor,
         value: &T,
     ) -> Result<(), Error>
-        requires answers { self.old.place.ended ≡ false }
-        requires marked { (state W.Write W.FaultCount self.old).mark ≡ first }
-        ensures ok { OnOk result (Wrote (state W.Write W.FaultCount self.old)
+        requires answers { self.old.state.ended ≡ false }
+        requires marked { self.old.state.mark ≡ first }
+        ensures ok { OnOk result (Wrote self.old.state (described (descriptor_of descriptor.now)
+            (T.meaning.item value.now Setting.DescribedBasic)) self.new.state) }
+        ensures err { IfErr result (λ e. Refused self.old.state
             (described (descriptor_of descriptor.now)
-            (T.meaning.item value.now Setting.DescribedBasic))
-            (state W.Write W.FaultCount self.new)) }
-        ensures err { IfErr result (λ e. Refused (state W.Write W.FaultCount self.old)
-            (described (descriptor_of descriptor.now)
-            (T.meaning.item value.now Setting.DescribedBasic)) e
-            (state W.Write W.FaultCount self.new)) }
-        ensures ended { OnErr result (self.new.place.ended ≡ true) }
+            (T.meaning.item value.now Setting.DescribedBasic)) e self.new.state) }
+        ensures ended { OnErr result (self.new.state.ended ≡ true) }
     {
         match self.behind(alloc, descriptor, value) {
             Ok(()) => {}
@@ -180,14 +180,12 @@ impl<W: Sink> Serializer<W> {
         code: EncodingCodes,
         descriptor: &Descriptor,
     ) -> Result<(), Error>
-        requires marked { (state W.Write W.FaultCount self.old).mark ≡ first }
-        ensures ok { OnOk result (state W.Write W.FaultCount self.new ≡
-            record (state W.Write W.FaultCount self.old) {
-              found = Some (under_pair (descriptor_of descriptor.now) code);
-            }) }
+        requires marked { self.old.state.mark ≡ first }
+        ensures ok { OnOk result (self.new.state ≡ record self.old.state {
+          found = Some (under_pair (descriptor_of descriptor.now) code);
+        }) }
         ensures err { IfErr result (λ e. e ≡ OutOfMemory) }
-        ensures ended { OnErr result (state W.Write W.FaultCount self.new ≡
-            record (state W.Write W.FaultCount self.old) { ended = true }) }
+        ensures ended { OnErr result (self.new.state ≡ record self.old.state { ended = true }) }
     {
         match descriptor.clone(alloc) {
             Ok(own) => {
@@ -196,7 +194,7 @@ impl<W: Sink> Serializer<W> {
                 Ok(())
             }
             Err(e) => {
-                self.place.ended = true;
+                self.set_ended(true);
                 Err(e)
             }
         }
@@ -210,18 +208,15 @@ impl<W: Sink> Serializer<W> {
         descriptor: &Descriptor,
         value: &T,
     ) -> Result<(), Error>
-        requires answers { self.old.place.ended ≡ false }
-        requires stands { StandsAs (state W.Write W.FaultCount self.old).mark
+        requires answers { self.old.state.ended ≡ false }
+        requires stands { StandsAs self.old.state.mark
             (descriptor_of descriptor.now) (Another code) }
-        ensures ok { OnOk result (Wrote (state W.Write W.FaultCount self.old)
+        ensures ok { OnOk result (Wrote self.old.state (described (descriptor_of descriptor.now)
+            (T.meaning.item value.now Setting.DescribedBasic)) self.new.state) }
+        ensures err { IfErr result (λ e. Refused self.old.state
             (described (descriptor_of descriptor.now)
-            (T.meaning.item value.now Setting.DescribedBasic))
-            (state W.Write W.FaultCount self.new)) }
-        ensures err { IfErr result (λ e. Refused (state W.Write W.FaultCount self.old)
-            (described (descriptor_of descriptor.now)
-            (T.meaning.item value.now Setting.DescribedBasic)) e
-            (state W.Write W.FaultCount self.new)) }
-        ensures ended { OnErr result (self.new.place.ended ≡ true) }
+            (T.meaning.item value.now Setting.DescribedBasic)) e self.new.state) }
+        ensures ended { OnErr result (self.new.state.ended ≡ true) }
     {
         let outer = self.set_aside(
             Setting::DescribedBasic,
@@ -233,7 +228,7 @@ impl<W: Sink> Serializer<W> {
                 Ok(())
             }
             Err(e) => {
-                self.place.ended = true;
+                self.set_ended(true);
                 Err(named(e, descriptor))
             }
         }
@@ -248,17 +243,15 @@ impl<W: Sink> Serializer<W> {
         descriptor: &Descriptor,
         value: &T,
     ) -> Error
-        requires answers { self.old.place.ended ≡ false }
-        ensures law { RefusesAbsent (state W.Write W.FaultCount self.old)
-            (described (descriptor_of descriptor.now)
-            (T.meaning.item value.now Setting.DescribedBasic)) result
-            (state W.Write W.FaultCount self.new) }
-        ensures ended { self.new.place.ended ≡ true }
+        requires answers { self.old.state.ended ≡ false }
+        ensures law { RefusesAbsent self.old.state (described (descriptor_of descriptor.now)
+            (T.meaning.item value.now Setting.DescribedBasic)) result self.new.state }
+        ensures ended { self.new.state.ended ≡ true }
     {
-        self.place.mark = Mark::Unmarked;
+        self.unmark();
         match self.behind(alloc, descriptor, value) {
             Ok(()) => {
-                self.place.ended = true;
+                self.set_ended(true);
                 refused(Refusal::InvalidValue)
             }
             Err(e) => e,

@@ -2,7 +2,6 @@
 
 ghost use Rattle.std.specs.Prelude.{◌≡◌, false, IsTrue, OnOk, IfErr, Err, ◌&&◌};
 ghost use Rattle.amqp_types.specs.Descriptors.{descriptor_of};
-ghost use Rattle.amqp_ser.specs.State.{state};
 ghost use Rattle.amqp_ser.specs.Law.{Wrote, Refused, Stops};
 ghost use Rattle.amqp_ser.specs.Describing.{described_struct, is_body_name, body_setting};
 
@@ -44,11 +43,11 @@ fn body_setting(map: bool) -> Setting
 impl<F: StructFields> Serialize for Body<'_, F> {
     #[inline(always)]
     fn serialize<W: Sink>(&self, alloc: Global, ser: &mut Serializer<W>) -> Result<(), Error> {
-        let setting = ser.place.setting;
-        ser.place.setting = body_setting(self.map);
+        let setting = ser.setting();
+        ser.set_setting(body_setting(self.map));
         match ser.write_struct(alloc, "", self.fields) {
             Ok(()) => {
-                ser.place.setting = setting;
+                ser.set_setting(setting);
                 Ok(())
             }
             Err(e) => Err(e),
@@ -74,24 +73,22 @@ impl<W: Sink> Serializer<W> {
         descriptor: &Descriptor,
         whole: &Struct<'_, F>,
     ) -> Result<(), Error>
-        ensures ok { OnOk result (Wrote (state W.Write W.FaultCount self.old)
+        ensures ok { OnOk result (Wrote self.old.state
             (described_struct (descriptor_of descriptor.now) whole.now.name.now
-            (F.items whole.now.fields)) (state W.Write W.FaultCount self.new)) }
+            (F.items whole.now.fields)) self.new.state) }
         ensures err { IsTrue (is_body_name whole.now.name.now) →
-            IsTrue (F.usual whole.now.fields) →
-            IfErr result (λ e. Refused (state W.Write W.FaultCount self.old)
+            IsTrue (F.usual whole.now.fields) → IfErr result (λ e. Refused self.old.state
             (described_struct (descriptor_of descriptor.now) whole.now.name.now
-            (F.items whole.now.fields)) e (state W.Write W.FaultCount self.new)) }
+            (F.items whole.now.fields)) e self.new.state) }
         ensures uncalled { (is_body_name whole.now.name.now && F.usual whole.now.fields)
             ≡ false → result ≡ Err Error.InvalidValue }
-        ensures stops { Stops (state W.Write W.FaultCount self.old) result
-            (state W.Write W.FaultCount self.new) }
+        ensures stops { Stops self.old.state result self.new.state }
     {
-        if self.place.ended {
+        if self.has_ended() {
             return Err(refused(Refusal::InvalidValue));
         }
         if whole.fields.has_descriptor() {
-            self.place.ended = true;
+            self.set_ended(true);
             return Err(refused(Refusal::InvalidValue));
         }
         let map = is_name(whole.name, DESCRIBED_MAP);
@@ -99,7 +96,7 @@ impl<W: Sink> Serializer<W> {
             let fields = &whole.fields;
             answer!(self.serialize_described(alloc, descriptor, &Body { fields, map }));
         }
-        self.place.ended = true;
+        self.set_ended(true);
         Err(refused(Refusal::InvalidValue))
     }
 }

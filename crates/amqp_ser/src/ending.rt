@@ -3,7 +3,7 @@
 ghost use Rattle.std.specs.Prelude.{◌≡◌, Bool, List, true, IfErr, OnOk, OnErr, Err, Some};
 ghost use Rattle.amqp_base.specs.Item.{Item};
 ghost use Rattle.amqp_base.specs.Shapes.{whole};
-ghost use Rattle.amqp_ser.specs.State.{State, Planned, Measured, state};
+ghost use Rattle.amqp_ser.specs.State.{State, Planned, Measured};
 ghost use Rattle.amqp_ser.specs.Law.{Wrote, Refused, Kept};
 ghost use Rattle.amqp_write.specs.Appending.{as_error};
 ghost use Rattle.amqp_ser.specs.Compound.{open_parts, Holds, Complete, back, outer_in};
@@ -26,18 +26,16 @@ impl<W: Sink> Serializer<W> {
     pub(crate) fn close(&mut self, parts: Parts) -> Result<(), Error>
         ensures ok { (pairs : Bool) →
             OnOk result ((s : State) (shape : Shape) (xs : List Item) →
-            Holds s shape xs (open_parts pairs (state W.Write W.FaultCount self.old) parts) →
-            Complete pairs xs → Wrote s (whole shape xs) (state W.Write W.FaultCount self.new)) }
+            Holds s shape xs (open_parts pairs self.old.state parts) → Complete pairs xs →
+            Wrote s (whole shape xs) self.new.state) }
         ensures err { (pairs : Bool) →
             IfErr result (λ e. (s : State) (shape : Shape) (xs : List Item) →
-            Holds s shape xs (open_parts pairs (state W.Write W.FaultCount self.old) parts) →
-            Complete pairs xs →
-            Refused s (whole shape xs) e (state W.Write W.FaultCount self.new)) }
-        ensures kept { Kept (state W.Write W.FaultCount self.old)
-            (state W.Write W.FaultCount self.new) }
-        ensures stays_ended { OnErr result ((state W.Write W.FaultCount self.old).ended ≡ true →
-            (state W.Write W.FaultCount self.new).ended ≡ true) }
-        ensures ended { parts.buffer.place.ended ≡ true → result ≡ Err Error.InvalidValue }
+            Holds s shape xs (open_parts pairs self.old.state parts) → Complete pairs xs →
+            Refused s (whole shape xs) e self.new.state) }
+        ensures kept { Kept self.old.state self.new.state }
+        ensures stays_ended { OnErr result (self.old.state.ended ≡ true →
+            self.new.state.ended ≡ true) }
+        ensures ended { parts.buffer.state.ended ≡ true → result ≡ Err Error.InvalidValue }
     {
         let Parts {
             shape,
@@ -46,7 +44,7 @@ impl<W: Sink> Serializer<W> {
             opened,
             outer,
         } = parts;
-        if buffer.place.ended {
+        if buffer.has_ended() {
             return Err(refused(Refusal::InvalidValue));
         }
         match self.writer.pass() {
@@ -88,15 +86,12 @@ impl<W: Sink> Serializer<W> {
         at: usize,
         before: usize,
     ) -> Result<(), Refusal>
-        ensures law { (m : Measured) →
-            (state W.Write W.FaultCount self.old).measure ≡ Some m →
+        ensures law { (m : Measured) → self.old.state.measure ≡ Some m →
             EndsMeasured shape at before count m
-            (back (outer_in outer) (state W.Write W.FaultCount self.old)) (as_error result)
-            (state W.Write W.FaultCount self.new) }
-        ensures kept { Kept (state W.Write W.FaultCount self.old)
-            (state W.Write W.FaultCount self.new) }
-        ensures stays_ended { OnErr result ((state W.Write W.FaultCount self.old).ended ≡ true →
-            (state W.Write W.FaultCount self.new).ended ≡ true) }
+            (back (outer_in outer) self.old.state) (as_error result) self.new.state }
+        ensures kept { Kept self.old.state self.new.state }
+        ensures stays_ended { OnErr result (self.old.state.ended ≡ true →
+            self.new.state.ended ≡ true) }
     {
         self.restore(outer);
         if !self.place.direct {
@@ -132,14 +127,12 @@ impl<W: Sink> Serializer<W> {
         size: Size,
         from: usize,
     ) -> Result<(), Error>
-        ensures law { (p : Planned) → (state W.Write W.FaultCount self.old).plan ≡ Some p →
+        ensures law { (p : Planned) → self.old.state.plan ≡ Some p →
             EndsWritten count size from p
-            (back (outer_in outer) (state W.Write W.FaultCount self.old)) result
-            (state W.Write W.FaultCount self.new) }
-        ensures kept { Kept (state W.Write W.FaultCount self.old)
-            (state W.Write W.FaultCount self.new) }
-        ensures stays_ended { OnErr result ((state W.Write W.FaultCount self.old).ended ≡ true →
-            (state W.Write W.FaultCount self.new).ended ≡ true) }
+            (back (outer_in outer) self.old.state) result self.new.state }
+        ensures kept { Kept self.old.state self.new.state }
+        ensures stays_ended { OnErr result (self.old.state.ended ≡ true →
+            self.new.state.ended ≡ true) }
     {
         self.restore(outer);
         let end = match self.writer.so_far() {
@@ -156,8 +149,7 @@ impl<W: Sink> Serializer<W> {
     /// The serializer is as it was before the compound opened.
     #[inline(always)]
     pub(crate) fn restore(&mut self, outer: Outer)
-        ensures { state W.Write W.FaultCount self.new ≡
-            back (outer_in outer) (state W.Write W.FaultCount self.old) }
+        ensures { self.new.state ≡ back (outer_in outer) self.old.state }
     {
         match outer {
             Outer::Had {

@@ -4,7 +4,7 @@ ghost use Rattle.std.specs.Prelude.{◌≡◌, ◌++◌, ◌∷◌, [], true, fa
 ghost use Rattle.std.specs.Prelude.{IsTrue, IfErr, OnOk, List};
 ghost use Rattle.amqp_base.specs.Structs.{FieldItem, named, struct_item, is_described_name};
 ghost use Rattle.amqp_base.specs.Structs.{is_descriptor_name, struct_shape};
-ghost use Rattle.amqp_ser.specs.State.{State, state};
+ghost use Rattle.amqp_ser.specs.State.{State};
 ghost use Rattle.amqp_ser.specs.Law.{Wrote, Refused};
 ghost use Rattle.amqp_ser.specs.Compound.{FailedAs, open_state, HoldsFields, BeginsWith};
 
@@ -43,26 +43,24 @@ pub trait StructFields: Drop {
     ) -> bool
         ensures same_reference { out.new.ser.ghost_name ≡ out.old.ser.ghost_name }
         ensures ok { IsTrue result → (s : State) (fs : List FieldItem) →
-            struct_shape s.setting ≡ Shape.List →
-            HoldsFields s fs (open_state W.Write W.FaultCount out.old) →
-            HoldsFields s (fs ++ Self.items self.now) (open_state W.Write W.FaultCount out.new) }
+            struct_shape s.setting ≡ Shape.List → HoldsFields s fs (open_state out.old) →
+            HoldsFields s (fs ++ Self.items self.now) (open_state out.new) }
         ensures err { result ≡ false → FailedAs failed.new (λ e.
             (s : State) (fs all : List FieldItem) → struct_shape s.setting ≡ Shape.List →
-            HoldsFields s fs (open_state W.Write W.FaultCount out.old) →
+            HoldsFields s fs (open_state out.old) →
             BeginsWith all (fs ++ Self.items self.now) → Refused s (struct_item s.setting all) e
-            (state W.Write W.FaultCount out.new.ser.now)) };
+            out.new.ser.now.state) };
 
     /// Writes them, in order.
     fn write<W: Sink>(&self, alloc: Global, out: &mut WholeStruct<'_, W>) -> Result<(), Error>
         ensures same_reference { out.new.ser.ghost_name ≡ out.old.ser.ghost_name }
         ensures ok { OnOk result ((s : State) (fs : List FieldItem) →
-            HoldsFields s fs (open_state W.Write W.FaultCount out.old) →
-            HoldsFields s (fs ++ Self.items self.now) (open_state W.Write W.FaultCount out.new)) }
+            HoldsFields s fs (open_state out.old) →
+            HoldsFields s (fs ++ Self.items self.now) (open_state out.new)) }
         ensures err { IfErr result (λ e. IsTrue (Self.usual self.now) →
-            (s : State) (fs all : List FieldItem) →
-            HoldsFields s fs (open_state W.Write W.FaultCount out.old) →
+            (s : State) (fs all : List FieldItem) → HoldsFields s fs (open_state out.old) →
             BeginsWith all (fs ++ Self.items self.now) → Refused s (struct_item s.setting all) e
-            (state W.Write W.FaultCount out.new.ser.now)) };
+            out.new.ser.now.state) };
 }
 
 impl StructFields for () {
@@ -156,14 +154,11 @@ impl<W: Sink> Serializer<W> {
         alloc: Global,
         whole: &Struct<'_, F>,
     ) -> Result<(), Error>
-        ensures ok { OnOk result (Wrote (state W.Write W.FaultCount self.old)
-            (struct_item (state W.Write W.FaultCount self.old).setting (F.items whole.now.fields))
-            (state W.Write W.FaultCount self.new)) }
+        ensures ok { OnOk result (Wrote self.old.state
+            (struct_item self.old.state.setting (F.items whole.now.fields)) self.new.state) }
         ensures err { is_described_name whole.now.name.now ≡ false →
-            IsTrue (F.usual whole.now.fields) →
-            IfErr result (λ e. Refused (state W.Write W.FaultCount self.old)
-            (struct_item (state W.Write W.FaultCount self.old).setting
-            (F.items whole.now.fields)) e (state W.Write W.FaultCount self.new)) }
+            IsTrue (F.usual whole.now.fields) → IfErr result (λ e. Refused self.old.state
+            (struct_item self.old.state.setting (F.items whole.now.fields)) e self.new.state) }
     {
         answer!(self.write_struct(alloc, whole.name, &whole.fields))
     }
@@ -176,15 +171,13 @@ impl<W: Sink> Serializer<W> {
         name: &str,
         fields: &F,
     ) -> Result<(), Error>
-        ensures ok { OnOk result (Wrote (state W.Write W.FaultCount self.old)
-            (struct_item (state W.Write W.FaultCount self.old).setting (F.items fields.now))
-            (state W.Write W.FaultCount self.new)) }
+        ensures ok { OnOk result (Wrote self.old.state
+            (struct_item self.old.state.setting (F.items fields.now)) self.new.state) }
         ensures err { is_described_name name.now ≡ false → IsTrue (F.usual fields.now) →
-            IfErr result (λ e. Refused (state W.Write W.FaultCount self.old)
-            (struct_item (state W.Write W.FaultCount self.old).setting (F.items fields.now)) e
-            (state W.Write W.FaultCount self.new)) }
+            IfErr result (λ e. Refused self.old.state
+            (struct_item self.old.state.setting (F.items fields.now)) e self.new.state) }
     {
-        match self.place.setting {
+        match self.setting() {
             Setting::DescribedMap => answer!(self.fields_one_by_one(alloc, name, fields)),
             _ => {
                 if fields.has_descriptor() {
@@ -214,13 +207,11 @@ impl<W: Sink> Serializer<W> {
         name: &str,
         fields: &F,
     ) -> Result<(), Error>
-        ensures ok { OnOk result (Wrote (state W.Write W.FaultCount self.old)
-            (struct_item (state W.Write W.FaultCount self.old).setting (F.items fields.now))
-            (state W.Write W.FaultCount self.new)) }
+        ensures ok { OnOk result (Wrote self.old.state
+            (struct_item self.old.state.setting (F.items fields.now)) self.new.state) }
         ensures err { is_described_name name.now ≡ false → IsTrue (F.usual fields.now) →
-            IfErr result (λ e. Refused (state W.Write W.FaultCount self.old)
-            (struct_item (state W.Write W.FaultCount self.old).setting (F.items fields.now)) e
-            (state W.Write W.FaultCount self.new)) }
+            IfErr result (λ e. Refused self.old.state
+            (struct_item self.old.state.setting (F.items fields.now)) e self.new.state) }
     {
         let mut out = match self.whole_struct(alloc, name) {
             Ok(out) => out,

@@ -3,7 +3,6 @@
 ghost use Rattle.std.specs.Prelude.{◌≡◌, false, true, IfOk, IfErr, OnOk, OnErr};
 ghost use Rattle.amqp_base.specs.Item.{Item, described};
 ghost use Rattle.amqp_types.specs.Descriptors.{descriptor_of};
-ghost use Rattle.amqp_ser.specs.State.{state};
 ghost use Rattle.amqp_ser.specs.Law.{Refused, Kept};
 ghost use Rattle.amqp_ser.specs.Describing.{IsOwn};
 ghost use Rattle.amqp_ser.specs.Front.{PutsFront, Stands, long_first, renamed, ClosesFront};
@@ -69,16 +68,14 @@ impl<W: Sink> Serializer<W> {
         alloc: Global,
         descriptor: &Descriptor,
     ) -> Result<Front, Error>
-        requires answers { self.old.place.ended ≡ false }
-        ensures ok { IfOk result (λ f. Stands (state W.Write W.FaultCount self.old)
-            (descriptor_of descriptor.now) f (state W.Write W.FaultCount self.new)) }
-        ensures err { IfErr result (λ e. (v : Item) →
-            Refused (state W.Write W.FaultCount self.old)
-            (described (descriptor_of descriptor.now) v) e
-            (state W.Write W.FaultCount self.new)) }
+        requires answers { self.old.state.ended ≡ false }
+        ensures ok { IfOk result (λ f. Stands self.old.state
+            (descriptor_of descriptor.now) f self.new.state) }
+        ensures err { IfErr result (λ e. (v : Item) → Refused self.old.state
+            (described (descriptor_of descriptor.now) v) e self.new.state) }
     {
-        let setting = self.place.setting;
-        match self.place.behind(descriptor) {
+        let setting = self.setting();
+        match self.stands_behind(descriptor) {
             Behind::Alone => match self.put_descriptor(descriptor) {
                 Ok(()) => Ok(Front::Alone(setting)),
                 Err(e) => Err(e),
@@ -99,7 +96,7 @@ impl<W: Sink> Serializer<W> {
                 Ok(Front::Again(outer, long))
             }
             Behind::Nowhere => {
-                self.place.mark = Mark::Unmarked;
+                self.unmark();
                 match self.put_descriptor(descriptor) {
                     Ok(()) => Ok(Front::Nowhere),
                     Err(e) => Err(e),
@@ -111,15 +108,13 @@ impl<W: Sink> Serializer<W> {
     /// Writes 00 and a descriptor where an item with its own constructor is to stand.
     #[inline(always)]
     pub(crate) fn put_descriptor(&mut self, descriptor: &Descriptor) -> Result<(), Error>
-        requires answers { self.old.place.ended ≡ false }
-        requires own { IsOwn (state W.Write W.FaultCount self.old).mark }
-        ensures ok { OnOk result (PutsFront (state W.Write W.FaultCount self.old)
-            (descriptor_of descriptor.now) (state W.Write W.FaultCount self.new)) }
-        ensures err { IfErr result (λ e. (v : Item) →
-            Refused (state W.Write W.FaultCount self.old)
-            (described (descriptor_of descriptor.now) v) e
-            (state W.Write W.FaultCount self.new)) }
-        ensures ended { OnErr result (self.new.place.ended ≡ true) }
+        requires answers { self.old.state.ended ≡ false }
+        requires own { IsOwn self.old.state.mark }
+        ensures ok { OnOk result (PutsFront self.old.state
+            (descriptor_of descriptor.now) self.new.state) }
+        ensures err { IfErr result (λ e. (v : Item) → Refused self.old.state
+            (described (descriptor_of descriptor.now) v) e self.new.state) }
+        ensures ended { OnErr result (self.new.state.ended ≡ true) }
     {
         let mark = self.place.mark;
         self.place.mark = Mark::Unmarked;
@@ -137,11 +132,9 @@ impl<W: Sink> Serializer<W> {
     ///
     /// `InvalidValue`: no value behind this descriptor can stand here.
     pub(crate) fn close_front(&mut self, front: Front) -> Result<(), Error>
-        ensures law { ClosesFront front (state W.Write W.FaultCount self.old) result
-            (state W.Write W.FaultCount self.new) }
-        ensures kept { Kept (state W.Write W.FaultCount self.old)
-            (state W.Write W.FaultCount self.new) }
-        ensures ended { OnErr result ((state W.Write W.FaultCount self.new).ended ≡ true) }
+        ensures law { ClosesFront front self.old.state result self.new.state }
+        ensures kept { Kept self.old.state self.new.state }
+        ensures ended { OnErr result (self.new.state.ended ≡ true) }
     {
         match front {
             Front::Alone(setting) => {

@@ -1,5 +1,5 @@
 //! Writing values in the AMQP 1.0 encoding (OASIS AMQP 1.0 part 1, sections 1.2 to 1.6).
-#![tactic(auto, unfolding(crate::specs::State::state, amqp_write::specs::State::stand,
+#![tactic(auto, unfolding(amqp_write::specs::State::stand,
 // a compound that is open
 crate::specs::Compound::open_as,
 // one whose descriptor came

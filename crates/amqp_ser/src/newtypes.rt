@@ -1,7 +1,6 @@
 //! Newtypes, which are nothing of their own on the wire.
 
 ghost use Rattle.std.specs.Prelude.{IfErr, OnOk};
-ghost use Rattle.amqp_ser.specs.State.{state};
 ghost use Rattle.amqp_ser.specs.Law.{Wrote, Refused, Stops};
 
 use crate::{Serialize, Serializer};
@@ -17,14 +16,11 @@ impl<W: Sink> Serializer<W> {
         name: &'static str,
         value: &T,
     ) -> Result<(), Error>
-        ensures ok { OnOk result (Wrote (state W.Write W.FaultCount self.old)
-            (T.meaning.item value.now (state W.Write W.FaultCount self.old).setting)
-            (state W.Write W.FaultCount self.new)) }
-        ensures err { IfErr result (λ e. Refused (state W.Write W.FaultCount self.old)
-            (T.meaning.item value.now (state W.Write W.FaultCount self.old).setting) e
-            (state W.Write W.FaultCount self.new)) }
-        ensures stops { Stops (state W.Write W.FaultCount self.old) result
-            (state W.Write W.FaultCount self.new) }
+        ensures ok { OnOk result (Wrote self.old.state
+            (T.meaning.item value.now self.old.state.setting) self.new.state) }
+        ensures err { IfErr result (λ e. Refused self.old.state
+            (T.meaning.item value.now self.old.state.setting) e self.new.state) }
+        ensures stops { Stops self.old.state result self.new.state }
     {
         let _ = name;
         self.serialize_some(alloc, value)

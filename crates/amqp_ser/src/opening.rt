@@ -2,7 +2,7 @@
 
 ghost use Rattle.std.specs.Prelude.{◌≡◌, [], None, true, false, IfOk, OnOk};
 ghost use Rattle.amqp_base.specs.Shapes.{setting_inside};
-ghost use Rattle.amqp_ser.specs.State.{state, mark_in, mark_of, found_of};
+ghost use Rattle.amqp_ser.specs.State.{mark_in, mark_of, found_of};
 ghost use Rattle.amqp_ser.specs.Compound.{open_parts, is_map, Holds, RefusesOpen, next_mark};
 ghost use Rattle.amqp_ser.specs.Compound.{outer_in};
 
@@ -19,11 +19,10 @@ impl<W: Sink> Serializer<W> {
     /// `OutOfMemory`: there is no memory for its buffer.
     #[inline(always)]
     pub(crate) fn begin(&mut self, alloc: Global, shape: Shape) -> Result<Parts, Error>
-        ensures ok { IfOk result (λ p. Holds (state W.Write W.FaultCount self.old) shape []
-            (open_parts (is_map shape) (state W.Write W.FaultCount self.new) p)) }
-        ensures held { OnOk result ((state W.Write W.FaultCount self.new).ended ≡ true) }
-        ensures err { RefusesOpen shape (state W.Write W.FaultCount self.old) result
-            (state W.Write W.FaultCount self.new) }
+        ensures ok { IfOk result (λ p. Holds self.old.state shape []
+            (open_parts (is_map shape) self.new.state p)) }
+        ensures held { OnOk result (self.new.state.ended ≡ true) }
+        ensures err { RefusesOpen shape self.old.state result self.new.state }
     {
         if self.place.ended {
             return Err(refused(Refusal::InvalidValue));
@@ -38,12 +37,11 @@ impl<W: Sink> Serializer<W> {
     /// Opens a compound whose parts go to a buffer.
     #[inline(always)]
     fn begin_buffered(&mut self, alloc: Global, shape: Shape) -> Result<Parts, Error>
-        requires answers { self.old.place.ended ≡ false }
-        ensures ok { IfOk result (λ p. Holds (state W.Write W.FaultCount self.old) shape []
-            (open_parts (is_map shape) (state W.Write W.FaultCount self.new) p)) }
-        ensures held { OnOk result ((state W.Write W.FaultCount self.new).ended ≡ true) }
-        ensures err { RefusesOpen shape (state W.Write W.FaultCount self.old) result
-            (state W.Write W.FaultCount self.new) }
+        requires answers { self.old.state.ended ≡ false }
+        ensures ok { IfOk result (λ p. Holds self.old.state shape []
+            (open_parts (is_map shape) self.new.state p)) }
+        ensures held { OnOk result (self.new.state.ended ≡ true) }
+        ensures err { RefusesOpen shape self.old.state result self.new.state }
     {
         self.place.ended = true;
         if self.place.direct {
@@ -58,12 +56,11 @@ impl<W: Sink> Serializer<W> {
     /// Opens a compound that is measured, with a place for its size.
     #[inline(always)]
     fn begin_measured(&mut self, alloc: Global, shape: Shape) -> Result<Parts, Error>
-        requires answers { self.old.place.ended ≡ false }
-        ensures ok { IfOk result (λ p. Holds (state W.Write W.FaultCount self.old) shape []
-            (open_parts (is_map shape) (state W.Write W.FaultCount self.new) p)) }
-        ensures held { OnOk result ((state W.Write W.FaultCount self.new).ended ≡ true) }
-        ensures err { RefusesOpen shape (state W.Write W.FaultCount self.old) result
-            (state W.Write W.FaultCount self.new) }
+        requires answers { self.old.state.ended ≡ false }
+        ensures ok { IfOk result (λ p. Holds self.old.state shape []
+            (open_parts (is_map shape) self.new.state p)) }
+        ensures held { OnOk result (self.new.state.ended ≡ true) }
+        ensures err { RefusesOpen shape self.old.state result self.new.state }
     {
         if !self.place.direct {
             self.place.ended = true;
@@ -92,12 +89,11 @@ impl<W: Sink> Serializer<W> {
     /// Opens a compound that is written behind its header.
     #[inline(always)]
     fn begin_written(&mut self, alloc: Global, shape: Shape) -> Result<Parts, Error>
-        requires answers { self.old.place.ended ≡ false }
-        ensures ok { IfOk result (λ p. Holds (state W.Write W.FaultCount self.old) shape []
-            (open_parts (is_map shape) (state W.Write W.FaultCount self.new) p)) }
-        ensures held { OnOk result ((state W.Write W.FaultCount self.new).ended ≡ true) }
-        ensures err { RefusesOpen shape (state W.Write W.FaultCount self.old) result
-            (state W.Write W.FaultCount self.new) }
+        requires answers { self.old.state.ended ≡ false }
+        ensures ok { IfOk result (λ p. Holds self.old.state shape []
+            (open_parts (is_map shape) self.new.state p)) }
+        ensures held { OnOk result (self.new.state.ended ≡ true) }
+        ensures err { RefusesOpen shape self.old.state result self.new.state }
     {
         if !self.place.direct {
             self.place.ended = true;
@@ -126,15 +122,14 @@ impl<W: Sink> Serializer<W> {
     /// What the serializer has is set aside, for a setting and a mark that the next values have.
     #[inline(always)]
     pub(crate) fn set_aside(&mut self, setting: Setting, mark: Mark) -> Outer
-        ensures setting { (outer_in result).setting ≡ self.old.place.setting }
-        ensures mark { (outer_in result).mark ≡ mark_of self.old.place }
-        ensures found { (outer_in result).found ≡ found_of self.old.place }
-        ensures state { state W.Write W.FaultCount self.new ≡
-            record (state W.Write W.FaultCount self.old) {
-              setting = setting;
-              mark = mark_in None mark;
-              found = None;
-            } }
+        ensures setting { (outer_in result).setting ≡ self.old.state.setting }
+        ensures mark { (outer_in result).mark ≡ self.old.state.mark }
+        ensures found { (outer_in result).found ≡ self.old.state.found }
+        ensures state { self.new.state ≡ record self.old.state {
+          setting = setting;
+          mark = mark_in None mark;
+          found = None;
+        } }
     {
         let outer = Outer::Had {
             setting: self.place.setting,
@@ -154,20 +149,19 @@ impl<W: Sink> Serializer<W> {
         ensures shape { result.shape ≡ shape }
         ensures count { result.count ≡ 0 }
         ensures opened { result.opened ≡ opened }
-        ensures answers { result.buffer.place.ended ≡ false }
-        ensures setting { (outer_in result.outer).setting ≡ self.old.place.setting }
-        ensures mark { (outer_in result.outer).mark ≡ mark_of self.old.place }
-        ensures found { (outer_in result.outer).found ≡ found_of self.old.place }
-        ensures state { state W.Write W.FaultCount self.new ≡
-            record (state W.Write W.FaultCount self.old) {
-              setting = setting_inside shape;
-              mark = next_mark shape [];
-              found = None;
-              ended = true;
-            } }
+        ensures answers { result.buffer.state.ended ≡ false }
+        ensures setting { (outer_in result.outer).setting ≡ self.old.state.setting }
+        ensures mark { (outer_in result.outer).mark ≡ self.old.state.mark }
+        ensures found { (outer_in result.outer).found ≡ self.old.state.found }
+        ensures state { self.new.state ≡ record self.old.state {
+          setting = setting_inside shape;
+          mark = next_mark shape [];
+          found = None;
+          ended = true;
+        } }
     {
         let outer = self.set_aside(setting_inside(shape), first_mark(shape));
-        self.place.ended = true;
+        self.set_ended(true);
         let buffer = Serializer {
             writer: Vec::new(alloc),
             place: Place::new(Setting::Plain),

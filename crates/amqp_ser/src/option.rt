@@ -2,7 +2,6 @@
 
 ghost use Rattle.std.specs.Prelude.{IfErr, OnOk};
 ghost use Rattle.amqp_base.specs.Item.{scalar, null};
-ghost use Rattle.amqp_ser.specs.State.{state};
 ghost use Rattle.amqp_ser.specs.Law.{Wrote, Refused, Stops, Spares};
 
 use crate::answer::answer;
@@ -17,15 +16,10 @@ impl<W: Sink> Serializer<W> {
     /// `InvalidValue`: it is to stand in an array, whose elements can't be null.
     #[inline(always)]
     pub fn serialize_none(&mut self, alloc: Global) -> Result<(), Error>
-        ensures ok { OnOk result (Wrote (state W.Write W.FaultCount self.old) (scalar null)
-            (state W.Write W.FaultCount self.new)) }
-        ensures err { IfErr result (λ e.
-            Refused (state W.Write W.FaultCount self.old) (scalar null) e
-            (state W.Write W.FaultCount self.new)) }
-        ensures stops { Stops (state W.Write W.FaultCount self.old) result
-            (state W.Write W.FaultCount self.new) }
-        ensures spares { Spares (state W.Write W.FaultCount self.old) result
-            (state W.Write W.FaultCount self.new) }
+        ensures ok { OnOk result (Wrote self.old.state (scalar null) self.new.state) }
+        ensures err { IfErr result (λ e. Refused self.old.state (scalar null) e self.new.state) }
+        ensures stops { Stops self.old.state result self.new.state }
+        ensures spares { Spares self.old.state result self.new.state }
     {
         answer!(self.serialize_unit(alloc))
     }
@@ -34,22 +28,19 @@ impl<W: Sink> Serializer<W> {
     /// `serialize`.
     #[inline(always)]
     pub fn serialize_some<T: Serialize>(&mut self, alloc: Global, value: &T) -> Result<(), Error>
-        ensures ok { OnOk result (Wrote (state W.Write W.FaultCount self.old)
-            (T.meaning.item value.now (state W.Write W.FaultCount self.old).setting)
-            (state W.Write W.FaultCount self.new)) }
-        ensures err { IfErr result (λ e. Refused (state W.Write W.FaultCount self.old)
-            (T.meaning.item value.now (state W.Write W.FaultCount self.old).setting) e
-            (state W.Write W.FaultCount self.new)) }
-        ensures stops { Stops (state W.Write W.FaultCount self.old) result
-            (state W.Write W.FaultCount self.new) }
+        ensures ok { OnOk result (Wrote self.old.state
+            (T.meaning.item value.now self.old.state.setting) self.new.state) }
+        ensures err { IfErr result (λ e. Refused self.old.state
+            (T.meaning.item value.now self.old.state.setting) e self.new.state) }
+        ensures stops { Stops self.old.state result self.new.state }
     {
-        if self.place.ended {
+        if self.has_ended() {
             return Err(refused(Refusal::InvalidValue));
         }
         match value.serialize(alloc, self) {
             Ok(()) => return Ok(()),
             Err(e) => {
-                self.place.ended = true;
+                self.set_ended(true);
                 return Err(e);
             }
         }

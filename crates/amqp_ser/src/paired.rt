@@ -4,7 +4,7 @@ ghost use Rattle.std.specs.Prelude.{ℕ, ◌≡◌, ◌≢◌, ◌++◌, ◌∷�
 ghost use Rattle.std.specs.Prelude.{length, true, false, Some, Err, IfOk, IfErr, OnOk};
 ghost use Rattle.amqp_base.specs.Item.{Item};
 ghost use Rattle.amqp_base.specs.Shapes.{whole};
-ghost use Rattle.amqp_ser.specs.State.{State, state};
+ghost use Rattle.amqp_ser.specs.State.{State};
 ghost use Rattle.amqp_ser.specs.Law.{Wrote, Refused, Kept};
 ghost use Rattle.amqp_ser.specs.Compound.{open_parts, is_map, Holds, BeginsWith, EndsCompound};
 ghost use Rattle.amqp_ser.specs.Compound.{outside_in, turned, Complete};
@@ -35,11 +35,9 @@ impl<W: Sink> Serializer<W> {
         index: u32,
         len: usize,
     ) -> Result<Paired, Error>
-        ensures ok { IfOk result (λ v. HoldsPair (state W.Write W.FaultCount self.old) index len []
-            (state W.Write W.FaultCount self.new) v) }
-        ensures held { OnOk result ((state W.Write W.FaultCount self.new).ended ≡ true) }
-        ensures err { RefusesVariant index len (state W.Write W.FaultCount self.old) result
-            (state W.Write W.FaultCount self.new) }
+        ensures ok { IfOk result (λ v. HoldsPair self.old.state index len [] self.new.state v) }
+        ensures held { OnOk result (self.new.state.ended ≡ true) }
+        ensures err { RefusesVariant index len self.old.state result self.new.state }
     {
         match self.begin(alloc, Shape::Map) {
             Ok(pair) => match self.begin_fields(alloc, pair, index, len) {
@@ -59,20 +57,22 @@ impl<W: Sink> Serializer<W> {
         len: usize,
     ) -> Result<Paired, Error>
         ensures ok { IfOk result (λ v. (s : State) →
-            Holds s Shape.Map [] (open_parts true (state W.Write W.FaultCount self.old) pair) →
-            HoldsPair s index len [] (state W.Write W.FaultCount self.new) v) }
+            Holds s Shape.Map [] (open_parts true self.old.state pair) →
+            HoldsPair s index len [] self.new.state v) }
         ensures err { IfErr result (λ e. (s : State) (xs : List Item) →
-            Holds s Shape.Map [] (open_parts true (state W.Write W.FaultCount self.old) pair) →
-            Refused s (fields_item index len xs) e (state W.Write W.FaultCount self.new)) }
-        ensures kept { KeepsHeld (state W.Write W.FaultCount self.old)
-            (state W.Write W.FaultCount self.new) }
+            Holds s Shape.Map [] (open_parts true self.old.state pair) →
+            Refused s (fields_item index len xs) e self.new.state) }
+        ensures kept { KeepsHeld self.old.state self.new.state }
     {
         let mut pair = pair;
         match write_part(self, &mut pair, alloc, &index) {
             Ok(()) => match pair.opened {
                 Opened::Buffered => match pair.buffer.begin(alloc, Shape::Tuple(len)) {
                     Ok(fields) => Ok(Paired { pair, fields }),
-                    Err(e) => Err(e),
+                    Err(e) => {
+                        pair.buffer.has_no_fault();
+                        Err(e)
+                    }
                 },
                 _ => match self.begin_value(alloc, Shape::Tuple(len)) {
                     Ok(fields) => Ok(Paired { pair, fields }),
@@ -85,23 +85,19 @@ impl<W: Sink> Serializer<W> {
 
     /// Opens a compound on a serializer that a map holds, as one of its values.
     fn begin_value(&mut self, alloc: Global, shape: Shape) -> Result<Parts, Error>
-        ensures ok { IfOk result (λ p.
-            Holds (outside_in Shape.Map (state W.Write W.FaultCount self.old)) shape []
-            (open_parts (is_map shape) (state W.Write W.FaultCount self.new) p)) }
+        ensures ok { IfOk result (λ p. Holds (outside_in Shape.Map self.old.state) shape []
+            (open_parts (is_map shape) self.new.state p)) }
         ensures err { IfErr result (λ e. (xs : List Item) → (w : State) ×
-            Refused (outside_in Shape.Map (state W.Write W.FaultCount self.old)) (whole shape xs) e
-            w × (state W.Write W.FaultCount self.new ≡ record w { ended = true })) }
-        ensures kept { Kept (state W.Write W.FaultCount self.old)
-            (state W.Write W.FaultCount self.new) }
-        ensures held { (state W.Write W.FaultCount self.new).ended ≡ true }
+            Refused (outside_in Shape.Map self.old.state) (whole shape xs) e
+            w × (self.new.state ≡ record w { ended = true })) }
+        ensures kept { Kept self.old.state self.new.state }
+        ensures held { self.new.state.ended ≡ true }
     {
-        self.place.ended = false;
-        self.place.mark = Mark::Unmarked;
-        self.place.setting = Setting::Plain;
+        self.stand_outside(Setting::Plain);
         match self.begin(alloc, shape) {
             Ok(parts) => Ok(parts),
             Err(e) => {
-                self.place.ended = true;
+                self.set_ended(true);
                 Err(e)
             }
         }
@@ -110,29 +106,28 @@ impl<W: Sink> Serializer<W> {
     /// Writes the compound that has these parts, as a value of a map that holds the serializer.
     fn close_value(&mut self, parts: Parts) -> Result<(), Error>
         ensures ok { OnOk result ((v : State) (shape : Shape) (xs : List Item) → Holds v shape xs
-            (open_parts (is_map shape) (state W.Write W.FaultCount self.old) parts) →
+            (open_parts (is_map shape) self.old.state parts) →
             Complete (is_map shape) xs → (w : State) × Wrote v (whole shape xs) w ×
-            (state W.Write W.FaultCount self.new ≡ record w {
+            (self.new.state ≡ record w {
               ended = true;
               mark = turned w.mark w.found;
             })) }
         ensures err { IfErr result (λ e. (v : State) (shape : Shape) (xs : List Item) →
             Holds v shape xs
-            (open_parts (is_map shape) (state W.Write W.FaultCount self.old) parts) →
+            (open_parts (is_map shape) self.old.state parts) →
             Complete (is_map shape) xs → (w : State) × Refused v (whole shape xs) e w ×
-            (state W.Write W.FaultCount self.new ≡ record w { ended = true })) }
-        ensures kept { Kept (state W.Write W.FaultCount self.old)
-            (state W.Write W.FaultCount self.new) }
-        ensures held { (state W.Write W.FaultCount self.new).ended ≡ true }
+            (self.new.state ≡ record w { ended = true })) }
+        ensures kept { Kept self.old.state self.new.state }
+        ensures held { self.new.state.ended ≡ true }
     {
         match self.close(parts) {
             Ok(()) => {
-                self.place.ended = true;
+                self.set_ended(true);
                 self.turn();
                 Ok(())
             }
             Err(e) => {
-                self.place.ended = true;
+                self.set_ended(true);
                 Err(e)
             }
         }
@@ -148,21 +143,26 @@ pub(crate) fn write_paired<W: Sink, T: Serialize>(
     value: &T,
 ) -> Result<(), Error>
     ensures ok { OnOk result ((s : State) (index len : ℕ) (xs : List Item) →
-        HoldsPair s index len xs (state W.Write W.FaultCount ser.old) of.old →
+        HoldsPair s index len xs ser.old.state of.old →
         HoldsPair s index len (xs ++ T.meaning.item value.now Setting.Plain ∷ [])
-        (state W.Write W.FaultCount ser.new) of.new) }
+        ser.new.state of.new) }
     ensures err { IfErr result (λ e. (s : State) (index len : ℕ) (xs all : List Item) →
-        HoldsPair s index len xs (state W.Write W.FaultCount ser.old) of.old →
+        HoldsPair s index len xs ser.old.state of.old →
         BeginsWith all (xs ++ T.meaning.item value.now Setting.Plain ∷ []) →
-        Refused s (fields_item index len all) e (state W.Write W.FaultCount ser.new)) }
-    ensures kept { KeepsHeld (state W.Write W.FaultCount ser.old)
-        (state W.Write W.FaultCount ser.new) }
-    ensures stops { EndsCompound (open_fields (state W.Write W.FaultCount ser.old) of.old) result
-        (open_fields (state W.Write W.FaultCount ser.new) of.new) }
+        Refused s (fields_item index len all) e ser.new.state) }
+    ensures kept { KeepsHeld ser.old.state ser.new.state }
+    ensures stops { EndsCompound (open_fields ser.old.state of.old) result
+        (open_fields ser.new.state of.new) }
 {
     match of.pair.opened {
         Opened::Buffered => {
-            answer!(write_part(&mut of.pair.buffer, &mut of.fields, alloc, value))
+            match write_part(&mut of.pair.buffer, &mut of.fields, alloc, value) {
+                Ok(()) => return Ok(()),
+                Err(e) => {
+                    of.pair.buffer.has_no_fault();
+                    return Err(e);
+                }
+            }
         }
         _ => answer!(write_part(ser, &mut of.fields, alloc, value)),
     }
@@ -171,20 +171,19 @@ pub(crate) fn write_paired<W: Sink, T: Serialize>(
 /// Ends a variant: writes the pair of its index and the list of its fields.
 pub(crate) fn end_paired<W: Sink>(ser: &mut Serializer<W>, of: Paired) -> Result<(), Error>
     ensures ok { OnOk result ((s : State) (index len : ℕ) (xs : List Item) →
-        HoldsPair s index len xs (state W.Write W.FaultCount ser.old) of →
-        Wrote s (fields_item index len xs) (state W.Write W.FaultCount ser.new)) }
+        HoldsPair s index len xs ser.old.state of →
+        Wrote s (fields_item index len xs) ser.new.state) }
     ensures err { IfErr result (λ e. (s : State) (index len : ℕ) (xs : List Item) →
-        HoldsPair s index len xs (state W.Write W.FaultCount ser.old) of → length xs ≡ len →
-        Refused s (fields_item index len xs) e (state W.Write W.FaultCount ser.new)) }
+        HoldsPair s index len xs ser.old.state of → length xs ≡ len →
+        Refused s (fields_item index len xs) e ser.new.state) }
     ensures lacking { (s : State) (index len : ℕ) (xs : List Item) →
-        HoldsPair s index len xs (state W.Write W.FaultCount ser.old) of → length xs ≢ len →
+        HoldsPair s index len xs ser.old.state of → length xs ≢ len →
         result ≡ Err Error.SequenceLengthMismatch }
-    ensures kept { EndsHeld (state W.Write W.FaultCount ser.old) result
-        (state W.Write W.FaultCount ser.new) }
-    ensures ended { of.fields.buffer.place.ended ≡ true → result ≡ Err Error.InvalidValue }
+    ensures kept { EndsHeld ser.old.state result ser.new.state }
+    ensures ended { of.fields.buffer.state.ended ≡ true → result ≡ Err Error.InvalidValue }
 {
     let Paired { pair, fields } = of;
-    if fields.buffer.place.ended {
+    if fields.buffer.has_ended() {
         return Err(refused(Refusal::InvalidValue));
     }
     match fields.lacks() {
@@ -201,13 +200,12 @@ pub(crate) fn end_paired<W: Sink>(ser: &mut Serializer<W>, of: Paired) -> Result
 fn end_in_buffer<W: Sink>(ser: &mut Serializer<W>, pair: Parts, fields: Parts) -> Result<(), Error>
     requires buffered { pair.opened ≡ IsBuffered }
     ensures ok { OnOk result ((s : State) (index len : ℕ) (xs : List Item) →
-        InBuffer s index len xs (state W.Write W.FaultCount ser.old) pair fields →
-        Wrote s (fields_item index len xs) (state W.Write W.FaultCount ser.new)) }
+        InBuffer s index len xs ser.old.state pair fields →
+        Wrote s (fields_item index len xs) ser.new.state) }
     ensures err { IfErr result (λ e. (s : State) (index len : ℕ) (xs : List Item) →
-        InBuffer s index len xs (state W.Write W.FaultCount ser.old) pair fields →
-        Refused s (fields_item index len xs) e (state W.Write W.FaultCount ser.new)) }
-    ensures kept { EndsHeld (state W.Write W.FaultCount ser.old) result
-        (state W.Write W.FaultCount ser.new) }
+        InBuffer s index len xs ser.old.state pair fields →
+        Refused s (fields_item index len xs) e ser.new.state) }
+    ensures kept { EndsHeld ser.old.state result ser.new.state }
 {
     let mut pair = pair;
     match pair.buffer.close(fields) {
@@ -216,7 +214,10 @@ fn end_in_buffer<W: Sink>(ser: &mut Serializer<W>, pair: Parts, fields: Parts) -
             pair.count = 2;
             ser.close(pair)
         }
-        Err(e) => Err(e),
+        Err(e) => {
+            pair.buffer.has_no_fault();
+            Err(e)
+        }
     }
 }
 
@@ -224,13 +225,12 @@ fn end_in_buffer<W: Sink>(ser: &mut Serializer<W>, pair: Parts, fields: Parts) -
 fn end_on_itself<W: Sink>(ser: &mut Serializer<W>, pair: Parts, fields: Parts) -> Result<(), Error>
     requires direct { pair.opened ≢ IsBuffered }
     ensures ok { OnOk result ((s : State) (index len : ℕ) (xs : List Item) →
-        OnItself s index len xs (state W.Write W.FaultCount ser.old) pair fields →
-        Wrote s (fields_item index len xs) (state W.Write W.FaultCount ser.new)) }
+        OnItself s index len xs ser.old.state pair fields →
+        Wrote s (fields_item index len xs) ser.new.state) }
     ensures err { IfErr result (λ e. (s : State) (index len : ℕ) (xs : List Item) →
-        OnItself s index len xs (state W.Write W.FaultCount ser.old) pair fields →
-        Refused s (fields_item index len xs) e (state W.Write W.FaultCount ser.new)) }
-    ensures kept { EndsHeld (state W.Write W.FaultCount ser.old) result
-        (state W.Write W.FaultCount ser.new) }
+        OnItself s index len xs ser.old.state pair fields →
+        Refused s (fields_item index len xs) e ser.new.state) }
+    ensures kept { EndsHeld ser.old.state result ser.new.state }
 {
     let mut pair = pair;
     match ser.close_value(fields) {
@@ -238,6 +238,9 @@ fn end_on_itself<W: Sink>(ser: &mut Serializer<W>, pair: Parts, fields: Parts) -
             pair.count = 2;
             ser.close(pair)
         }
-        Err(e) => Err(e),
+        Err(e) => {
+            pair.buffer.has_no_fault();
+            Err(e)
+        }
     }
 }

@@ -1,13 +1,14 @@
 //! The serializer: a writer, and where its next item stands.
 
 ghost use Rattle.std.specs.Prelude.{◌≡◌, false};
-ghost use Rattle.amqp_ser.specs.State.{Fresh, state};
+ghost use Rattle.amqp_ser.specs.State.{Fresh, IsStateOf, unmarked};
 ghost use Rattle.amqp_ser.specs.Compound.{turned};
 ghost use Rattle.amqp_ser.specs.Law.{Writes};
 
 use crate::answer::answer;
 use amqp_base::{Error, Setting, Sink};
-use amqp_write::{Leaf, Place, Refusal, refused};
+use amqp_write::{Leaf, Mark, Place, Refusal, refused};
+use std::marker::Model;
 
 /// Writes values to a writer, one item after the other, in the AMQP 1.0 encoding (part 1, section
 /// 1.2).
@@ -23,11 +24,22 @@ use amqp_write::{Leaf, Place, Refusal, refused};
 /// Every call that writes may answer `Io` with the writer's own fault, or `OutOfMemory` where the
 /// writer can't grow or answers that fault. Its comment names the further errors.
 #[derive(Drop)]
-pub struct Serializer<W> {
+pub struct Serializer<W: Sink> {
     /// The writer, to which all bytes are appended.
     pub writer: W,
     /// Where the next item stands, and under which setting.
     pub(crate) place: Place,
+}
+
+impl<W: Sink> Model for Serializer<W> {
+    ghost use Rattle.amqp_ser.specs.State.{Serializing, stand};
+
+    ghost Value = { Serializing W };
+
+    ghost view = { λ s. record {
+      writer = s.writer;
+      state = stand W.Write W.FaultCount s.writer s.place;
+    } };
 }
 
 impl<W: Sink> Serializer<W> {
@@ -94,17 +106,78 @@ impl<W: Sink> Serializer<W> {
 
     /// The writer, with all that was appended to it.
     pub fn into_inner(self) -> W
-        ensures { result ≡ self.writer }
+        ensures writer { result ≡ self.writer }
+        ensures state { IsStateOf W.Write W.FaultCount result self.state }
     {
         let Serializer { writer, place: _ } = self;
         writer
     }
 
+    /// Whether every call answers `InvalidValue`.
+    #[inline(always)]
+    pub(crate) fn has_ended(&self) -> bool
+        ensures { result ≡ self.now.state.ended }
+    {
+        self.place.ended
+    }
+
+    /// From now on every call answers `InvalidValue`, or none for that.
+    #[inline(always)]
+    pub(crate) fn set_ended(&mut self, ended: bool)
+        ensures { self.new ≡ record self.old { state = record self.old.state { ended = ended } } }
+    {
+        self.place.ended = ended;
+    }
+
+    /// The setting of the next item.
+    #[inline(always)]
+    pub(crate) fn setting(&self) -> Setting
+        ensures { result ≡ self.now.state.setting }
+    {
+        self.place.setting
+    }
+
+    /// The next item has this setting.
+    #[inline(always)]
+    pub(crate) fn set_setting(&mut self, setting: Setting)
+        ensures { self.new ≡ record self.old {
+          state = record self.old.state { setting = setting };
+        } }
+    {
+        self.place.setting = setting;
+    }
+
+    /// The next item stands outside arrays.
+    #[inline(always)]
+    pub(crate) fn unmark(&mut self)
+        ensures { self.new ≡ record self.old {
+          state = record self.old.state { mark = unmarked };
+        } }
+    {
+        self.place.mark = Mark::Unmarked;
+    }
+
+    /// The next item stands outside arrays, and has this setting.
+    #[inline(always)]
+    pub(crate) fn stand_outside(&mut self, setting: Setting)
+        ensures { self.new ≡ record self.old {
+          state = record self.old.state {
+            setting = setting;
+            mark = unmarked;
+            ended = false;
+          };
+        } }
+    {
+        self.place.ended = false;
+        self.place.mark = Mark::Unmarked;
+        self.place.setting = setting;
+    }
+
     /// Writes a value without parts.
     #[inline(always)]
     pub(crate) fn leaf<L: Leaf>(&mut self, value: L) -> Result<(), Error>
-        ensures { Writes (state W.Write W.FaultCount self.old)
-            (L.shows value self.old.place.setting) result (state W.Write W.FaultCount self.new) }
+        ensures { Writes self.old.state
+            (L.shows value self.old.state.setting) result self.new.state }
     {
         if self.place.ended {
             return Err(refused(Refusal::InvalidValue));
@@ -115,13 +188,22 @@ impl<W: Sink> Serializer<W> {
     /// Behind a first element the others stand under its constructor.
     #[inline(always)]
     pub(crate) fn turn(&mut self)
-        ensures { state W.Write W.FaultCount self.new ≡
-            record (state W.Write W.FaultCount self.old) {
-              mark = turned (state W.Write W.FaultCount self.old).mark
-                  (state W.Write W.FaultCount self.old).found;
-            } }
+        ensures { self.new.state ≡ record self.old.state {
+          mark = turned self.old.state.mark
+              self.old.state.found;
+        } }
     {
         self.place.turn();
+    }
+}
+
+impl Serializer<Vec<u8>> {
+    /// A vector never answers a fault.
+    #[inline(always)]
+    pub(crate) fn has_no_fault(&self)
+        ensures { self.now.state.faults ≡ 0 }
+    {
+        let _ = &self.place;
     }
 }
 

@@ -5,7 +5,7 @@ ghost use Rattle.std.specs.Prelude.{None, Some, Ok, Err, IfOk, IfErr, OnOk, OnEr
 ghost use Rattle.amqp_base.specs.Item.{Item, described};
 ghost use Rattle.amqp_types.specs.Descriptors.{descriptor_of};
 ghost use Rattle.amqp_base.specs.Shapes.{whole};
-ghost use Rattle.amqp_ser.specs.State.{State, state, answering};
+ghost use Rattle.amqp_ser.specs.State.{State, answering};
 ghost use Rattle.amqp_ser.specs.Law.{Wrote, Refused, Stops};
 ghost use Rattle.amqp_ser.specs.Compound.{BeginsWith, open_parts, is_map, EndsWhole, RefusesOpen};
 ghost use Rattle.amqp_ser.specs.Staged.{HoldsParts, Awaits, Before, plain, behind, item_under};
@@ -104,23 +104,20 @@ impl<W: Sink> Serializer<W> {
         setting: Setting,
         shape: Shape,
     ) -> Result<(Front, Parts), Error>
-        ensures ok { IfOk result (λ r.
-            OpensBehind (answering (state W.Write W.FaultCount self.old))
+        ensures ok { IfOk result (λ r. OpensBehind (answering self.old.state)
             (descriptor_of descriptor.now) setting shape r.0
-            (open_parts (is_map shape) (state W.Write W.FaultCount self.new) r.1)) }
-        ensures err { IfErr result (λ e. (xs : List Item) →
-            Refused (answering (state W.Write W.FaultCount self.old))
-            (described (descriptor_of descriptor.now) (whole shape xs)) e
-            (state W.Write W.FaultCount self.new)) }
+            (open_parts (is_map shape) self.new.state r.1)) }
+        ensures err { IfErr result (λ e. (xs : List Item) → Refused (answering self.old.state)
+            (described (descriptor_of descriptor.now) (whole shape xs)) e self.new.state) }
     {
-        self.place.ended = false;
+        self.set_ended(false);
         match self.put_front(alloc, descriptor) {
             Ok(front) => {
-                self.place.setting = setting;
+                self.set_setting(setting);
                 match self.begin(alloc, shape) {
                     Ok(parts) => Ok((front, parts)),
                     Err(e) => {
-                        self.place.ended = true;
+                        self.set_ended(true);
                         Err(front.renamed(e))
                     }
                 }
@@ -132,11 +129,9 @@ impl<W: Sink> Serializer<W> {
     /// A struct without a descriptor begins.
     #[inline(always)]
     pub(crate) fn start_plain(&mut self, alloc: Global, shape: Shape) -> Result<Staged, Error>
-        ensures ok { IfOk result (λ g. HoldsParts (state W.Write W.FaultCount self.old) plain shape
-            [] (state W.Write W.FaultCount self.new) g) }
-        ensures held { OnOk result ((state W.Write W.FaultCount self.new).ended ≡ true) }
-        ensures err { RefusesOpen shape (state W.Write W.FaultCount self.old) result
-            (state W.Write W.FaultCount self.new) }
+        ensures ok { IfOk result (λ g. HoldsParts self.old.state plain shape [] self.new.state g) }
+        ensures held { OnOk result (self.new.state.ended ≡ true) }
+        ensures err { RefusesOpen shape self.old.state result self.new.state }
     {
         match self.begin(alloc, shape) {
             Ok(parts) => Ok(Staged {
@@ -154,16 +149,14 @@ impl<W: Sink> Serializer<W> {
         alloc: Global,
         encoding: Encoding,
     ) -> Result<Staged, Error>
-        ensures ok { IfOk result (λ g. Awaits (state W.Write W.FaultCount self.old) encoding
-            (state W.Write W.FaultCount self.new) g) }
-        ensures err { OnErr result ((state W.Write W.FaultCount self.old).ended ≡ true) }
-        ensures stops { Stops (state W.Write W.FaultCount self.old) result
-            (state W.Write W.FaultCount self.new) }
+        ensures ok { IfOk result (λ g. Awaits self.old.state encoding self.new.state g) }
+        ensures err { OnErr result (self.old.state.ended ≡ true) }
+        ensures stops { Stops self.old.state result self.new.state }
     {
-        if self.place.ended {
+        if self.has_ended() {
             return Err(refused(Refusal::InvalidValue));
         }
-        self.place.ended = true;
+        self.set_ended(true);
         Ok(Staged {
             stage: Stage::Awaited(encoding),
             front: Front::Nowhere,
@@ -174,9 +167,8 @@ impl<W: Sink> Serializer<W> {
     /// Writes the compound that has these parts.
     #[inline(always)]
     fn end_plain(&mut self, parts: Parts) -> Result<(), Error>
-        ensures { (pairs : Bool) → EndsWhole
-            (open_parts pairs (state W.Write W.FaultCount self.old) parts)
-            (state W.Write W.FaultCount self.old) result (state W.Write W.FaultCount self.new) }
+        ensures { (pairs : Bool) → EndsWhole (open_parts pairs self.old.state parts)
+            self.old.state result self.new.state }
     {
         let whole = Compound {
             ser: self,
@@ -189,16 +181,14 @@ impl<W: Sink> Serializer<W> {
     /// Writes the compound behind a descriptor that has these parts, and what is to stand behind
     /// both.
     fn close_behind(&mut self, front: Front, parts: Parts) -> Result<(), Error>
-        ensures law { ClosesBehind front
-            (λ pairs. open_parts pairs (state W.Write W.FaultCount self.old) parts) result
-            (state W.Write W.FaultCount self.new) }
-        ensures kept { EndsHeld (state W.Write W.FaultCount self.old) result
-            (state W.Write W.FaultCount self.new) }
+        ensures law { ClosesBehind front (λ pairs. open_parts pairs self.old.state parts) result
+            self.new.state }
+        ensures kept { EndsHeld self.old.state result self.new.state }
     {
         match self.close(parts) {
             Ok(()) => self.close_front(front),
             Err(e) => {
-                self.place.ended = true;
+                self.set_ended(true);
                 Err(front.renamed(e))
             }
         }
@@ -220,19 +210,16 @@ pub(crate) fn write_descriptor<W: Sink>(
     alloc: Global,
     descriptor: &Descriptor,
 ) -> Result<(), Error>
-    ensures ok { OnOk result ((s : State) (x : _) →
-        Awaits s x (state W.Write W.FaultCount ser.old) of.old →
+    ensures ok { OnOk result ((s : State) (x : _) → Awaits s x ser.old.state of.old →
         HoldsParts s (behind x (descriptor_of descriptor.now)) (shape_behind x) []
-        (state W.Write W.FaultCount ser.new) of.new) }
+        ser.new.state of.new) }
     ensures err { IfErr result (λ e. (s : State) (x : _) (xs : List Item) →
-        Awaits s x (state W.Write W.FaultCount ser.old) of.old →
+        Awaits s x ser.old.state of.old →
         Refused s (item_under (behind x (descriptor_of descriptor.now)) (shape_behind x) xs) e
-        (state W.Write W.FaultCount ser.new)) }
+        ser.new.state) }
     ensures uncalled { (s : State) (b : Before) (shape : Shape) (xs : List Item) →
-        HoldsParts s b shape xs (state W.Write W.FaultCount ser.old) of.old →
-        result ≡ Err Error.InvalidValue }
-    ensures stops { EndsStage (state W.Write W.FaultCount ser.old) of.old result
-        (state W.Write W.FaultCount ser.new) of.new }
+        HoldsParts s b shape xs ser.old.state of.old → result ≡ Err Error.InvalidValue }
+    ensures stops { EndsStage ser.old.state of.old result ser.new.state of.new }
 {
     let stage = of.stage;
     of.stage = Stage::Ended;
@@ -259,13 +246,11 @@ impl Staged {
         shape: Shape,
     ) -> Result<(), Error>
         ensures ok { OnOk result ((self.new.stage ≡ stage.Behind) ×
-            OpensBehind (answering (state W.Write W.FaultCount ser.old))
+            OpensBehind (answering ser.old.state)
             (descriptor_of descriptor.now) setting shape self.new.front
-            (open_parts (is_map shape) (state W.Write W.FaultCount ser.new) self.new.parts)) }
-        ensures err { IfErr result (λ e. (xs : List Item) →
-            Refused (answering (state W.Write W.FaultCount ser.old))
-            (described (descriptor_of descriptor.now) (whole shape xs)) e
-            (state W.Write W.FaultCount ser.new)) }
+            (open_parts (is_map shape) ser.new.state self.new.parts)) }
+        ensures err { IfErr result (λ e. (xs : List Item) → Refused (answering ser.old.state)
+            (described (descriptor_of descriptor.now) (whole shape xs)) e ser.new.state) }
         ensures stage { OnErr result (self.new.stage ≡ self.old.stage) }
     {
         match ser.open_behind(alloc, descriptor, setting, shape) {
@@ -311,31 +296,28 @@ fn write_value<W: Sink, T: Serialize>(
 ) -> Result<(), Error>
     requires apart { IsApart of.old }
     ensures ok { OnOk result ((s : State) (b : Before) (shape : Shape) (xs : List Item) →
-        HoldsParts s b shape xs (state W.Write W.FaultCount ser.old) of.old →
+        HoldsParts s b shape xs ser.old.state of.old →
         HoldsParts s b shape (xs ++ T.meaning.item value.now Setting.Plain ∷ [])
-        (state W.Write W.FaultCount ser.new) of.new) }
+        ser.new.state of.new) }
     ensures err { IfErr result (λ e.
         (s : State) (b : Before) (shape : Shape) (xs all : List Item) →
-        HoldsParts s b shape xs (state W.Write W.FaultCount ser.old) of.old →
+        HoldsParts s b shape xs ser.old.state of.old →
         BeginsWith all (xs ++ T.meaning.item value.now Setting.Plain ∷ []) →
-        Refused s (item_under b shape all) e (state W.Write W.FaultCount ser.new)) }
-    ensures early { (s : State) (x : _) →
-        Awaits s x (state W.Write W.FaultCount ser.old) of.old →
+        Refused s (item_under b shape all) e ser.new.state) }
+    ensures early { (s : State) (x : _) → Awaits s x ser.old.state of.old →
         result ≡ Err Error.InvalidValue }
-    ensures kept { KeepsHeld (state W.Write W.FaultCount ser.old)
-        (state W.Write W.FaultCount ser.new) }
-    ensures stops { EndsStage (state W.Write W.FaultCount ser.old) of.old result
-        (state W.Write W.FaultCount ser.new) of.new }
+    ensures kept { KeepsHeld ser.old.state ser.new.state }
+    ensures stops { EndsStage ser.old.state of.old result ser.new.state of.new }
 {
     let stage = of.stage;
     of.stage = Stage::Ended;
     match stage {
         Stage::Given => match &of.front {
             Front::First(_, descriptor) => {
-                ser.place.ended = false;
+                ser.set_ended(false);
                 match ser.serialize_described(alloc, descriptor, value) {
                     Ok(()) => {
-                        ser.place.ended = true;
+                        ser.set_ended(true);
                         of.stage = Stage::Written(false);
                         Ok(())
                     }
@@ -361,20 +343,16 @@ pub(crate) fn write_row_field<W: Sink, T: Serialize>(
     value: &T,
 ) -> Result<(), Error>
     ensures ok { OnOk result ((s : State) (b : Before) (xs : List Item) →
-        HoldsRow s b xs (state W.Write W.FaultCount ser.old) of.old →
-        HoldsRow s b (xs ++ T.meaning.item value.now Setting.Plain ∷ [])
-        (state W.Write W.FaultCount ser.new) of.new) }
+        HoldsRow s b xs ser.old.state of.old →
+        HoldsRow s b (xs ++ T.meaning.item value.now Setting.Plain ∷ []) ser.new.state of.new) }
     ensures err { IfErr result (λ e. (s : State) (b : Before) (xs all : List Item) →
-        HoldsRow s b xs (state W.Write W.FaultCount ser.old) of.old →
+        HoldsRow s b xs ser.old.state of.old →
         BeginsWith all (xs ++ T.meaning.item value.now Setting.Plain ∷ []) →
-        Refused s (item_under b Shape.List all) e (state W.Write W.FaultCount ser.new)) }
-    ensures early { (s : State) (x : _) →
-        Awaits s x (state W.Write W.FaultCount ser.old) of.old →
+        Refused s (item_under b Shape.List all) e ser.new.state) }
+    ensures early { (s : State) (x : _) → Awaits s x ser.old.state of.old →
         result ≡ Err Error.InvalidValue }
-    ensures kept { KeepsHeld (state W.Write W.FaultCount ser.old)
-        (state W.Write W.FaultCount ser.new) }
-    ensures stops { EndsStage (state W.Write W.FaultCount ser.old) of.old result
-        (state W.Write W.FaultCount ser.new) of.new }
+    ensures kept { KeepsHeld ser.old.state ser.new.state }
+    ensures stops { EndsStage ser.old.state of.old result ser.new.state of.new }
 {
     match of.stage {
         Stage::Plain => match write_part(ser, &mut of.parts, alloc, value) {
@@ -388,7 +366,7 @@ pub(crate) fn write_row_field<W: Sink, T: Serialize>(
             Ok(()) => Ok(()),
             Err(e) => {
                 of.stage = Stage::Ended;
-                ser.place.ended = true;
+                ser.set_ended(true);
                 Err(of.front.renamed(e))
             }
         },
@@ -405,23 +383,20 @@ pub(crate) fn write_named_field<W: Sink, T: Serialize>(
     value: &T,
 ) -> Result<(), Error>
     ensures ok { OnOk result ((s : State) (b : Before) (fs : List FieldItem) →
-        HoldsStruct s b fs (state W.Write W.FaultCount ser.old) of.old →
+        HoldsStruct s b fs ser.old.state of.old →
         HoldsStruct s b (fs ++ named name.now (T.meaning.item value.now) ∷ [])
-        (state W.Write W.FaultCount ser.new) of.new) }
+        ser.new.state of.new) }
     ensures err { IfErr result (λ e. is_descriptor_name name.now ≡ false →
         (s : State) (b : Before) (fs all : List FieldItem) →
-        HoldsStruct s b fs (state W.Write W.FaultCount ser.old) of.old →
+        HoldsStruct s b fs ser.old.state of.old →
         BeginsWith all (fs ++ named name.now (T.meaning.item value.now) ∷ []) →
-        Refused s (struct_under b s.setting all) e (state W.Write W.FaultCount ser.new)) }
+        Refused s (struct_under b s.setting all) e ser.new.state) }
     ensures descriptor { is_descriptor_name name.now ≡ true →
         result ≡ Err Error.InvalidValue }
-    ensures early { (s : State) (x : _) →
-        Awaits s x (state W.Write W.FaultCount ser.old) of.old →
+    ensures early { (s : State) (x : _) → Awaits s x ser.old.state of.old →
         result ≡ Err Error.InvalidValue }
-    ensures kept { KeepsHeld (state W.Write W.FaultCount ser.old)
-        (state W.Write W.FaultCount ser.new) }
-    ensures stops { EndsStage (state W.Write W.FaultCount ser.old) of.old result
-        (state W.Write W.FaultCount ser.new) of.new }
+    ensures kept { KeepsHeld ser.old.state ser.new.state }
+    ensures stops { EndsStage ser.old.state of.old result ser.new.state of.new }
 {
     if is_name(name, DESCRIPTOR) {
         of.stage = Stage::Ended;
@@ -439,7 +414,7 @@ pub(crate) fn write_named_field<W: Sink, T: Serialize>(
             Ok(()) => Ok(()),
             Err(e) => {
                 of.stage = Stage::Ended;
-                ser.place.ended = true;
+                ser.set_ended(true);
                 Err(of.front.renamed(e))
             }
         },
@@ -450,19 +425,17 @@ pub(crate) fn write_named_field<W: Sink, T: Serialize>(
 /// Ends a struct: writes the whole that has its fields.
 pub(crate) fn end_staged<W: Sink>(ser: &mut Serializer<W>, of: Staged) -> Result<(), Error>
     ensures ok { OnOk result ((s : State) (b : Before) (shape : Shape) (xs : List Item) →
-        HoldsParts s b shape xs (state W.Write W.FaultCount ser.old) of → AllThere b shape xs →
-        Wrote s (item_under b shape xs) (state W.Write W.FaultCount ser.new)) }
+        HoldsParts s b shape xs ser.old.state of → AllThere b shape xs →
+        Wrote s (item_under b shape xs) ser.new.state) }
     ensures err { IfErr result (λ e. (s : State) (b : Before) (shape : Shape) (xs : List Item) →
-        HoldsParts s b shape xs (state W.Write W.FaultCount ser.old) of → AllThere b shape xs →
-        lacks_field b xs ≡ false →
-        Refused s (item_under b shape xs) e (state W.Write W.FaultCount ser.new)) }
+        HoldsParts s b shape xs ser.old.state of → AllThere b shape xs →
+        lacks_field b xs ≡ false → Refused s (item_under b shape xs) e ser.new.state) }
     ensures lacking { (s : State) (b : Before) (shape : Shape) (xs : List Item) →
-        HoldsParts s b shape xs (state W.Write W.FaultCount ser.old) of →
+        HoldsParts s b shape xs ser.old.state of →
         lacks_field b xs ≡ true → result ≡ Err Error.SequenceLengthMismatch }
-    ensures early { (s : State) (x : _) → Awaits s x (state W.Write W.FaultCount ser.old) of →
+    ensures early { (s : State) (x : _) → Awaits s x ser.old.state of →
         result ≡ Err Error.InvalidValue }
-    ensures kept { EndsHeld (state W.Write W.FaultCount ser.old) result
-        (state W.Write W.FaultCount ser.new) }
+    ensures kept { EndsHeld ser.old.state result ser.new.state }
     ensures ended { of.stage ≡ stage.Ended → result ≡ Err Error.InvalidValue }
 {
     let Staged {
@@ -478,7 +451,7 @@ pub(crate) fn end_staged<W: Sink>(ser: &mut Serializer<W>, of: Staged) -> Result
             if more {
                 return Err(Error::SequenceLengthMismatch);
             }
-            ser.place.ended = false;
+            ser.set_ended(false);
             Ok(())
         }
         Stage::Awaited(_) => Err(refused(Refusal::InvalidValue)),

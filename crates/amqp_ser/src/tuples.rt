@@ -5,7 +5,7 @@ ghost use Rattle.std.specs.Prelude.{false, IsTrue, IfOk, IfErr, OnOk, Err, List}
 ghost use Rattle.std.specs.Borrow.{sem, RestsIfErr};
 ghost use Rattle.amqp_base.specs.Item.{Item};
 ghost use Rattle.amqp_base.specs.Shapes.{whole};
-ghost use Rattle.amqp_ser.specs.State.{State, state};
+ghost use Rattle.amqp_ser.specs.State.{State};
 ghost use Rattle.amqp_ser.specs.Law.{Wrote, Refused};
 ghost use Rattle.amqp_ser.specs.Compound.{open_state, RefusesOpen, Holds, BeginsWith, FailedAs};
 ghost use Rattle.amqp_ser.specs.Compound.{WritesEach};
@@ -34,14 +34,13 @@ impl<W: Sink> Serializer<W> {
         alloc: Global,
         len: usize,
     ) -> Result<TupleSerializer<'_, W>, Error>
-        ensures* rests { sem 𝓛 (RestsIfErr (the_row W.row) self.entry (λ q.
-            q.ser.ghost_name) result (λ n.
-            RefusesOpen (Shape.Tuple len) (state W.Write W.FaultCount self.old) result
-            (state W.Write W.FaultCount n))) }
+        ensures* rests { sem 𝓛 (RestsIfErr (the_row W.row W.Write W.FaultCount) self.entry (λ q.
+            q.ser.ghost_name) result (λ n. RefusesOpen (Shape.Tuple len) self.old.state result
+            n.state)) }
         ensures same_reference { IfOk result (λ q. q.ser.ghost_name ≡ self.entry.ghost_name) }
-        ensures held { IfOk result (λ q. (state W.Write W.FaultCount q.ser.now).ended ≡ true) }
-        ensures opened { IfOk result (λ q. Holds (state W.Write W.FaultCount self.old)
-            (Shape.Tuple len) [] (open_state W.Write W.FaultCount q)) }
+        ensures held { IfOk result (λ q. q.ser.now.state.ended ≡ true) }
+        ensures opened { IfOk result (λ q. Holds self.old.state
+            (Shape.Tuple len) [] (open_state q)) }
     {
         match self.begin(alloc, Shape::Tuple(len)) {
             Ok(parts) => {
@@ -64,9 +63,7 @@ impl<'a, W: Sink> TupleSerializer<'a, W> {
     pub fn serialize_element<T: Serialize>(&mut self, alloc: Global, value: &T) -> Result<(), Error>
         ensures same_reference { self.new.ser.ghost_name ≡ self.old.ser.ghost_name }
         ensures law { WritesEach (T.meaning.item value.now Setting.Plain ∷ [])
-            (open_state W.Write W.FaultCount self.old) result
-            (state W.Write W.FaultCount self.new.ser.now)
-            (open_state W.Write W.FaultCount self.new) }
+            (open_state self.old) result self.new.ser.now.state (open_state self.new) }
     {
         self.write_next(alloc, value)
     }
@@ -90,13 +87,12 @@ pub trait TupleParts: Drop {
     ) -> bool
         ensures same_reference { out.new.ser.ghost_name ≡ out.old.ser.ghost_name }
         ensures ok { IsTrue result → (s : State) (shape : Shape) (xs : List Item) →
-            Holds s shape xs (open_state W.Write W.FaultCount out.old) →
-            Holds s shape (xs ++ items self.now) (open_state W.Write W.FaultCount out.new) }
+            Holds s shape xs (open_state out.old) →
+            Holds s shape (xs ++ items self.now) (open_state out.new) }
         ensures err { result ≡ false → FailedAs failed.new (λ e.
             (s : State) (shape : Shape) (xs all : List Item) →
-            Holds s shape xs (open_state W.Write W.FaultCount out.old) →
-            BeginsWith all (xs ++ items self.now) →
-            Refused s (whole shape all) e (state W.Write W.FaultCount out.new.ser.now)) };
+            Holds s shape xs (open_state out.old) → BeginsWith all (xs ++ items self.now) →
+            Refused s (whole shape all) e out.new.ser.now.state) };
 
     /// Writes them, in order, as the fields of an enum's variant.
     fn write_fields<W: Sink>(
@@ -106,13 +102,11 @@ pub trait TupleParts: Drop {
     ) -> Result<(), Error>
         ensures same_reference { out.new.ser.ghost_name ≡ out.old.ser.ghost_name }
         ensures ok { OnOk result ((s : State) (index len : ℕ) (xs : List Item) →
-            HasVariant W.Write W.FaultCount s index len xs out.old →
-            HasVariant W.Write W.FaultCount s index len (xs ++ items self.now) out.new) }
+            HasVariant s index len xs out.old →
+            HasVariant s index len (xs ++ items self.now) out.new) }
         ensures err { IfErr result (λ e. (s : State) (index len : ℕ) (xs all : List Item) →
-            HasVariant W.Write W.FaultCount s index len xs out.old →
-            BeginsWith all (xs ++ items self.now) →
-            Refused s (fields_item index len all) e
-            (state W.Write W.FaultCount out.new.ser.now)) };
+            HasVariant s index len xs out.old → BeginsWith all (xs ++ items self.now) →
+            Refused s (fields_item index len all) e out.new.ser.now.state) };
 }
 
 impl TupleParts for () {
@@ -194,12 +188,11 @@ impl<W: Sink> Serializer<W> {
         len: usize,
         parts: &P,
     ) -> Result<(), Error>
-        ensures ok { OnOk result (Wrote (state W.Write W.FaultCount self.old)
-            (whole (Shape.Tuple len) (P.items parts.now)) (state W.Write W.FaultCount self.new)) }
+        ensures ok { OnOk result (Wrote self.old.state
+            (whole (Shape.Tuple len) (P.items parts.now)) self.new.state) }
         ensures err { length (P.items parts.now) ≡ len →
-            IfErr result (λ e. Refused (state W.Write W.FaultCount self.old)
-            (whole (Shape.Tuple len) (P.items parts.now)) e
-            (state W.Write W.FaultCount self.new)) }
+            IfErr result (λ e. Refused self.old.state
+            (whole (Shape.Tuple len) (P.items parts.now)) e self.new.state) }
     {
         let mut out = match self.serialize_tuple(alloc, len) {
             Ok(out) => out,

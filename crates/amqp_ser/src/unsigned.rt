@@ -1,7 +1,6 @@
 //! Numbers without a sign.
 
 ghost use Rattle.amqp_base.specs.Item.{scalar, ubyte, ushort, uint, ulong};
-ghost use Rattle.amqp_ser.specs.State.{state};
 ghost use Rattle.amqp_ser.specs.Law.{Writes};
 
 use crate::Serializer;
@@ -16,8 +15,7 @@ impl<W: Sink> Serializer<W> {
     /// `InvalidValue`: the array that it is to stand in has elements under another constructor.
     #[inline(always)]
     pub fn serialize_u8(&mut self, alloc: Global, v: u8) -> Result<(), Error>
-        ensures { Writes (state W.Write W.FaultCount self.old) (scalar (ubyte v)) result
-            (state W.Write W.FaultCount self.new) }
+        ensures { Writes self.old.state (scalar (ubyte v)) result self.new.state }
     {
         let _ = alloc;
         answer!(self.leaf(v))
@@ -29,8 +27,7 @@ impl<W: Sink> Serializer<W> {
     /// `InvalidValue`: the array that it is to stand in has elements under another constructor.
     #[inline(always)]
     pub fn serialize_u16(&mut self, alloc: Global, v: u16) -> Result<(), Error>
-        ensures { Writes (state W.Write W.FaultCount self.old) (scalar (ushort v)) result
-            (state W.Write W.FaultCount self.new) }
+        ensures { Writes self.old.state (scalar (ushort v)) result self.new.state }
     {
         let _ = alloc;
         answer!(self.leaf(v))
@@ -42,8 +39,7 @@ impl<W: Sink> Serializer<W> {
     /// `InvalidValue`: the array that it is to stand in has elements under another constructor.
     #[inline(always)]
     pub fn serialize_u32(&mut self, alloc: Global, v: u32) -> Result<(), Error>
-        ensures { Writes (state W.Write W.FaultCount self.old) (scalar (uint v)) result
-            (state W.Write W.FaultCount self.new) }
+        ensures { Writes self.old.state (scalar (uint v)) result self.new.state }
     {
         let _ = alloc;
         answer!(self.leaf(v))
@@ -55,8 +51,7 @@ impl<W: Sink> Serializer<W> {
     /// `InvalidValue`: the array that it is to stand in has elements under another constructor.
     #[inline(always)]
     pub fn serialize_u64(&mut self, alloc: Global, v: u64) -> Result<(), Error>
-        ensures { Writes (state W.Write W.FaultCount self.old) (scalar (ulong v)) result
-            (state W.Write W.FaultCount self.new) }
+        ensures { Writes self.old.state (scalar (ulong v)) result self.new.state }
     {
         let _ = alloc;
         answer!(self.leaf(v))

@@ -3,7 +3,6 @@
 ghost use Rattle.std.specs.Prelude.{◌≡◌, [], true, false, length, IfOk, IfErr, OnOk, Err};
 ghost use Rattle.std.specs.Borrow.{sem, RestsIfErr};
 ghost use Rattle.amqp_base.specs.Structs.{is_descriptor_name};
-ghost use Rattle.amqp_ser.specs.State.{state};
 ghost use Rattle.amqp_ser.specs.Law.{Wrote, Refused, Stops, Writes};
 ghost use Rattle.amqp_ser.specs.Variants.{unit_item, variant_item, fields_item, HasVariant};
 ghost use Rattle.amqp_ser.specs.Variants.{RefusesVariant, WritesVariantField};
@@ -41,8 +40,7 @@ impl<W: Sink> Serializer<W> {
         index: u32,
         variant: &'static str,
     ) -> Result<(), Error>
-        ensures { Writes (state W.Write W.FaultCount self.old) (unit_item index) result
-            (state W.Write W.FaultCount self.new) }
+        ensures { Writes self.old.state (unit_item index) result self.new.state }
     {
         let _ = name;
         let _ = variant;
@@ -64,24 +62,21 @@ impl<W: Sink> Serializer<W> {
         variant: &'static str,
         value: &T,
     ) -> Result<(), Error>
-        ensures ok { OnOk result (Wrote (state W.Write W.FaultCount self.old)
-            (variant_item index (T.meaning.item value.now Setting.Plain))
-            (state W.Write W.FaultCount self.new)) }
+        ensures ok { OnOk result (Wrote self.old.state
+            (variant_item index (T.meaning.item value.now Setting.Plain)) self.new.state) }
         ensures err { is_descriptor_name name.now ≡ false →
-            IfErr result (λ e. Refused (state W.Write W.FaultCount self.old)
-            (variant_item index (T.meaning.item value.now Setting.Plain)) e
-            (state W.Write W.FaultCount self.new)) }
+            IfErr result (λ e. Refused self.old.state
+            (variant_item index (T.meaning.item value.now Setting.Plain)) e self.new.state) }
         ensures descriptor { is_descriptor_name name.now ≡ true →
             result ≡ Err Error.InvalidValue }
-        ensures stops { Stops (state W.Write W.FaultCount self.old) result
-            (state W.Write W.FaultCount self.new) }
+        ensures stops { Stops self.old.state result self.new.state }
     {
         let _ = variant;
-        if self.place.ended {
+        if self.has_ended() {
             return Err(refused(Refusal::InvalidValue));
         }
         if is_name(name, DESCRIPTOR) {
-            self.place.ended = true;
+            self.set_ended(true);
             return Err(refused(Refusal::InvalidValue));
         }
         let mut pair = match self.serialize_map(alloc, Some(1)) {
@@ -108,14 +103,12 @@ impl<W: Sink> Serializer<W> {
         variant: &'static str,
         len: usize,
     ) -> Result<VariantSerializer<'_, W>, Error>
-        ensures* rests { sem 𝓛 (RestsIfErr (the_row W.row) self.entry (λ q.
-            q.ser.ghost_name) result (λ n.
-            RefusesVariant index len (state W.Write W.FaultCount self.old) result
-            (state W.Write W.FaultCount n))) }
+        ensures* rests { sem 𝓛 (RestsIfErr (the_row W.row W.Write W.FaultCount) self.entry (λ q.
+            q.ser.ghost_name) result (λ n. RefusesVariant index len self.old.state result
+            n.state)) }
         ensures same_reference { IfOk result (λ q. q.ser.ghost_name ≡ self.entry.ghost_name) }
-        ensures held { IfOk result (λ q. (state W.Write W.FaultCount q.ser.now).ended ≡ true) }
-        ensures opened { IfOk result (λ q. HasVariant W.Write W.FaultCount
-            (state W.Write W.FaultCount self.old) index len [] q) }
+        ensures held { IfOk result (λ q. q.ser.now.state.ended ≡ true) }
+        ensures opened { IfOk result (λ q. HasVariant self.old.state index len [] q) }
     {
         let _ = name;
         let _ = variant;
@@ -143,14 +136,12 @@ impl<W: Sink> Serializer<W> {
         variant: &'static str,
         len: usize,
     ) -> Result<VariantSerializer<'_, W>, Error>
-        ensures* rests { sem 𝓛 (RestsIfErr (the_row W.row) self.entry (λ q.
-            q.ser.ghost_name) result (λ n.
-            RefusesVariant index len (state W.Write W.FaultCount self.old) result
-            (state W.Write W.FaultCount n))) }
+        ensures* rests { sem 𝓛 (RestsIfErr (the_row W.row W.Write W.FaultCount) self.entry (λ q.
+            q.ser.ghost_name) result (λ n. RefusesVariant index len self.old.state result
+            n.state)) }
         ensures same_reference { IfOk result (λ q. q.ser.ghost_name ≡ self.entry.ghost_name) }
-        ensures held { IfOk result (λ q. (state W.Write W.FaultCount q.ser.now).ended ≡ true) }
-        ensures opened { IfOk result (λ q. HasVariant W.Write W.FaultCount
-            (state W.Write W.FaultCount self.old) index len [] q) }
+        ensures held { IfOk result (λ q. q.ser.now.state.ended ≡ true) }
+        ensures opened { IfOk result (λ q. HasVariant self.old.state index len [] q) }
     {
         self.serialize_tuple_variant(alloc, name, index, variant, len)
     }
@@ -170,12 +161,11 @@ impl<W: Sink> Serializer<W> {
         len: usize,
         parts: &P,
     ) -> Result<(), Error>
-        ensures ok { OnOk result (Wrote (state W.Write W.FaultCount self.old)
-            (fields_item index len (P.items parts.now)) (state W.Write W.FaultCount self.new)) }
+        ensures ok { OnOk result (Wrote self.old.state
+            (fields_item index len (P.items parts.now)) self.new.state) }
         ensures err { length (P.items parts.now) ≡ len →
-            IfErr result (λ e. Refused (state W.Write W.FaultCount self.old)
-            (fields_item index len (P.items parts.now)) e
-            (state W.Write W.FaultCount self.new)) }
+            IfErr result (λ e. Refused self.old.state
+            (fields_item index len (P.items parts.now)) e self.new.state) }
     {
         let mut out = match self.serialize_tuple_variant(alloc, "", index, "", len) {
             Ok(out) => out,
@@ -261,8 +251,7 @@ impl<'a, W: Sink> VariantSerializer<'a, W> {
     /// is refused at `end`.
     pub fn serialize_field<T: Serialize>(&mut self, alloc: Global, value: &T) -> Result<(), Error>
         ensures same_reference { self.new.ser.ghost_name ≡ self.old.ser.ghost_name }
-        ensures law { WritesVariantField W.Write W.FaultCount (T.meaning.item value.now) self.old
-            result self.new }
+        ensures law { WritesVariantField (T.meaning.item value.now) self.old result self.new }
     {
         answer!(write_paired(&mut *self.ser, &mut self.parts, alloc, value))
     }
@@ -275,8 +264,7 @@ impl<'a, W: Sink> VariantSerializer<'a, W> {
         value: &T,
     ) -> Result<(), Error>
         ensures same_reference { self.new.ser.ghost_name ≡ self.old.ser.ghost_name }
-        ensures law { WritesVariantField W.Write W.FaultCount (T.meaning.item value.now) self.old
-            result self.new }
+        ensures law { WritesVariantField (T.meaning.item value.now) self.old result self.new }
     {
         let _ = key;
         self.serialize_field(alloc, value)

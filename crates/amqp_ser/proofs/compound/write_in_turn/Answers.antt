@@ -17,8 +17,8 @@ apart true false e h = cc
 apart false true e h = cc
 apart false false e h = cc
 
-pub returns-then-parts : goal.returns-then-parts
-returns-then-parts g c = record { ok = tt; err = (search rules); turn = (search rules); kept = (search rules); stops = (search rules) }
+pub returns-then-has_ended : goal.returns-then-has_ended
+returns-then-has_ended g c = record { ok = tt; err = (search rules); turn = (search rules); kept = (search rules); stops = (search rules) }
 
 pub returns-then-turn-is_value : goal.returns-then-turn-is_value
 returns-then-turn-is_value g c =

@@ -1,8 +1,7 @@
-use Rattle.amqp_ser.specs.State.{state}
 use Rattle.amqp_ser.proofs.compound.write_part.Goals as goal
 
 pub returns-in-Err-clause-err : goal.returns-in-Err-clause-err
-returns-in-Err-clause-err g c = λ pairs s shape xs all h split complete. c.in-Err.ensures.err pairs (state g.W.Write g.W.FaultCount c.args.ser.now) s shape xs all h split complete
+returns-in-Err-clause-err g c = λ pairs s shape xs all h split complete. c.in-Err.ensures.err pairs c.args.ser.now.state s shape xs all h split complete
 
 pub returns-in-Err-clause-stops : goal.returns-in-Err-clause-stops
-returns-in-Err-clause-stops g c = λ pairs. c.in-Err.ensures.stops pairs (state g.W.Write g.W.FaultCount c.args.ser.now)
+returns-in-Err-clause-stops g c = λ pairs. c.in-Err.ensures.stops pairs c.args.ser.now.state

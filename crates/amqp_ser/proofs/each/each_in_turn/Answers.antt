@@ -31,7 +31,7 @@ returns-in-Err-clause-law g c =
       kept = keeps_two _ _ _ c.loop-value.invariant.kept c.in-Err.ensures.law.kept;
       stops = record {
         err = c.in-Err.ensures.law.stops.err;
-        ended = λ h. absurd (true_false (sym h ∙ (inner_answers _ _ _ ∙ c.if-seq.false)));
+        ended = λ h. absurd (true_false (sym h ∙ (inner_answers _ _ _ ∙ (sym c.has_ended.ensures ∙ c.if-has_ended.false))));
       };
     }
 
@@ -45,6 +45,6 @@ returns-clause-law g c =
       kept = c.loop-value.invariant.kept;
       stops = record {
         err = tt;
-        ended = λ h. absurd (true_false (sym h ∙ (inner_answers _ _ _ ∙ c.if-seq.false)));
+        ended = λ h. absurd (true_false (sym h ∙ (inner_answers _ _ _ ∙ (sym c.has_ended.ensures ∙ c.if-has_ended.false))));
       };
     }

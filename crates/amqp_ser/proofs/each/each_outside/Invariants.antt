@@ -11,6 +11,6 @@ abbrev pub invariant-loop-value : goal.invariant-loop-value
 invariant-loop-value g l = record {
   parts : l.seq.parts ≡ l.initial.seq.parts;
   same_reference : l.seq.ser.ghost_name ≡ l.initial.seq.ser.ghost_name;
-  kept : Keeps (open_state g.W.Write g.W.FaultCount l.initial.seq) (open_state g.W.Write g.W.FaultCount l.seq);
-  holds : (s : State) (shape : Shape) (xs : List Item) → Holds s shape xs (open_state g.W.Write g.W.FaultCount l.initial.seq) → Holds s shape (xs ++ map (λ x. g.T.Typed.meaning.item x Plain) (take l.value-index l.values)) (counted (open_state g.W.Write g.W.FaultCount l.seq) l.value-index);
+  kept : Keeps (open_state l.initial.seq) (open_state l.seq);
+  holds : (s : State) (shape : Shape) (xs : List Item) → Holds s shape xs (open_state l.initial.seq) → Holds s shape (xs ++ map (λ x. g.T.Typed.meaning.item x Plain) (take l.value-index l.values)) (counted (open_state l.seq) l.value-index);
 }

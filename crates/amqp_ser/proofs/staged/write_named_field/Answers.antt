@@ -1,7 +1,6 @@
 use Rattle.std.proofs.Common.{refl, sym, ◌∙◌}
 use Rattle.std.proofs.lemmas.Result.{IfErr-weaker, on_ok_weaker}
 use Rattle.amqp_write.proofs.PartTexts.{true_false}
-use Rattle.amqp_ser.specs.State.{state}
 use Rattle.amqp_write.specs.State.{stand}
 use Rattle.amqp_ser.proofs.Stages.{fields_in, fields_out, plain_refused, behind_more, behind_refused_fields, apart_more, apart_refused, apart_else}
 use Rattle.amqp_ser.proofs.staged.write_named_field.Goals as goal
@@ -20,8 +19,8 @@ pub returns-in-Ok-write_field-clause-ok : goal.returns-in-Ok-write_field-clause-
 returns-in-Ok-write_field-clause-ok g c = λ s b fs h. behind_more s _ _ b fs _ c.args.of.now (record c.args.of.now { parts = c.write_field-in-Behind.new.parts }) c.in-Behind.is c.in-Behind.is refl (λ m k. c.in-Ok-write_field.ensures.ok m fs k) h
 
 pub returns-in-Err-write_field-clause-err : goal.returns-in-Err-write_field-clause-err
-unfolding state stand
-returns-in-Err-write_field-clause-err g c = λ free s b fs all h begins. rw c.renamed.ensures (behind_refused_fields s _ _ b fs all _ c.args.of.now c.in-Behind.is (λ m k. c.in-Err-write_field.ensures.err free m fs all k begins) h)
+unfolding stand
+returns-in-Err-write_field-clause-err g c = λ free s b fs all h begins. rw (c.renamed.ensures, c.set_ended.ensures) (behind_refused_fields s _ _ b fs all _ c.args.of.now c.in-Behind.is (λ m k. c.in-Err-write_field.ensures.err free m fs all k begins) h)
 
 pub returns-in_default : goal.returns-in_default
 returns-in_default g c =

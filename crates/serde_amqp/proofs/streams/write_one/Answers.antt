@@ -1,22 +1,23 @@
-use Rattle.std.proofs.Common.{refl}
-use Rattle.amqp_ser.specs.State.{State, state}
+use Rattle.std.proofs.Common.{ap}
+use Rattle.amqp_ser.specs.State.{State}
 use Rattle.amqp_write.specs.State.{stand}
 use Rattle.serde_amqp.proofs.IntoSink.{Begins, LeftIn, puts, fails, stays}
 use Rattle.serde_amqp.proofs.streams.write_one.Goals as goal
 
 pub returns : goal.returns
-unfolding state stand
+unfolding stand
 returns g c =
     let w = g.W.Write in
     let x = g.W.FaultCount in
-    let before : State = state w x c.new-ser.result in
-    let after : State = state w x c.serialize-result.new.ser in
+    let before : State = c.new-ser.result.state in
+    let after : State = c.serialize-result.new.ser.state in
     let left = c.into_inner.result in
     let f = g.T.Typed.meaning.item c.args.value.now in
     let r = c.serialize-result in
     let n = c.new-ser.ensures in
     let begins : Begins before (w.contents c.args.sink) (x.faults c.args.sink) = record { contents = n.contents; faults = n.faults; setting = n.setting; mark = n.mark; plan = n.plan; answers = n.answers } in
-    let leaves : LeftIn after (w.contents left) (x.last_fault left) (x.faults left) = record { passes = r.new.ser.place.direct; contents = rw c.into_inner.ensures refl; last_fault = rw c.into_inner.ensures refl; faults = rw c.into_inner.ensures refl } in
+    let told = c.into_inner.ensures.state in
+    let leaves : LeftIn after (w.contents left) (x.last_fault left) (x.faults left) = record { passes = told.0.direct; contents = ap (λ (s : State). s.contents) told.1; last_fault = ap (λ (s : State). s.last_fault) told.1; faults = ap (λ (s : State). s.faults) told.1 } in
     record {
       ok = puts before f after r.result (w.contents c.args.sink) (w.contents left) (x.last_fault left) (x.faults c.args.sink) (x.faults left) begins leaves r.ensures.ok;
       err = fails before f after r.result (w.contents c.args.sink) (w.contents left) (x.last_fault left) (x.faults c.args.sink) (x.faults left) begins leaves r.ensures.err;

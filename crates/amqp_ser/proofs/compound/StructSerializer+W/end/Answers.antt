@@ -1,7 +1,6 @@
 use Rattle.std.proofs.Common.{subst}
 use Rattle.std.proofs.lemmas.Result.{IfErr-weaker, on_ok_weaker}
 use Rattle.amqp_base.specs.Structs.{fields_parts}
-use Rattle.amqp_ser.specs.State.{state}
 use Rattle.amqp_ser.specs.Law.{Wrote}
 use Rattle.amqp_ser.specs.Staged.{shape_under, HasFields, AwaitsDescriptor}
 use Rattle.amqp_ser.proofs.Stages.{struct_there, struct_is, ends_refused}
@@ -12,7 +11,7 @@ unfolding HasFields AwaitsDescriptor
 returns g c =
     let w = c.end_staged.ensures in
     record {
-      ok = on_ok_weaker c.end_staged.result (λ k s b fs h. subst (λ i. Wrote s i (state g.W.Write g.W.FaultCount c.end_staged.new.ser)) (struct_is b s.setting fs) (k s b (shape_under b s.setting) (fields_parts (shape_under b s.setting) fs) h (struct_there s b fs))) w.ok;
+      ok = on_ok_weaker c.end_staged.result (λ k s b fs h. subst (λ i. Wrote s i c.end_staged.new.ser.state) (struct_is b s.setting fs) (k s b (shape_under b s.setting) (fields_parts (shape_under b s.setting) fs) h (struct_there s b fs))) w.ok;
       err = IfErr-weaker c.end_staged.result _ _ (λ e k s b fs h. ends_refused s _ b fs e (λ lack. k s b (shape_under b s.setting) (fields_parts (shape_under b s.setting) fs) h (struct_there s b fs) lack)) w.err;
       lacking = λ s b fs h lack. w.lacking s b (shape_under b s.setting) (fields_parts (shape_under b s.setting) fs) h lack;
       early = w.early;

@@ -5,7 +5,6 @@ use Rattle.amqp_base.specs.declared.shape.Setting.TheVariants.{Plain}
 use Rattle.amqp_base.specs.declared.shape.Shape.{Shape}
 use Rattle.amqp_base.specs.Shapes.{whole}
 use Rattle.amqp_ser.specs.Law.{Wrote, Refused}
-use Rattle.amqp_ser.specs.State.{state}
 use Rattle.amqp_ser.proofs.Compounds.{moved}
 use Rattle.amqp_ser.proofs.ManyParts.{begins_itself}
 use Rattle.amqp_ser.proofs.serialize.ArraySerialize.serialize.Goals as goal
@@ -15,7 +14,7 @@ returns-in-Err-serialize_each-clause-err g c =
     let item = λ (x : g.row.T.Denot). g.T.Typed.meaning.item x Plain in
     let xs = c.args.self.now.0.items in
     let refused = c.in-Err-serialize_each.ensures.law.err _ Shape.Array [] (map item xs) c.in-Ok.ensures.opened (rw c.as_slice.ensures.value (begins_itself (map item xs))) in
-    moved (λ n. Refused (state g.W.Write g.W.FaultCount c.args.ser.now) (whole Shape.Array (map item xs)) c.in-Err-serialize_each.e (state g.W.Write g.W.FaultCount n)) c.serialize_each.new.self.ser.now _ (search rules) refused
+    moved (λ n. Refused c.args.ser.now.state (whole Shape.Array (map item xs)) c.in-Err-serialize_each.e n) c.serialize_each.new.self.ser.now.state _ (search rules) refused
 
 -- where the end succeeds, the whole is written
 pub returns-in-Ok-serialize_each-clause-ok : goal.returns-in-Ok-serialize_each-clause-ok
@@ -23,7 +22,7 @@ returns-in-Ok-serialize_each-clause-ok g c =
     let item = λ (x : g.row.T.Denot). g.T.Typed.meaning.item x Plain in
     let xs = c.args.self.now.0.items in
     let held = rw c.as_slice.ensures.value at c.in-Ok-serialize_each.ensures.law.ok _ Shape.Array [] c.in-Ok.ensures.opened in
-    moved (λ n. OnOk c.end.result (Wrote (state g.W.Write g.W.FaultCount c.args.ser.now) (whole Shape.Array (map item xs)) (state g.W.Write g.W.FaultCount n))) c.end.new.self.0 _ (search rules)
+    moved (λ n. OnOk c.end.result (Wrote c.args.ser.now.state (whole Shape.Array (map item xs)) n)) c.end.new.self.0.state _ (search rules)
     (on_ok_weaker c.end.result (λ wrote. wrote _ Shape.Array (map item xs) held) (c.end.ensures.law false).ok)
 
 -- and so does a refused end
@@ -32,5 +31,5 @@ returns-in-Ok-serialize_each-clause-err g c =
     let item = λ (x : g.row.T.Denot). g.T.Typed.meaning.item x Plain in
     let xs = c.args.self.now.0.items in
     let held = rw c.as_slice.ensures.value at c.in-Ok-serialize_each.ensures.law.ok _ Shape.Array [] c.in-Ok.ensures.opened in
-    moved (λ n. IfErr c.end.result (λ e. Refused (state g.W.Write g.W.FaultCount c.args.ser.now) (whole Shape.Array (map item xs)) e (state g.W.Write g.W.FaultCount n))) c.end.new.self.0 _ (search rules)
+    moved (λ n. IfErr c.end.result (λ e. Refused c.args.ser.now.state (whole Shape.Array (map item xs)) e n)) c.end.new.self.0.state _ (search rules)
     (IfErr-weaker c.end.result _ _ (λ e refused. refused _ Shape.Array (map item xs) held refl) (c.end.ensures.law false).err)

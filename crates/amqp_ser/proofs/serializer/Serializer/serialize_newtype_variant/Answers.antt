@@ -3,7 +3,6 @@ use Rattle.std.proofs.lemmas.Result.{on_ok_weaker, IfErr-weaker, on_err_weaker}
 use Rattle.amqp_base.specs.Item.{scalar, uint}
 use Rattle.amqp_base.specs.declared.shape.Setting.TheVariants.{Plain}
 use Rattle.amqp_base.specs.declared.shape.Shape.{Shape}
-use Rattle.amqp_ser.specs.State.{state}
 use Rattle.amqp_write.specs.State.{stand}
 use Rattle.amqp_ser.specs.Compound.{open_as}
 use Rattle.amqp_ser.specs.Law.{Wrote, Refused, Stops}
@@ -17,29 +16,29 @@ pub returns-in-Ok-serialize_entry-clause-ok : goal.returns-in-Ok-serialize_entry
 returns-in-Ok-serialize_entry-clause-ok g c =
     let held = c.in-Ok-serialize_entry.ensures.law.ok _ [] c.in-Ok.ensures.opened in
     let item = variant_item c.args.index (g.T.Typed.meaning.item c.args.value.now Plain) in
-    moved (λ n. OnOk c.end.result (Wrote (state g.W.Write g.W.FaultCount c.args.self.now) item (state g.W.Write g.W.FaultCount n))) c.end.new.self.0 _ (search rules)
+    moved (λ n. OnOk c.end.result (Wrote c.args.self.now.state item n)) c.end.new.self.0.state _ (search rules)
     (on_ok_weaker c.end.result (λ wrote. wrote _ Shape.Map _ held) (c.end.ensures.law true).ok)
 
 pub returns-in-Ok-serialize_entry-clause-err : goal.returns-in-Ok-serialize_entry-clause-err
 returns-in-Ok-serialize_entry-clause-err g c = λ plain.
     let held = c.in-Ok-serialize_entry.ensures.law.ok _ [] c.in-Ok.ensures.opened in
     let item = variant_item c.args.index (g.T.Typed.meaning.item c.args.value.now Plain) in
-    moved (λ n. IfErr c.end.result (λ e. Refused (state g.W.Write g.W.FaultCount c.args.self.now) item e (state g.W.Write g.W.FaultCount n))) c.end.new.self.0 _ (search rules)
+    moved (λ n. IfErr c.end.result (λ e. Refused c.args.self.now.state item e n)) c.end.new.self.0.state _ (search rules)
     (IfErr-weaker c.end.result _ _ (λ e refused. refused _ Shape.Map _ held refl) (c.end.ensures.law true).err)
 
 pub returns-in-Err-serialize_entry-clause-err : goal.returns-in-Err-serialize_entry-clause-err
 returns-in-Err-serialize_entry-clause-err g c = λ plain.
     let item = variant_item c.args.index (g.T.Typed.meaning.item c.args.value.now Plain) in
     let refused = c.in-Err-serialize_entry.ensures.law.err _ [] (scalar (uint c.args.index) ∷ g.T.Typed.meaning.item c.args.value.now Plain ∷ []) c.in-Ok.ensures.opened refl (refl, (refl, tt)) refl in
-    moved (λ n. Refused (state g.W.Write g.W.FaultCount c.args.self.now) item c.in-Err-serialize_entry.e (state g.W.Write g.W.FaultCount n)) c.serialize_entry.new.self.ser.now _ (search rules) refused
+    moved (λ n. Refused c.args.self.now.state item c.in-Err-serialize_entry.e n) c.serialize_entry.new.self.ser.now.state _ (search rules) refused
 
 pub returns-in-Ok-serialize_entry-clause-stops : goal.returns-in-Ok-serialize_entry-clause-stops
-unfolding state stand open_as
+unfolding stand open_as
 returns-in-Ok-serialize_entry-clause-stops g c =
     let law = c.end.ensures.law true in
     let kept = c.serialize_entry.ensures.law.kept in
-    let o = state g.W.Write g.W.FaultCount c.in-Ok.pair.ser.now in
-    let n = state g.W.Write g.W.FaultCount c.serialize_entry.new.self.ser.now in
+    let o = c.in-Ok.pair.ser.now.state in
+    let n = c.serialize_entry.new.self.ser.now.state in
     let held = (parts_keep c.in-Ok.pair.parts c.serialize_entry.new.self.parts o n (record { kept = kept.kept; ended = kept.ended })).held c.in-Ok.ensures.held in
-    moved (λ n. Stops (state g.W.Write g.W.FaultCount c.args.self.now) c.end.result (state g.W.Write g.W.FaultCount n)) c.end.new.self.0 _ (search rules)
-    (record { err = on_err_weaker c.end.result (λ h. h held) law.stays_ended; ended = λ e. absurd (true_false (sym e ∙ c.if-self.false)) })
+    moved (λ n. Stops c.args.self.now.state c.end.result n) c.end.new.self.0.state _ (search rules)
+    (record { err = on_err_weaker c.end.result (λ h. h held) law.stays_ended; ended = λ e. absurd (true_false (sym e ∙ (sym c.has_ended.ensures ∙ c.if-has_ended.false))) })

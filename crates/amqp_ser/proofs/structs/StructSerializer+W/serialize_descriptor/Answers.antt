@@ -1,6 +1,5 @@
 use Rattle.std.proofs.Common.{subst}
 use Rattle.amqp_types.specs.Descriptors.{descriptor_of}
-use Rattle.amqp_ser.specs.State.{state}
 use Rattle.amqp_ser.specs.Law.{Refused}
 use Rattle.amqp_ser.proofs.Stages.{struct_is}
 use Rattle.amqp_base.specs.Structs.{fields_parts}
@@ -24,7 +23,7 @@ returns-in-Err-clause-law g c =
     let w = c.in-Err.ensures in
     record {
       ok = tt;
-      err = λ s x fs a. subst (λ i. Refused s i c.in-Err.e (state g.W.Write g.W.FaultCount c.write_descriptor.new.ser)) (struct_is (behind x (descriptor_of c.args.descriptor.now)) s.setting fs) (w.err s x (fields_parts (shape_behind x) fs) a);
+      err = λ s x fs a. subst (λ i. Refused s i c.in-Err.e c.write_descriptor.new.ser.state) (struct_is (behind x (descriptor_of c.args.descriptor.now)) s.setting fs) (w.err s x (fields_parts (shape_behind x) fs) a);
       uncalled = λ s b fs h. w.uncalled s b (shape_under b s.setting) (fields_parts (shape_under b s.setting) fs) h;
       stops = w.stops;
     }

@@ -8,7 +8,7 @@ pub returns-in-Ok-clause-ok : goal.returns-in-Ok-clause-ok
 returns-in-Ok-clause-ok g c = λ yes s shape xs h.
     let x = g.T.Typed.meaning.item c.args.self.now.value.now Plain in
     let rest = g.Rest.TupleParts.items c.args.self.now.rest in
-    subst (λ ys. Holds s shape ys (open_state g.W.Write g.W.FaultCount c.write.new.out)) (append_assoc xs (x ∷ []) rest) (c.write.ensures.ok yes s shape (xs ++ x ∷ []) (c.in-Ok.ensures.law.ok s shape xs h))
+    subst (λ ys. Holds s shape ys (open_state c.write.new.out)) (append_assoc xs (x ∷ []) rest) (c.write.ensures.ok yes s shape (xs ++ x ∷ []) (c.in-Ok.ensures.law.ok s shape xs h))
 
 pub returns-in-Ok-clause-err : goal.returns-in-Ok-clause-err
 returns-in-Ok-clause-err g c = λ no.

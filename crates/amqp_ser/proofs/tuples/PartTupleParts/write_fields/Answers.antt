@@ -8,7 +8,7 @@ pub returns-in-Ok-write_fields-clause-ok : goal.returns-in-Ok-write_fields-claus
 returns-in-Ok-write_fields-clause-ok g c = λ s index len xs h.
     let x = g.T.Typed.meaning.item c.args.self.now.value.now Plain in
     let rest = g.Rest.TupleParts.items c.args.self.now.rest in
-    subst (λ ys. HasVariant g.W.Write g.W.FaultCount s index len ys c.write_fields.new.out) (append_assoc xs (x ∷ []) rest) (c.in-Ok-write_fields.ensures.ok s index len (xs ++ x ∷ []) (c.in-Ok.ensures.law.ok s index len xs h))
+    subst (λ ys. HasVariant s index len ys c.write_fields.new.out) (append_assoc xs (x ∷ []) rest) (c.in-Ok-write_fields.ensures.ok s index len (xs ++ x ∷ []) (c.in-Ok.ensures.law.ok s index len xs h))
 
 pub returns-in-Err-write_fields-clause-err : goal.returns-in-Err-write_fields-clause-err
 returns-in-Err-write_fields-clause-err g c = λ s index len xs all h begins.
