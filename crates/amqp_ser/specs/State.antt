@@ -21,6 +21,7 @@ pub record Fresh {W : Type 0} (w : Write.Ghosts W) (f : FaultCount.Ghosts W) (gi
   pub writer : s.writer ≡ given
   pub contents : s.state.contents ≡ w.contents given
   pub faults : s.state.faults ≡ f.faults given
+  pub last_fault : s.state.last_fault ≡ f.last_fault given
   pub grows : s.state.grows ≡ f.grows given
   pub setting : s.state.setting ≡ chosen
   pub mark : s.state.mark ≡ unmarked

@@ -113,7 +113,7 @@ impl<W: Sink> Serializer<W> {
         writer
     }
 
-    /// Whether every call answers `InvalidValue`.
+    /// Whether every call answers `InvalidValue` now.
     #[inline(always)]
     pub(crate) fn has_ended(&self) -> bool
         ensures { result ≡ self.now.state.ended }
@@ -121,7 +121,7 @@ impl<W: Sink> Serializer<W> {
         self.place.ended
     }
 
-    /// From now on every call answers `InvalidValue`, or none for that.
+    /// Whether every call answers `InvalidValue` from now on.
     #[inline(always)]
     pub(crate) fn set_ended(&mut self, ended: bool)
         ensures { self.new ≡ record self.old { state = record self.old.state { ended = ended } } }
