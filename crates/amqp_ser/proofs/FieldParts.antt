@@ -10,7 +10,7 @@ use Rattle.amqp_base.specs.declared.shape.Setting.{Setting}
 use Rattle.amqp_base.specs.declared.shape.Setting.TheVariants.{Plain, Symbol, DescribedList, DescribedMap, DescribedBasic}
 use Rattle.amqp_ser.specs.State.{State}
 use Rattle.amqp_ser.specs.Law.{Wrote, Refused}
-use Rattle.amqp_ser.specs.Compound.{Open, Holds, HoldsFields, RefusesNamed, Complete, BeginsWith, EndsWhole, EndsStruct, lacking, is_map}
+use Rattle.amqp_ser.specs.Compound.{Open, Holds, HoldsUnder, HoldsFields, RefusesNamed, Complete, BeginsWith, EndsWhole, EndsStruct, lacking, is_map}
 use Rattle.amqp_ser.proofs.Compounds.{begins_rest, begins_front}
 
 -- no name is without its value
@@ -38,13 +38,13 @@ one_field Shape.Fields (named name item) = refl
 abbrev pub HoldsAs : Shape → State → List Item → Open → Type 0
 HoldsAs shape s xs q = Holds s shape xs (record q { pairs = is_map shape })
 
-pub fields_as : (shape : Shape) (s : State) (fs : List FieldItem) (q : Open) → struct_shape s.setting ≡ shape → HoldsFields s fs q → HoldsAs shape s (fields_parts shape fs) q
-unfolding HoldsFields
-fields_as shape s fs q e h = subst (λ x. HoldsAs x s (fields_parts x fs) q) e h
+pub fields_as : (shape : Shape) (k : Setting) (s : State) (fs : List FieldItem) (q : Open) → struct_shape k ≡ shape → HoldsUnder k s fs q → HoldsAs shape s (fields_parts shape fs) q
+unfolding HoldsUnder
+fields_as shape k s fs q e h = subst (λ x. HoldsAs x s (fields_parts x fs) q) e h
 
 -- no field yet
 pub fields_none : (shape : Shape) (s : State) (q : Open) → shape ≡ struct_shape s.setting → HoldsAs shape s [] q → HoldsFields s [] q
-unfolding HoldsFields
+unfolding HoldsFields HoldsUnder
 fields_none shape s q e h = subst (λ x. HoldsAs x s [] q) e h
 
 pub refuses_fields : {A : Type 0} (name : List ℕ) (shape : Shape) (s : State) (r : Result A Error) (t : State) → shape ≡ struct_shape s.setting → RefusesNamed name (λ (xs : List Item). whole shape xs) s r t → RefusesNamed name (λ (fs : List FieldItem). struct_item s.setting fs) s r t
@@ -55,26 +55,26 @@ refuses_fields name shape s r t same h = record {
 }
 
 -- while it has its fields it answers
-pub fields_answer : (s : State) (fs : List FieldItem) (q : Open) → HoldsFields s fs q → q.inner.ended ≡ false
-unfolding HoldsFields
-fields_answer s fs q h = h.run.answers
+pub fields_answer : (k : Setting) (s : State) (fs : List FieldItem) (q : Open) → HoldsUnder k s fs q → q.inner.ended ≡ false
+unfolding HoldsUnder
+fields_answer k s fs q h = h.run.answers
 
-pub shape_of : (shape : Shape) (s : State) (fs : List FieldItem) (q : Open) → HoldsFields s fs q → q.shape ≡ shape → struct_shape s.setting ≡ shape
-unfolding HoldsFields
-shape_of shape s fs q h e = sym h.shape_is ∙ e
+pub shape_of : (shape : Shape) (k : Setting) (s : State) (fs : List FieldItem) (q : Open) → HoldsUnder k s fs q → q.shape ≡ shape → struct_shape k ≡ shape
+unfolding HoldsUnder
+shape_of shape k s fs q h e = sym h.shape_is ∙ e
 
 -- one field more
-pub field_more : (shape : Shape) (s : State) (fs : List FieldItem) (f : FieldItem) (q : Open) → struct_shape s.setting ≡ shape → HoldsAs shape s (fields_parts shape fs ++ field_parts shape f) q → HoldsFields s (fs ++ f ∷ []) q
-unfolding HoldsFields
-field_more shape s fs f q e h =
+pub field_more : (shape : Shape) (k : Setting) (s : State) (fs : List FieldItem) (f : FieldItem) (q : Open) → struct_shape k ≡ shape → HoldsAs shape s (fields_parts shape fs ++ field_parts shape f) q → HoldsUnder k s (fs ++ f ∷ []) q
+unfolding HoldsUnder
+field_more shape k s fs f q e h =
     let parts : fields_parts shape (fs ++ f ∷ []) ≡ fields_parts shape fs ++ field_parts shape f = fields_append shape fs (f ∷ []) ∙ ap (λ ys. fields_parts shape fs ++ ys) (one_field shape f) in
     subst (λ x. HoldsAs x s (fields_parts x (fs ++ f ∷ [])) q) (sym e) (subst (λ ys. HoldsAs shape s ys q) (sym parts) h)
 
 -- a refused field refuses the struct
-pub field_refused : (shape : Shape) (s : State) (fs all : List FieldItem) (f : FieldItem) (e : Error) (t : State) → struct_shape s.setting ≡ shape → BeginsWith all (fs ++ f ∷ [])
-    → ((ys : List Item) → BeginsWith ys (fields_parts shape fs ++ field_parts shape f) → Complete (is_map shape) ys → Refused s (whole shape ys) e t) → Refused s (struct_item s.setting all) e t
+pub field_refused : (shape : Shape) (k : Setting) (s : State) (fs all : List FieldItem) (f : FieldItem) (e : Error) (t : State) → struct_shape k ≡ shape → BeginsWith all (fs ++ f ∷ [])
+    → ((ys : List Item) → BeginsWith ys (fields_parts shape fs ++ field_parts shape f) → Complete (is_map shape) ys → Refused s (whole shape ys) e t) → Refused s (struct_item k all) e t
 unfolding struct_item
-field_refused shape s fs all f e t same begins refuses =
+field_refused shape k s fs all f e t same begins refuses =
     let r = begins_rest fs all f begins in
     let parts : fields_parts shape all ≡ (fields_parts shape fs ++ field_parts shape f) ++ fields_parts shape r.0 =
     ap (fields_parts shape) r.1 ∙ (fields_append shape fs (f ∷ r.0) ∙ sym (append_assoc (fields_parts shape fs) (field_parts shape f) (fields_parts shape r.0))) in
@@ -97,9 +97,9 @@ list_unless DescribedList h = refl
 list_unless DescribedMap h = absurd (h refl)
 list_unless DescribedBasic h = refl
 
-pub list_of : (s : State) (fs : List FieldItem) (q : Open) → HoldsFields s fs q → (q.shape ≡ Shape.Fields → ⊥) → struct_shape s.setting ≡ Shape.List
-unfolding HoldsFields
-list_of s fs q h other = list_else s.setting (λ e. other (h.shape_is ∙ e))
+pub list_of : (k : Setting) (s : State) (fs : List FieldItem) (q : Open) → HoldsUnder k s fs q → (q.shape ≡ Shape.Fields → ⊥) → struct_shape k ≡ Shape.List
+unfolding HoldsUnder
+list_of k s fs q h other = list_else k (λ e. other (h.shape_is ∙ e))
 
 -- a key and its value, one after the other
 pub pair_more : (s : State) (shape : Shape) (xs : List Item) (k v : Item) (q : Open) → Holds s shape ((xs ++ k ∷ []) ++ v ∷ []) q → Holds s shape (xs ++ k ∷ v ∷ []) q
@@ -115,12 +115,12 @@ fields_lack DescribedBasic fs = refl
 
 -- the end of a struct, by what is known of it where the parts are keys and values, and where they aren't
 end_wrote : {A : Type 0} (r : Result A Error) (q : Open) (o t : State) → ((pairs : Bool) → EndsWhole (record q { pairs = pairs }) o r t) → OnOk r ((s : State) (fs : List FieldItem) → HoldsFields s fs q → Wrote s (struct_item s.setting fs) t)
-unfolding struct_item HoldsFields
+unfolding struct_item HoldsFields HoldsUnder
 end_wrote (Ok x) q o t law = λ s fs h. (law (is_map (struct_shape s.setting))).ok s (struct_shape s.setting) _ h
 end_wrote (Err e) q o t law = tt
 
 end_refused : {A : Type 0} (r : Result A Error) (q : Open) (o t : State) → ((pairs : Bool) → EndsWhole (record q { pairs = pairs }) o r t) → IfErr r (λ e. (s : State) (fs : List FieldItem) → HoldsFields s fs q → Refused s (struct_item s.setting fs) e t)
-unfolding struct_item HoldsFields
+unfolding struct_item HoldsFields HoldsUnder
 end_refused (Ok x) q o t law = tt
 end_refused (Err e) q o t law = λ s fs h. (law (is_map (struct_shape s.setting))).err s (struct_shape s.setting) _ h (fields_lack s.setting fs)
 

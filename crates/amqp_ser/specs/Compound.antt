@@ -164,9 +164,13 @@ pub record Holds (s : State) (shape : Shape) (xs : List Item) (q : Open) : Type 
   pub count : q.count ≡ length xs
   pub answered : s.ended ≡ false
 
+-- the fields fs are those of a struct under the setting k, which was opened on a serializer in the state s
+unfoldable pub HoldsUnder : Setting → State → List FieldItem → Open → Type 0
+HoldsUnder k s fs q = Holds s (struct_shape k) (fields_parts (struct_shape k) fs) (record q { pairs = is_map (struct_shape k) })
+
 -- a struct was opened on a serializer in the state s, and has the fields fs
 unfoldable pub HoldsFields : State → List FieldItem → Open → Type 0
-HoldsFields s fs q = Holds s (struct_shape s.setting) (fields_parts (struct_shape s.setting) fs) (record q { pairs = is_map (struct_shape s.setting) })
+HoldsFields s fs q = HoldsUnder s.setting s fs q
 
 -- what was told is such a refusal
 abbrev pub FailedAs : Option Error → (Error → Type 0) → Type 0

@@ -1,25 +1,25 @@
 //! What is common to all compounds: their parts so far.
 
 ghost use Rattle.std.specs.Prelude.{◌≡◌, ◌≢◌, ◌+◌, ◌==◌, ◌%◌, ◌++◌};
-ghost use Rattle.std.specs.Prelude.{Some, None, ◌∷◌, Bool, List, [], true, false, IfOk};
+ghost use Rattle.std.specs.Prelude.{Some, ◌∷◌, Bool, List, [], true, false, IfOk};
 ghost use Rattle.std.specs.Prelude.{IfErr, OnOk, OnErr, Err};
 ghost use Rattle.amqp_base.specs.Item.{Item};
 ghost use Rattle.amqp_base.specs.Shapes.{whole, setting_inside};
 ghost use Rattle.amqp_ser.specs.State.{State, answering};
 ghost use Rattle.amqp_write.specs.declared.pass.Opened.TheVariants.{Buffered as IsBuffered};
 ghost use Rattle.amqp_ser.specs.Law.{Refused};
-ghost use Rattle.amqp_ser.specs.Compound.{open_parts, awaits_value, Empty, Run, Holds};
+ghost use Rattle.amqp_ser.specs.Compound.{open_parts, Empty, Run, Holds};
 ghost use Rattle.amqp_ser.specs.Compound.{Complete, BeginsWith, EndsCompound, Keeps, WritesPart};
 ghost use Rattle.amqp_ser.specs.Compound.{WritesEach, WritesEntries, EndsWhole, EndsStruct};
 ghost use Rattle.amqp_ser.specs.Compound.{part_in, outside_in, open_state, open_as, lacking, lacks};
 ghost use Rattle.amqp_ser.specs.Compound.{lacks_value};
-ghost use Rattle.amqp_ser.specs.Staged.{EndsFields, EndsRow};
+ghost use Rattle.amqp_ser.specs.Staged.{EndsFields};
 ghost use Rattle.amqp_ser.specs.Variants.{EndsPair};
 
 use crate::answer::answer;
 use crate::paired::end_paired;
-use crate::staged::end_staged;
-use crate::{Serialize, Serializer, StructSerializer, TupleStructSerializer, VariantSerializer};
+use crate::staged::{StagedCompound, end_staged};
+use crate::{Serialize, Serializer, VariantSerializer};
 use amqp_base::{Error, Pass, Setting, Shape, Sink};
 use amqp_types::Descriptor;
 use amqp_write::{
@@ -143,7 +143,7 @@ impl<'a, W: Sink, F: Drop> Compound<'a, W, F> {
     }
 }
 
-impl<'a, W: Sink> StructSerializer<'a, W> {
+impl<'a, W: Sink, F: Drop> StagedCompound<'a, W, F> {
     /// Writes the whole: a list or a map of the fields, behind its descriptor where it has one.
     /// Only then does its serializer answer again.
     ///
@@ -152,25 +152,6 @@ impl<'a, W: Sink> StructSerializer<'a, W> {
     /// call was refused, or the array that the whole is to stand in has other elements.
     pub fn end(self) -> Result<(), Error>
         ensures { EndsFields self.entry result self.exit.0.now.state }
-    {
-        let Compound {
-            ser,
-            parts,
-            form: _,
-        } = self;
-        end_staged(ser, parts)
-    }
-}
-
-impl<'a, W: Sink> TupleStructSerializer<'a, W> {
-    /// Writes the whole: a list of the fields, behind its descriptor where it has one. Only then
-    /// does its serializer answer again.
-    ///
-    /// `SequenceLengthMismatch`: under `DESCRIBED_BASIC` there isn't just one field. `Io(Other)`:
-    /// the fields have more than 4,294,967,291 bytes. `InvalidValue`: the descriptor is missing, a
-    /// call was refused, or the array that the whole is to stand in has other elements.
-    pub fn end(self) -> Result<(), Error>
-        ensures { EndsRow self.entry result self.exit.0.now.state }
     {
         let Compound {
             ser,

@@ -3,7 +3,7 @@
 // a compound that is open
 crate::specs::Compound::open_as,
 // one whose descriptor came
-crate::specs::Staged::HasFields, crate::specs::Staged::HasRow,
+crate::specs::Staged::HasFields,
 // or comes first
 crate::specs::Staged::AwaitsDescriptor, crate::specs::Staged::StaysHeld,
 // an enum's variant

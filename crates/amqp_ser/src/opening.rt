@@ -2,7 +2,7 @@
 
 ghost use Rattle.std.specs.Prelude.{◌≡◌, [], None, true, false, IfOk, OnOk};
 ghost use Rattle.amqp_base.specs.Shapes.{setting_inside};
-ghost use Rattle.amqp_ser.specs.State.{mark_in, mark_of, found_of};
+ghost use Rattle.amqp_ser.specs.State.{mark_in};
 ghost use Rattle.amqp_ser.specs.Compound.{open_parts, is_map, Holds, RefusesOpen, next_mark};
 ghost use Rattle.amqp_ser.specs.Compound.{outer_in};
 

@@ -1,7 +1,7 @@
 //! The pair of a variant's index and its fields, which are written one by one.
 
 ghost use Rattle.std.specs.Prelude.{ℕ, ◌≡◌, ◌≢◌, ◌++◌, ◌∷◌, [], List};
-ghost use Rattle.std.specs.Prelude.{length, true, false, Some, Err, IfOk, IfErr, OnOk};
+ghost use Rattle.std.specs.Prelude.{length, true, Err, IfOk, IfErr, OnOk};
 ghost use Rattle.amqp_base.specs.Item.{Item};
 ghost use Rattle.amqp_base.specs.Shapes.{whole};
 ghost use Rattle.amqp_ser.specs.State.{State};

@@ -1,7 +1,8 @@
-//! Structs and tuple structs that are written field by field, plain or behind a descriptor.
+//! Structs that are written field by field, plain or behind a descriptor, and tuple structs, whose
+//! fields have no names.
 
 ghost use Rattle.std.specs.Prelude.{◌≡◌, ◌++◌, ◌∷◌, [], false, true, Bool, List};
-ghost use Rattle.std.specs.Prelude.{None, Some, Ok, Err, IfOk, IfErr, OnOk, OnErr};
+ghost use Rattle.std.specs.Prelude.{Err, IfOk, IfErr, OnOk, OnErr};
 ghost use Rattle.amqp_base.specs.Item.{Item, described};
 ghost use Rattle.amqp_types.specs.Descriptors.{descriptor_of};
 ghost use Rattle.amqp_base.specs.Shapes.{whole};
@@ -9,17 +10,18 @@ ghost use Rattle.amqp_ser.specs.State.{State, answering};
 ghost use Rattle.amqp_ser.specs.Law.{Wrote, Refused, Stops};
 ghost use Rattle.amqp_ser.specs.Compound.{BeginsWith, open_parts, is_map, EndsWhole, RefusesOpen};
 ghost use Rattle.amqp_ser.specs.Staged.{HoldsParts, Awaits, Before, plain, behind, item_under};
-ghost use Rattle.amqp_ser.specs.Staged.{shape_behind, EndsStage, encoding_named, row_encoding};
+ghost use Rattle.amqp_ser.specs.Staged.{EndsStage, encoding_named, row_encoding};
 ghost use Rattle.amqp_ser.specs.Staged.{OpensBehind, ClosesBehind, IsApart, HoldsStruct};
-ghost use Rattle.amqp_ser.specs.Staged.{struct_under, Keeps, HoldsRow, AllThere, lacks_field};
-ghost use Rattle.amqp_ser.specs.Staged.{KeepsHeld, EndsHeld};
+ghost use Rattle.amqp_ser.specs.Staged.{struct_under, Keeps, AllThere, lacks_field};
+ghost use Rattle.amqp_ser.specs.Staged.{KeepsHeld, EndsHeld, WritesDescriptor};
 ghost use Rattle.amqp_ser.specs.declared.staged.Stage.TheVariants as stage;
 ghost use Rattle.amqp_base.specs.declared.error.Error.TheVariants.{OutOfMemory};
-ghost use Rattle.amqp_base.specs.Structs.{FieldItem, named, is_descriptor_name};
+ghost use Rattle.amqp_base.specs.Structs.{FieldItem, named, is_descriptor_name, struct_shape};
 
-use crate::compound::{Compound, Named, Parts, write_part};
+use crate::answer::answer;
+use crate::compound::{Compound, Named, Parts};
 use crate::front::Front;
-use crate::structs::{is_name, write_field};
+use crate::structs::{is_name, struct_shape, write_field};
 use crate::{Serialize, Serializer};
 use amqp_base::{
     DESCRIBED_BASIC, DESCRIBED_LIST, DESCRIBED_MAP, DESCRIPTOR, Error, Setting, Shape, Sink,
@@ -62,6 +64,28 @@ pub struct Staged {
     pub(crate) stage: Stage,
     pub(crate) front: Front,
     pub(crate) parts: Parts,
+}
+
+/// A struct or a tuple struct that is being written, field by field.
+pub type StagedCompound<'a, W, F> = Compound<'a, W, F, Staged>;
+
+impl<'a, W: Sink, F: Drop> StagedCompound<'a, W, F> {
+    /// Writes the descriptor of a described struct, before its fields: 00 and the descriptor
+    /// (section 1.2), save in an array whose elements share it. Then the compound takes fields.
+    ///
+    /// `Io(Other)`: the descriptor is longer than 4,294,967,291 bytes. `OutOfMemory`: there is no
+    /// memory for the fields, or to keep the descriptor. `InvalidValue`: the struct is plain, or
+    /// has its descriptor already. A refusal ends the compound.
+    pub fn serialize_descriptor(
+        &mut self,
+        alloc: Global,
+        descriptor: &Descriptor,
+    ) -> Result<(), Error>
+        ensures same_reference { self.new.ser.ghost_name ≡ self.old.ser.ghost_name }
+        ensures law { WritesDescriptor (descriptor_of descriptor.now) self.old result self.new }
+    {
+        answer!(write_descriptor(&mut *self.ser, &mut self.parts, alloc, descriptor))
+    }
 }
 
 /// What stands behind the descriptor of a struct of this name, if one does.
@@ -126,14 +150,15 @@ impl<W: Sink> Serializer<W> {
         }
     }
 
-    /// A struct without a descriptor begins.
+    /// A struct without a descriptor begins, as one is written under this setting.
     #[inline(always)]
-    pub(crate) fn start_plain(&mut self, alloc: Global, shape: Shape) -> Result<Staged, Error>
-        ensures ok { IfOk result (λ g. HoldsParts self.old.state plain shape [] self.new.state g) }
+    pub(crate) fn start_plain(&mut self, alloc: Global, setting: Setting) -> Result<Staged, Error>
+        ensures ok { IfOk result (λ g. HoldsStruct self.old.state (plain setting) []
+            self.new.state g) }
         ensures held { OnOk result (self.new.state.ended ≡ true) }
-        ensures err { RefusesOpen shape self.old.state result self.new.state }
+        ensures err { RefusesOpen (struct_shape setting) self.old.state result self.new.state }
     {
-        match self.begin(alloc, shape) {
+        match self.begin(alloc, struct_shape(setting)) {
             Ok(parts) => Ok(Staged {
                 stage: Stage::Plain,
                 front: Front::Nowhere,
@@ -211,14 +236,12 @@ pub(crate) fn write_descriptor<W: Sink>(
     descriptor: &Descriptor,
 ) -> Result<(), Error>
     ensures ok { OnOk result ((s : State) (x : _) → Awaits s x ser.old.state of.old →
-        HoldsParts s (behind x (descriptor_of descriptor.now)) (shape_behind x) []
-        ser.new.state of.new) }
+        HoldsParts s (behind x (descriptor_of descriptor.now)) [] ser.new.state of.new) }
     ensures err { IfErr result (λ e. (s : State) (x : _) (xs : List Item) →
         Awaits s x ser.old.state of.old →
-        Refused s (item_under (behind x (descriptor_of descriptor.now)) (shape_behind x) xs) e
-        ser.new.state) }
-    ensures uncalled { (s : State) (b : Before) (shape : Shape) (xs : List Item) →
-        HoldsParts s b shape xs ser.old.state of.old → result ≡ Err Error.InvalidValue }
+        Refused s (item_under (behind x (descriptor_of descriptor.now)) xs) e ser.new.state) }
+    ensures uncalled { (s : State) (b : Before) (xs : List Item) →
+        HoldsParts s b xs ser.old.state of.old → result ≡ Err Error.InvalidValue }
     ensures stops { EndsStage ser.old.state of.old result ser.new.state of.new }
 {
     let stage = of.stage;
@@ -295,15 +318,14 @@ fn write_value<W: Sink, T: Serialize>(
     value: &T,
 ) -> Result<(), Error>
     requires apart { IsApart of.old }
-    ensures ok { OnOk result ((s : State) (b : Before) (shape : Shape) (xs : List Item) →
-        HoldsParts s b shape xs ser.old.state of.old →
-        HoldsParts s b shape (xs ++ T.meaning.item value.now Setting.Plain ∷ [])
+    ensures ok { OnOk result ((s : State) (b : Before) (xs : List Item) →
+        HoldsParts s b xs ser.old.state of.old →
+        HoldsParts s b (xs ++ T.meaning.item value.now Setting.Plain ∷ [])
         ser.new.state of.new) }
-    ensures err { IfErr result (λ e.
-        (s : State) (b : Before) (shape : Shape) (xs all : List Item) →
-        HoldsParts s b shape xs ser.old.state of.old →
+    ensures err { IfErr result (λ e. (s : State) (b : Before) (xs all : List Item) →
+        HoldsParts s b xs ser.old.state of.old →
         BeginsWith all (xs ++ T.meaning.item value.now Setting.Plain ∷ []) →
-        Refused s (item_under b shape all) e ser.new.state) }
+        Refused s (item_under b all) e ser.new.state) }
     ensures early { (s : State) (x : _) → Awaits s x ser.old.state of.old →
         result ≡ Err Error.InvalidValue }
     ensures kept { KeepsHeld ser.old.state ser.new.state }
@@ -335,46 +357,7 @@ fn write_value<W: Sink, T: Serialize>(
     }
 }
 
-/// Writes one more field of a tuple struct.
-pub(crate) fn write_row_field<W: Sink, T: Serialize>(
-    ser: &mut Serializer<W>,
-    of: &mut Staged,
-    alloc: Global,
-    value: &T,
-) -> Result<(), Error>
-    ensures ok { OnOk result ((s : State) (b : Before) (xs : List Item) →
-        HoldsRow s b xs ser.old.state of.old →
-        HoldsRow s b (xs ++ T.meaning.item value.now Setting.Plain ∷ []) ser.new.state of.new) }
-    ensures err { IfErr result (λ e. (s : State) (b : Before) (xs all : List Item) →
-        HoldsRow s b xs ser.old.state of.old →
-        BeginsWith all (xs ++ T.meaning.item value.now Setting.Plain ∷ []) →
-        Refused s (item_under b Shape.List all) e ser.new.state) }
-    ensures early { (s : State) (x : _) → Awaits s x ser.old.state of.old →
-        result ≡ Err Error.InvalidValue }
-    ensures kept { KeepsHeld ser.old.state ser.new.state }
-    ensures stops { EndsStage ser.old.state of.old result ser.new.state of.new }
-{
-    match of.stage {
-        Stage::Plain => match write_part(ser, &mut of.parts, alloc, value) {
-            Ok(()) => Ok(()),
-            Err(e) => {
-                of.stage = Stage::Ended;
-                Err(e)
-            }
-        },
-        Stage::Behind => match write_part(ser, &mut of.parts, alloc, value) {
-            Ok(()) => Ok(()),
-            Err(e) => {
-                of.stage = Stage::Ended;
-                ser.set_ended(true);
-                Err(of.front.renamed(e))
-            }
-        },
-        _ => write_value(ser, of, alloc, value),
-    }
-}
-
-/// Writes one more field of a struct.
+/// Writes one more field of a struct, under its name where the fields are a map.
 pub(crate) fn write_named_field<W: Sink, T: Serialize>(
     ser: &mut Serializer<W>,
     of: &mut Staged,
@@ -390,7 +373,7 @@ pub(crate) fn write_named_field<W: Sink, T: Serialize>(
         (s : State) (b : Before) (fs all : List FieldItem) →
         HoldsStruct s b fs ser.old.state of.old →
         BeginsWith all (fs ++ named name.now (T.meaning.item value.now) ∷ []) →
-        Refused s (struct_under b s.setting all) e ser.new.state) }
+        Refused s (struct_under b all) e ser.new.state) }
     ensures descriptor { is_descriptor_name name.now ≡ true →
         result ≡ Err Error.InvalidValue }
     ensures early { (s : State) (x : _) → Awaits s x ser.old.state of.old →
@@ -424,14 +407,14 @@ pub(crate) fn write_named_field<W: Sink, T: Serialize>(
 
 /// Ends a struct: writes the whole that has its fields.
 pub(crate) fn end_staged<W: Sink>(ser: &mut Serializer<W>, of: Staged) -> Result<(), Error>
-    ensures ok { OnOk result ((s : State) (b : Before) (shape : Shape) (xs : List Item) →
-        HoldsParts s b shape xs ser.old.state of → AllThere b shape xs →
-        Wrote s (item_under b shape xs) ser.new.state) }
-    ensures err { IfErr result (λ e. (s : State) (b : Before) (shape : Shape) (xs : List Item) →
-        HoldsParts s b shape xs ser.old.state of → AllThere b shape xs →
-        lacks_field b xs ≡ false → Refused s (item_under b shape xs) e ser.new.state) }
-    ensures lacking { (s : State) (b : Before) (shape : Shape) (xs : List Item) →
-        HoldsParts s b shape xs ser.old.state of →
+    ensures ok { OnOk result ((s : State) (b : Before) (xs : List Item) →
+        HoldsParts s b xs ser.old.state of → AllThere b xs →
+        Wrote s (item_under b xs) ser.new.state) }
+    ensures err { IfErr result (λ e. (s : State) (b : Before) (xs : List Item) →
+        HoldsParts s b xs ser.old.state of → AllThere b xs →
+        lacks_field b xs ≡ false → Refused s (item_under b xs) e ser.new.state) }
+    ensures lacking { (s : State) (b : Before) (xs : List Item) →
+        HoldsParts s b xs ser.old.state of →
         lacks_field b xs ≡ true → result ≡ Err Error.SequenceLengthMismatch }
     ensures early { (s : State) (x : _) → Awaits s x ser.old.state of →
         result ≡ Err Error.InvalidValue }

@@ -1,7 +1,7 @@
 //! Tuples, part by part.
 
-ghost use Rattle.std.specs.Prelude.{◌≡◌, ℕ, ◌++◌, ◌∷◌, [], length, Some, true};
-ghost use Rattle.std.specs.Prelude.{false, IsTrue, IfOk, IfErr, OnOk, Err, List};
+ghost use Rattle.std.specs.Prelude.{◌≡◌, ℕ, ◌++◌, ◌∷◌, [], length, true};
+ghost use Rattle.std.specs.Prelude.{false, IsTrue, IfOk, IfErr, OnOk, List};
 ghost use Rattle.std.specs.Borrow.{sem, RestsIfErr};
 ghost use Rattle.amqp_base.specs.Item.{Item};
 ghost use Rattle.amqp_base.specs.Shapes.{whole};
