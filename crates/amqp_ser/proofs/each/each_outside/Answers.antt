@@ -2,7 +2,6 @@
 use Rattle.std.proofs.Common.{◌≡◌, refl, ◌++◌, map, take, sym, ap, ◌∙◌, subst, arith, false}
 use Rattle.amqp_base.specs.declared.shape.Shape.{Shape}
 use Rattle.amqp_base.specs.declared.shape.Setting.TheVariants.{Plain}
-use Rattle.amqp_write.specs.State.{stand}
 use Rattle.amqp_ser.specs.Law.{Wrote, Refused}
 use Rattle.amqp_ser.specs.Compound.{open_as, open_state, outer_in, outside_in}
 use Rattle.amqp_write.proofs.PartTexts.{true_false}
@@ -11,7 +10,7 @@ use Rattle.amqp_ser.proofs.ManyParts.{each_next, each_begins, counted}
 use Rattle.amqp_ser.proofs.each.each_outside.Goals as goal
 
 pub loop-value-preserved : goal.loop-value-preserved
-unfolding stand open_as
+unfolding open_as
 loop-value-preserved g c =
     let f = λ (x : g.row.T.Denot). g.T.Typed.meaning.item x in
     let vs = c.args.values.now in
@@ -37,7 +36,7 @@ loop-value-preserved g c =
     }
 
 pub returns-in-Err-clause-law : goal.returns-in-Err-clause-law
-unfolding stand open_as
+unfolding open_as
 returns-in-Err-clause-law g c =
     let f = λ (x : g.row.T.Denot). g.T.Typed.meaning.item x in
     let vs = c.args.values.now in

@@ -1,29 +1,24 @@
 use Rattle.std.proofs.Common.{true, false, refl}
 use Rattle.amqp_base.specs.declared.shape.Shape.{Shape}
-use Rattle.amqp_write.specs.State.{stand}
 use Rattle.amqp_ser.proofs.Pairs.{buffer_refused, itself_refused, refused_held, in_buffer, from_buffer, on_itself, from_itself, ends_in_buffer, ends_on_itself}
 use Rattle.amqp_ser.proofs.Stages.{parts_keep}
 use Rattle.amqp_ser.proofs.paired.write_paired.Goals as goal
 
 pub returns-in-Ok-clause-ok : goal.returns-in-Ok-clause-ok
-unfolding stand
 returns-in-Ok-clause-ok g c = λ s index len xs h.
     let k = c.args.of.now.pair.opened in
     let b = in_buffer k c.in-Buffered.is h in
     from_buffer k c.in-Buffered.is (record { had = b.had; pair = b.pair; fields = c.in-Ok.ensures.ok false _ (Shape.Tuple len) xs b.fields })
 
 pub returns-in-Ok-clause-stops : goal.returns-in-Ok-clause-stops
-unfolding stand
 returns-in-Ok-clause-stops g c = ends_in_buffer _ c.in-Buffered.is _ _ _ _ _ (c.in-Ok.ensures.stops false)
 
 pub returns-in-Err-clause-err : goal.returns-in-Err-clause-err
-unfolding stand
 returns-in-Err-clause-err g c = λ s index len xs all h begins.
     let b = in_buffer c.args.of.now.pair.opened c.in-Buffered.is h in
     buffer_refused s index len all _ c.args.of.now.pair b.had _ _ c.in-Buffered.is b.pair c.has_no_fault.ensures (c.in-Err.ensures.err false _ (Shape.Tuple len) xs all b.fields begins refl)
 
 pub returns-in-Err-clause-stops : goal.returns-in-Err-clause-stops
-unfolding stand
 returns-in-Err-clause-stops g c = ends_in_buffer _ c.in-Buffered.is _ _ _ _ _ (c.in-Err.ensures.stops false)
 
 pub returns-in-Ok-write_part : goal.returns-in-Ok-write_part

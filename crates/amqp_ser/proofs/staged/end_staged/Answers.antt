@@ -1,5 +1,4 @@
 use Rattle.std.proofs.Common.{false}
-use Rattle.amqp_write.specs.State.{stand}
 use Rattle.amqp_ser.proofs.Compounds.{kept_itself}
 use Rattle.amqp_ser.proofs.Stages.{plain_wrote, plain_end_refused, behind_wrote, behind_end_refused, ends_held}
 use Rattle.amqp_ser.proofs.staged.end_staged.Goals as goal
@@ -20,7 +19,6 @@ pub returns-in-Plain-clause-kept : goal.returns-in-Plain-clause-kept
 returns-in-Plain-clause-kept g c = let w = c.end_plain.ensures false in ends_held _ c.end_plain.result _ w.kept w.stays_ended
 
 pub returns-else-more-clause-kept : goal.returns-else-more-clause-kept
-unfolding stand
 returns-else-more-clause-kept g c =
     let k = kept_itself c.args.ser.now.state in
     rw c.set_ended.ensures (record { kept = record { bytes = k.bytes; faults = k.faults; grows = k.grows }; held = tt })

@@ -1,7 +1,6 @@
 use Rattle.std.proofs.Common.{refl, sym, ◌∙◌}
 use Rattle.std.proofs.lemmas.Result.{IfErr-weaker, on_ok_weaker}
 use Rattle.amqp_write.proofs.PartTexts.{true_false}
-use Rattle.amqp_write.specs.State.{stand}
 use Rattle.amqp_ser.proofs.Stages.{plain_more, plain_refused, behind_more, behind_refused, apart_more, apart_refused, apart_else}
 use Rattle.amqp_ser.proofs.staged.write_named_field.Goals as goal
 
@@ -15,7 +14,6 @@ pub returns-in-Ok-write_field-clause-ok : goal.returns-in-Ok-write_field-clause-
 returns-in-Ok-write_field-clause-ok g c = λ s b fs h. behind_more s _ _ b fs _ c.args.of.now (record c.args.of.now { parts = c.write_field-in-Behind.new.parts }) c.in-Behind.is c.in-Behind.is refl (λ m k held. c.in-Ok-write_field.ensures.ok m k fs held) h
 
 pub returns-in-Err-write_field-clause-err : goal.returns-in-Err-write_field-clause-err
-unfolding stand
 returns-in-Err-write_field-clause-err g c = λ free s b fs all h begins. rw (c.renamed.ensures, c.set_ended.ensures) (behind_refused s _ _ b fs all _ c.args.of.now c.in-Behind.is (λ m k held. c.in-Err-write_field.ensures.err free m k fs all held begins) h)
 
 pub returns-in_default : goal.returns-in_default

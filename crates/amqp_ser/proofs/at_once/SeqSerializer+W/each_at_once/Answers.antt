@@ -4,7 +4,6 @@ use Rattle.std.proofs.lemmas.List.{length-map, take-map}
 use Rattle.amqp_base.specs.declared.shape.Setting.TheVariants.{Plain}
 use Rattle.amqp_base.specs.Shapes.{whole}
 use Rattle.amqp_ser.specs.State.{State}
-use Rattle.amqp_write.specs.State.{stand}
 use Rattle.amqp_ser.specs.Law.{Refused}
 use Rattle.amqp_ser.specs.Compound.{open_as, open_state, outer_in}
 use Rattle.amqp_write.proofs.PartTexts.{true_false}
@@ -14,7 +13,7 @@ use Rattle.amqp_ser.proofs.NumberParts.{kept_numbers, kept_refused, numbers_more
 use Rattle.amqp_ser.proofs.at_once.SeqSerializer+W.each_at_once.Goals as goal
 
 pub returns-in-Err-clause-law : goal.returns-in-Err-clause-law
-unfolding stand open_as
+unfolding open_as
 returns-in-Err-clause-law g c =
     let live = c.requires.direct in
     let q = c.args.self.now in
@@ -32,7 +31,7 @@ returns-in-Err-clause-law g c =
     }
 
 pub returns-in-Some-clause-law : goal.returns-in-Some-clause-law
-unfolding stand open_as
+unfolding open_as
 returns-in-Some-clause-law g c =
     let item = λ (x : g.row.T.Denot). g.T.Typed.meaning.item x Plain in
     let n = c.in-Ok.written in
@@ -55,7 +54,7 @@ returns-in-Some-clause-law g c =
     })
 
 pub returns-in-None-clause-law : goal.returns-in-None-clause-law
-unfolding stand open_as
+unfolding open_as
 returns-in-None-clause-law g c =
     let item = λ (x : g.row.T.Denot). g.T.Typed.meaning.item x Plain in
     let is = map item (take c.in-Ok.written c.args.values.now) in

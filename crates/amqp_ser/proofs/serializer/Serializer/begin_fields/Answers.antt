@@ -2,14 +2,12 @@ use Rattle.std.proofs.Common.{true, false, refl, [], ◌∷◌}
 use Rattle.amqp_base.specs.declared.shape.Shape.{Shape}
 use Rattle.amqp_base.specs.Item.{scalar, uint}
 use Rattle.amqp_base.specs.Shapes.{whole}
-use Rattle.amqp_write.specs.State.{stand}
 use Rattle.amqp_write.proofs.Steps.{kept_two}
 use Rattle.amqp_ser.proofs.Pairs.{buffer_refused, itself_refused, from_buffer, from_itself}
 use Rattle.amqp_ser.proofs.Stages.{parts_keep}
 use Rattle.amqp_ser.proofs.serializer.Serializer.begin_fields.Goals as goal
 
 pub returns-in-Ok-begin-clause-ok : goal.returns-in-Ok-begin-clause-ok
-unfolding stand
 returns-in-Ok-begin-clause-ok g c = λ s h. from_buffer c.write_part.new.parts.opened c.in-Buffered.is
     (record { had = c.write_part.new.parts.buffer; pair = c.in-Ok.ensures.ok true s Shape.Map [] h; fields = c.in-Ok-begin.ensures.ok })
 
@@ -17,7 +15,6 @@ pub returns-in-Ok-begin-clause-kept : goal.returns-in-Ok-begin-clause-kept
 returns-in-Ok-begin-clause-kept g c = parts_keep c.args.pair c.write_part.new.parts _ _ (c.in-Ok.ensures.kept false)
 
 pub returns-in-Err-begin-clause-err : goal.returns-in-Err-begin-clause-err
-unfolding stand
 returns-in-Err-begin-clause-err g c = λ s xs h.
     buffer_refused s c.args.index c.args.len xs _ c.write_part.new.parts c.write_part.new.parts.buffer _ _ c.in-Buffered.is (c.in-Ok.ensures.ok true s Shape.Map [] h) c.has_no_fault.ensures (c.in-Err-begin.ensures.err.law xs)
 

@@ -3,7 +3,6 @@ use Rattle.std.proofs.lemmas.Result.{on_ok_weaker, IfErr-weaker, on_err_weaker}
 use Rattle.amqp_base.specs.Item.{scalar, uint}
 use Rattle.amqp_base.specs.declared.shape.Setting.TheVariants.{Plain}
 use Rattle.amqp_base.specs.declared.shape.Shape.{Shape}
-use Rattle.amqp_write.specs.State.{stand}
 use Rattle.amqp_ser.specs.Compound.{open_as}
 use Rattle.amqp_ser.specs.Law.{Wrote, Refused, Stops}
 use Rattle.amqp_ser.specs.Variants.{variant_item}
@@ -33,7 +32,7 @@ returns-in-Err-serialize_entry-clause-err g c = λ plain.
     moved (λ n. Refused c.args.self.now.state item c.in-Err-serialize_entry.e n) c.serialize_entry.new.self.ser.now.state _ (search rules) refused
 
 pub returns-in-Ok-serialize_entry-clause-stops : goal.returns-in-Ok-serialize_entry-clause-stops
-unfolding stand open_as
+unfolding open_as
 returns-in-Ok-serialize_entry-clause-stops g c =
     let law = c.end.ensures.law true in
     let kept = c.serialize_entry.ensures.law.kept in
