@@ -116,6 +116,10 @@ impl Reserved {
             IsOk result }
         ensures room { vec_capacity self.old.bytes ≤ vec_capacity self.new.bytes }
     {
+        // so no call remains that moves the bytes, and the vector stays in registers
+        if more.len() > self.bytes.capacity() - self.bytes.len() {
+            return Err(AllocError);
+        }
         match self.bytes.extend_from_slice(more) {
             Ok(()) => Ok(()),
             Err(e) => Err(e),
