@@ -95,21 +95,23 @@ impl Wide<4> for u32 {
 
     #[inline(always)]
     fn at_front(bytes: &[u8]) -> (u32, usize) {
-        if bytes[0] == codes::UINT0 {
-            return (0, 1);
-        }
         if bytes.len() < 5 {
             return match bytes[0] {
                 codes::SMALL_UINT if bytes.len() >= 2 => (bytes[1] as u32, 2),
+                codes::UINT0 => (0, 1),
                 _ => (0, 0),
             };
         }
         let is_wide = bytes[0] == codes::UINT;
         let is_small = bytes[0] == codes::SMALL_UINT;
-        let wide = Self::of_data(&bytes[1..5]);
-        let small = bytes[1] as u32;
-        let number = if is_wide { wide } else { small };
-        (number, 5 * is_wide as usize + 2 * is_small as usize)
+        let is_zero = bytes[0] == codes::UINT0;
+        // at most one isn't 0: choosing between them would be a branch, often guessed wrong
+        let wide = Self::of_data(&bytes[1..5]) * is_wide as u32;
+        let small = bytes[1] as u32 * is_small as u32;
+        (
+            wide.wrapping_add(small),
+            5 * is_wide as usize + 2 * is_small as usize + is_zero as usize,
+        )
     }
 }
 
@@ -133,21 +135,23 @@ impl Wide<8> for u64 {
 
     #[inline(always)]
     fn at_front(bytes: &[u8]) -> (u64, usize) {
-        if bytes[0] == codes::ULONG0 {
-            return (0, 1);
-        }
         if bytes.len() < 9 {
             return match bytes[0] {
                 codes::SMALL_ULONG if bytes.len() >= 2 => (bytes[1] as u64, 2),
+                codes::ULONG0 => (0, 1),
                 _ => (0, 0),
             };
         }
         let is_wide = bytes[0] == codes::ULONG;
         let is_small = bytes[0] == codes::SMALL_ULONG;
-        let wide = Self::of_data(&bytes[1..9]);
-        let small = bytes[1] as u64;
-        let number = if is_wide { wide } else { small };
-        (number, 9 * is_wide as usize + 2 * is_small as usize)
+        let is_zero = bytes[0] == codes::ULONG0;
+        // at most one isn't 0: choosing between them would be a branch, often guessed wrong
+        let wide = Self::of_data(&bytes[1..9]) * is_wide as u64;
+        let small = bytes[1] as u64 * is_small as u64;
+        (
+            wide.wrapping_add(small),
+            9 * is_wide as usize + 2 * is_small as usize + is_zero as usize,
+        )
     }
 }
 
