@@ -14,10 +14,10 @@ use crate::structs::is_name;
 use crate::{Serialize, Serializer, WholeStruct};
 use amqp_base::{DESCRIPTOR, Error, Setting, Shape, Sink};
 use amqp_write::no_memory;
-use std::alloc::Global;
+use std::alloc::{AllocError, Global};
 
 /// Fields under their names, in order.
-pub trait StructFields: Drop {
+pub trait StructFields: Copy {
     ghost use Rattle.std.specs.Prelude.{List, Bool};
     ghost use Rattle.amqp_base.specs.Structs.{FieldItem};
 
@@ -91,8 +91,7 @@ impl StructFields for () {
     }
 }
 
-/// A field under its name, and the fields behind it.
-#[derive(Drop)]
+/// A field under its name, and the fields behind it: names and references alone.
 pub struct Written<'a, T, Rest> {
     /// Its name.
     pub name: &'a str,
@@ -101,6 +100,25 @@ pub struct Written<'a, T, Rest> {
     /// The fields behind it.
     pub rest: Rest,
 }
+
+impl<T, Rest: Copy> Clone for Written<'_, T, Rest> {
+    ghost use Rattle.std.specs.Prelude.{◌≡◌, ⊤};
+
+    ghost is_clone = { λ row other. other ≡ row };
+
+    ghost is_infallible = { λ _. ⊤ };
+
+    #[inline(always)]
+    fn clone(&self) -> Result<Self, AllocError> {
+        Ok(Written {
+            name: self.name,
+            value: self.value,
+            rest: self.rest,
+        })
+    }
+}
+
+impl<T, Rest: Copy> Copy for Written<'_, T, Rest> {}
 
 impl<T: Serialize, Rest: StructFields> StructFields for Written<'_, T, Rest> {
     ghost items = { λ w. named w.name.now (T.meaning.item w.value.now) ∷ Rest.items w.rest };
@@ -178,10 +196,15 @@ impl<W: Sink> Serializer<W> {
             (struct_item self.old.state.setting (F.items fields.now)) e self.new.state) }
     {
         match self.setting() {
-            Setting::DescribedMap => answer!(self.fields_one_by_one(alloc, name, fields)),
+            // a row that is only looked at here stays in registers, so these calls take a copy
+            Setting::DescribedMap => {
+                let own = *fields;
+                answer!(self.fields_one_by_one(alloc, name, &own))
+            }
             _ => {
                 if fields.has_descriptor() {
-                    return self.fields_one_by_one(alloc, name, fields);
+                    let own = *fields;
+                    return self.fields_one_by_one(alloc, name, &own);
                 }
                 let mut out = match self.whole_struct(alloc, name) {
                     Ok(out) => out,
