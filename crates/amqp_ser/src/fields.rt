@@ -195,30 +195,26 @@ impl<W: Sink> Serializer<W> {
             IfErr result (λ e. Refused self.old.state
             (struct_item self.old.state.setting (F.items fields.now)) e self.new.state) }
     {
-        match self.setting() {
-            // a row that is only looked at here stays in registers, so these calls take a copy
-            Setting::DescribedMap => {
-                let own = *fields;
-                answer!(self.fields_one_by_one(alloc, name, &own))
-            }
-            _ => {
-                if fields.has_descriptor() {
-                    let own = *fields;
-                    return self.fields_one_by_one(alloc, name, &own);
-                }
-                let mut out = match self.whole_struct(alloc, name) {
-                    Ok(out) => out,
-                    Err(e) => return Err(e),
-                };
-                let mut failed = None;
-                if fields.write_values(alloc, &mut out, &mut failed) {
-                    answer!(out.end());
-                }
-                match failed {
-                    Some(e) => return Err(e),
-                    None => return Err(no_memory()),
-                }
-            }
+        let by_names = match self.setting() {
+            Setting::DescribedMap => true,
+            _ => fields.has_descriptor(),
+        };
+        if by_names {
+            // a copy, so that a row whose names aren't looked at stays in registers
+            let own = *fields;
+            answer!(self.fields_one_by_one(alloc, name, &own));
+        }
+        let mut out = match self.whole_struct(alloc, name) {
+            Ok(out) => out,
+            Err(e) => return Err(e),
+        };
+        let mut failed = None;
+        if fields.write_values(alloc, &mut out, &mut failed) {
+            answer!(out.end());
+        }
+        match failed {
+            Some(e) => return Err(e),
+            None => return Err(no_memory()),
         }
     }
 
