@@ -1,12 +1,15 @@
 -- Elements that are read many at a time.
-use Rattle.std.proofs.Common.{◌≡◌, ℕ, ◌+◌, ◌<◌, ◌≤◌, Bool, true, false, nat_eq, inl, inr, List, [], ◌∷◌, ◌++◌, length, length-take, suc, slice_index_or, take, drop, Option, Some, None, refl, sym, ap, subst, ◌∙◌, arith, append_assoc}
+use Rattle.std.proofs.Common.{◌≡◌, ℕ, ◌+◌, ◌<◌, ◌≤◌, Bool, true, false, IsTrue, nat_eq, inl, inr, List, [], ◌∷◌, ◌++◌, length, length-take, suc, slice_index_or, take, drop, Option, Some, None, refl, sym, ap, subst, ◌∙◌, arith, append_assoc}
 use Rattle.std.proofs.lemmas.List.{length-append, append-nil, drop-drop, take-take}
 use Rattle.std.proofs.Math.Seq.{take-add, take-append_seam}
 use Rattle.std.proofs.lemmas.Bool.Decides.{eqb_tells}
 use Rattle.std.specs.Io.KnownBytes.{Consumes}
 use Rattle.amqp_base.specs.declared.format_code.EncodingCodes.{EncodingCodes}
-use Rattle.amqp_base.specs.Codes.{code_of}
-use Rattle.amqp_base.specs.Item.{Item, items}
+use Rattle.amqp_base.specs.Codes.{code_of, row}
+use Rattle.amqp_base.specs.declared.format_code.Category.TheVariants.{Fixed}
+use Rattle.amqp_base.specs.Item.{Item, items, Scalar, scalar}
+use Rattle.amqp_base.specs.Value.{payload}
+use Rattle.amqp_data.proofs.FixedWidth.{fixed_spells}
 use Rattle.amqp_base.specs.Laws.{items_under}
 use Rattle.amqp_base.specs.Meaning.{Meaning}
 use Rattle.amqp_base.specs.Wire.{Constructor, bare, under, under_pair, of_code}
@@ -219,6 +222,21 @@ pub second : (b : List ℕ) → 2 ≤ length b → take 1 (drop 1 b) ≡ slice_i
 second [] l = absurd (omega (arith, l))
 second (x ∷ []) l = absurd (omega (arith, l))
 second (x ∷ y ∷ b) l = refl
+
+-- a number behind a code of its own, with one byte of data or none
+module _ {T : Type 0} (m : Meaning T) (e : EncodingCodes) (x : ℕ) (s : Scalar) (v : T) (b : List ℕ) where
+  pub one_byte : code_of x ≡ Some e → slice_index_or b 0 0 ≡ x → 2 ≤ length b → (row e).category ≡ Fixed 1 → payload e (slice_index_or b 1 0 ∷ []) ≡ Some s → IsTrue (m.takes (scalar s)) → m.means (scalar s) v → IsElement m bare (take 2 b) v
+  one_byte c h l k p t a = behind_code m e 1 x b v c h (omega (arith, l)) (rw (second b l) record {
+    item = scalar s;
+    spelled = fixed_spells e 1 (slice_index_or b 1 0 ∷ []) s k refl p;
+    taken = t;
+    value = a;
+    one = refl;
+    some = omega arith;
+  })
+
+  pub no_byte : code_of x ≡ Some e → slice_index_or b 0 0 ≡ x → 0 < length b → (row e).category ≡ Fixed 0 → payload e [] ≡ Some s → IsTrue (m.takes (scalar s)) → m.means (scalar s) v → IsElement m bare (take 1 b) v
+  no_byte c h l k p t a = behind_code m e 0 x b v c h l record { item = scalar s; spelled = fixed_spells e 0 [] s k refl p; taken = t; value = a; one = refl; some = omega arith }
 
 -- ---- bytes that were shown, and then consumed
 

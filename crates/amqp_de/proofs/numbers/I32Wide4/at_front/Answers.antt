@@ -5,12 +5,11 @@ use Rattle.std.proofs.lemmas.Bool.Decides.{eqb_tells}
 use mir.Val.{SFits}
 use Rattle.amqp_base.specs.Codes.{row, code_of}
 use Rattle.amqp_base.specs.SameKind.{same_kind, place}
-use Rattle.amqp_base.specs.Item.{scalar, int}
+use Rattle.amqp_base.specs.Item.{int}
 use Rattle.amqp_base.specs.Value.{payload, read}
 use Rattle.amqp_base.specs.declared.format_code.EncodingCodes.TheVariants.{Int, SmallInt}
-use Rattle.amqp_data.proofs.FixedWidth.{fixed_spells}
 use Rattle.amqp_data.proofs.ByteNumbers.{be_widened}
-use Rattle.amqp_de.proofs.Many.{behind_code, second, other_byte}
+use Rattle.amqp_de.proofs.Many.{behind_code, one_byte, other_byte}
 use Rattle.amqp_de.proofs.numbers.I32Wide4.at_front.Goals.{then-is_wide, else-is_wide}
 use Rattle.amqp_de.proofs.numbers.I32Wide4.at_front.Goals as goal
 
@@ -28,14 +27,8 @@ returns-clause-number c = elim c.if-is_wide.branch [
         let f : SFits w8 z = search rules in
         let n = slice_index_or c.args.bytes.now 1 0 in
         let v = to_z w32 (of_z w32 (to_z w8 (of_z w8 z))) in
-        rw (w.number-is, small.1) (λ _. behind_code _ SmallInt 1 84 c.args.bytes.now v refl small.1 c.requires (rw (second c.args.bytes.now (omega (arith, c.if-bytes-lt5.false))) record {
-          item = scalar (int v);
-          spelled = fixed_spells SmallInt 1 (n ∷ []) (int v) refl refl (rw (be_widened w32 (n ∷ []) z refl c.from_be_bytes-small.ensures f) refl);
-          taken = refl;
-          value = refl;
-          one = refl;
-          some = omega arith;
-        }))
+        rw (w.number-is, small.1) (λ _. one_byte _ SmallInt 84 (int v) v c.args.bytes.now refl small.1 (omega (arith, c.if-bytes-lt5.false)) refl
+        (rw (be_widened w32 (n ∷ []) z refl c.from_be_bytes-small.ensures f) refl) refl refl)
     | inr other ↦ rw (other.0, other_byte (slice_index_or c.args.bytes.now 0 0) 113 w.if-is_wide.false) (λ h. absurd (omega (arith, h)))
   ]
 ]
@@ -47,11 +40,4 @@ returns-in-84-clause-number c = λ _.
     let f : SFits w8 z = search rules in
     let n = slice_index_or c.args.bytes.now 1 0 in
     let v = to_z w32 (of_z w32 (to_z w8 (of_z w8 z))) in
-    behind_code _ SmallInt 1 84 c.args.bytes.now _ refl c.in-84.is c.requires (rw (second c.args.bytes.now c.if-bytes-ge2.true) record {
-      item = scalar (int v);
-      spelled = fixed_spells SmallInt 1 (n ∷ []) (int v) refl refl (rw (be_widened w32 (n ∷ []) z refl c.from_be_bytes.ensures f) refl);
-      taken = refl;
-      value = refl;
-      one = refl;
-      some = omega arith;
-    })
+    one_byte _ SmallInt 84 (int v) v c.args.bytes.now refl c.in-84.is c.if-bytes-ge2.true refl (rw (be_widened w32 (n ∷ []) z refl c.from_be_bytes.ensures f) refl) refl refl

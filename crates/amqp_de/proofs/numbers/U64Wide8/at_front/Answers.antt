@@ -1,14 +1,13 @@
 -- The number's own constructor, and its data.
-use Rattle.std.proofs.Common.{◌≡◌, ◌*◌, ◌+◌, ◌%◌, ◌^◌, inl, inr, [], ◌∷◌, refl, arith, slice_index_or}
+use Rattle.std.proofs.Common.{◌≡◌, ◌*◌, ◌+◌, ◌%◌, ◌^◌, inl, inr, refl, arith, slice_index_or}
 use Rattle.std.proofs.lemmas.Bool.Decides.{eqb_tells}
 use Rattle.amqp_base.specs.Codes.{row, code_of}
 use Rattle.amqp_base.specs.SameKind.{same_kind, place}
-use Rattle.amqp_base.specs.Item.{scalar, ulong}
+use Rattle.amqp_base.specs.Item.{ulong}
 use Rattle.amqp_base.specs.Value.{payload, read}
 use Rattle.amqp_base.specs.declared.format_code.EncodingCodes.TheVariants.{Ulong, SmallUlong, Ulong0}
-use Rattle.amqp_data.proofs.FixedWidth.{fixed_spells}
 use Rattle.amqp_data.proofs.ByteNumbers.{number_1}
-use Rattle.amqp_de.proofs.Many.{behind_code, second}
+use Rattle.amqp_de.proofs.Many.{behind_code, one_byte, no_byte}
 use Rattle.amqp_de.proofs.numbers.U64Wide8.at_front.Goals as goal
 
 pub returns-clause-number : goal.returns-clause-number
@@ -24,25 +23,11 @@ returns-clause-number c =
       | inr narrow ↦ elim (eqb_tells b 83) [
         | inl small ↦
             let same : (v * 0 + n * 1) % 2 ^ 64 ≡ n = omega (arith, c.type_inv.bytes 1) in
-            rw (small.1, same) (λ _. behind_code _ SmallUlong 1 83 c.args.bytes.now n refl small.1 c.requires (rw (second c.args.bytes.now (omega (arith, c.if-bytes-lt9.false))) record {
-              item = scalar (ulong n);
-              spelled = fixed_spells SmallUlong 1 (n ∷ []) (ulong n) refl refl (rw (number_1 n) refl);
-              taken = refl;
-              value = refl;
-              one = refl;
-              some = omega arith;
-            }))
+            rw (small.1, same) (λ _. one_byte _ SmallUlong 83 (ulong n) n c.args.bytes.now refl small.1 (omega (arith, c.if-bytes-lt9.false)) refl (rw (number_1 n) refl) refl refl)
         | inr other ↦ elim (eqb_tells b 68) [
           | inl zero ↦
               let same : (v * 0 + n * 0) % 2 ^ 64 ≡ 0 = omega arith in
-              rw (zero.1, same) (λ _. behind_code _ Ulong0 0 68 c.args.bytes.now 0 refl zero.1 c.requires record {
-                item = scalar (ulong 0);
-                spelled = fixed_spells Ulong0 0 [] (ulong 0) refl refl refl;
-                taken = refl;
-                value = refl;
-                one = refl;
-                some = omega arith;
-              })
+              rw (zero.1, same) (λ _. no_byte _ Ulong0 68 (ulong 0) 0 c.args.bytes.now refl zero.1 c.requires refl refl refl refl)
           | inr none ↦ rw (narrow.0, other.0, none.0) (λ h. absurd (omega (arith, h)))
         ]
       ]
@@ -52,22 +37,8 @@ pub returns-in-83-clause-number : goal.returns-in-83-clause-number
 unfolding row code_of payload read same_kind place
 returns-in-83-clause-number c = λ _.
     let n = slice_index_or c.args.bytes.now 1 0 in
-    behind_code _ SmallUlong 1 83 c.args.bytes.now n refl c.in-83.is c.requires (rw (second c.args.bytes.now c.if-bytes-ge2.true) record {
-      item = scalar (ulong n);
-      spelled = fixed_spells SmallUlong 1 (n ∷ []) (ulong n) refl refl (rw (number_1 n) refl);
-      taken = refl;
-      value = refl;
-      one = refl;
-      some = omega arith;
-    })
+    one_byte _ SmallUlong 83 (ulong n) n c.args.bytes.now refl c.in-83.is c.if-bytes-ge2.true refl (rw (number_1 n) refl) refl refl
 
 pub returns-in-68-clause-number : goal.returns-in-68-clause-number
 unfolding row code_of payload read same_kind place
-returns-in-68-clause-number c = λ _. behind_code _ Ulong0 0 68 c.args.bytes.now 0 refl c.in-68.is c.requires record {
-  item = scalar (ulong 0);
-  spelled = fixed_spells Ulong0 0 [] (ulong 0) refl refl refl;
-  taken = refl;
-  value = refl;
-  one = refl;
-  some = omega arith;
-}
+returns-in-68-clause-number c = λ _. no_byte _ Ulong0 68 (ulong 0) 0 c.args.bytes.now refl c.in-68.is c.requires refl refl refl refl
