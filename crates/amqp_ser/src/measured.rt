@@ -1,6 +1,6 @@
 //! A value is measured, and then written once.
 
-ghost use Rattle.std.specs.Prelude.{◌≡◌, ◌⊎◌, Some, IfOk, IfErr};
+ghost use Rattle.std.specs.Prelude.{◌≡◌, ◌<◌, ◌⊎◌, Some, IfOk, IfErr, IsTrue};
 ghost use Rattle.amqp_base.specs.Canon.{canon};
 ghost use Rattle.amqp_ser.specs.Texts.{HasNoText};
 ghost use Rattle.amqp_ser.specs.Passes.{IsMeasureOf, HasLength, NoSize};
@@ -78,6 +78,20 @@ pub fn measured_vec<T: Serialize>(alloc: Global, value: &T) -> Result<Vec<u8>, E
     write_measured(alloc, value, measure)
 }
 
+/// Whether the value's text is known to have more bytes than so many, measured once more: a value
+/// that writes more than was measured of it finds no room, which is no want of memory.
+#[cold]
+#[inline(never)]
+fn is_longer<T: Serialize>(alloc: Global, value: &T, length: usize) -> bool
+    ensures { IsTrue result → (m : Measure) →
+        IsMeasureOf (T.meaning.item value.now Setting.Plain) m → length < m.length }
+{
+    match measure(alloc, value) {
+        Ok(measure) => measure.length > length,
+        Err(_) => false,
+    }
+}
+
 /// The value's canonical text, written once behind the sizes that were measured of it.
 ///
 /// `OutOfMemory`: there is no room. `InvalidValue`: the sizes of another value were measured.
@@ -110,7 +124,12 @@ pub fn write_measured<T: Serialize>(
     ser.place.direct = true;
     match value.serialize(alloc, &mut ser) {
         Ok(()) => {}
-        Err(e) => return Err(e),
+        Err(e) => {
+            if is_longer(alloc, value, length) {
+                return Err(Error::InvalidValue);
+            }
+            return Err(e);
+        }
     }
     let Serializer {
         writer: Plan {
