@@ -7,7 +7,7 @@ use Rattle.amqp_base.specs.declared.error.Error.{Error}
 use Rattle.amqp_base.specs.declared.error.Error.TheVariants.{OutOfMemory}
 use Rattle.amqp_base.specs.declared.shape.Setting.{Setting}
 use Rattle.amqp_base.specs.declared.shape.Setting.TheVariants.{Plain}
-use Rattle.std.proofs.Common.{◌∷◌, ◌+◌, min, length, drop, true, Bool}
+use Rattle.std.proofs.Common.{◌∷◌, ◌+◌, ◌<◌, min, length, drop, true, Bool}
 use Rattle.std.proofs.lemmas.Bool.{eq-eqb}
 use Rattle.amqp_base.specs.Sizes.{Size, sizes}
 use Rattle.amqp_ser.specs.Passes.{IsSize}
@@ -33,6 +33,16 @@ to_vec_ok s f t ys plain mark answers start contents w =
 in_no_pass : (p : Bool) (c : Option (List ℕ)) (xs : List ℕ) → Appends (Some []) (contents_in p c) xs → contents_in p c ≡ c
 in_no_pass false c xs h = refl
 in_no_pass true c xs h = absurd h
+
+-- a text that was written to a vector is as long as what is measured of the item
+pub longer : (s : State) (f : Setting → Item) (t : State) (ys : List ℕ) (d : Bool) (n k : ℕ) (l : List Size) → s.setting ≡ Plain → s.mark ≡ unmarked → s.ended ≡ false → s.contents ≡ Some [] → t.contents ≡ contents_in d (Some ys) → Wrote s (f s.setting) t → n < length ys → length ys < 18446744073709551616 → IsSize (f Plain) k l → n < k
+longer s f t ys d n k l plain mark answers start contents w more few z =
+    let took = w.took answers in
+    let told : Appends (Some []) (contents_in d (Some ys)) took.bytes = subst (λ c. Appends (Some []) c took.bytes) contents (subst (λ c. Appends c t.contents took.bytes) start took.goes.appended) in
+    let written = to_vec_ok s f t ys plain mark answers start (contents ∙ in_no_pass d (Some ys) took.bytes told) w in
+    let same : Some ys ≡ Some z.bytes = sym written ∙ z.text in
+    let e : ys ≡ z.bytes = cc in
+    omega (arith, more, few, z.counted, ap length e)
 
 begins_self : (l : List Size) → begins l l ≡ true
 begins_self [] = refl

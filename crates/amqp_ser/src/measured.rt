@@ -78,16 +78,18 @@ pub fn measured_vec<T: Serialize>(alloc: Global, value: &T) -> Result<Vec<u8>, E
     write_measured(alloc, value, measure)
 }
 
-/// Whether the value's text is known to have more bytes than so many, measured once more: a value
-/// that writes more than was measured of it finds no room, which is no want of memory.
+/// Whether the value's text is known to have more bytes than so many: a value that writes more than
+/// was measured of it finds no room, which is no want of memory. It is written to a vector that
+/// grows, as another measuring would be a second caller of the first's code.
 #[cold]
 #[inline(never)]
 fn is_longer<T: Serialize>(alloc: Global, value: &T, length: usize) -> bool
     ensures { IsTrue result → (m : Measure) →
         IsMeasureOf (T.meaning.item value.now Setting.Plain) m → length < m.length }
 {
-    match measure(alloc, value) {
-        Ok(measure) => measure.length > length,
+    let mut ser = Serializer::new(Vec::new(alloc));
+    match value.serialize(alloc, &mut ser) {
+        Ok(()) => ser.into_inner().len() > length,
         Err(_) => false,
     }
 }
