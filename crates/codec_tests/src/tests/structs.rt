@@ -6,7 +6,7 @@ use super::written::{By, Writes, writes_so, written};
 use amqp_base::{DESCRIBED_LIST, DESCRIBED_MAP, DESCRIPTOR, Error, Sink};
 use amqp_de::{Deserialize, Deserializer, StructAccess};
 use amqp_read::Read;
-use amqp_ser::{Serialize, Serializer, StructSerializer, TupleStructSerializer};
+use amqp_ser::{Serialize, Serializer, StructSerializer, TupleStructSerializer, Written};
 use std::alloc::Global;
 
 /// A list of 13 and true.
@@ -287,4 +287,23 @@ fn a_struct_is_written_as_a_list_or_under_the_described_map_setting_a_map(rt: Ho
     for named in NAMES {
         assert!(rt; written(alloc, By::New, named).is_some());
     }
+}
+
+/// A field of a row is copied with its name and its value.
+fn is_copied(field: &Written<'_, u32, ()>) -> bool {
+    match field.clone() {
+        Ok(other) => other.name == field.name && *other.value == *field.value,
+        Err(_) => false,
+    }
+}
+
+#[test]
+fn a_field_of_a_row_is_copied(rt: HostRuntime) {
+    let number = 13;
+    let field = Written {
+        name: "bar",
+        value: &number,
+        rest: (),
+    };
+    assert!(rt; is_copied(&field));
 }
