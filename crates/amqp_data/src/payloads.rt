@@ -101,6 +101,7 @@ impl Leaf for AsSymbol {
 
     ghost of_kind = { λ _. refl };
 
+    #[inline(always)]
     fn read<R: Read>(self, reader: &mut R, code: u8) -> Result<String, Error> {
         match code {
             codes::SYM8 => match text(self.0, reader, 1) {

@@ -68,6 +68,11 @@ pub record HaveValues {V : Type 0} (s : Slots V) (vs : V) : Type 0 where
   pub full : IsTrue (all_read s)
   pub meant : means_named s.names (s.meanings vs) no_pairs
 
+-- each of the fields has a value, and of their values this holds
+pub record Filled {V : Type 0} (s : Slots V) (P : V → Type 0) : Type 0 where
+  pub full : IsTrue (all_read s)
+  pub values : (vs : V) → s.holds vs → P vs
+
 -- a pair under a name
 abbrev pub under_name : List ℕ → Item → Pairs → Pairs
 under_name name v ps = pair (scalar (string name)) v ps

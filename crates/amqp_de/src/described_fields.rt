@@ -1,6 +1,6 @@
 //! Structs under a descriptor, read by their fields.
 
-ghost use Rattle.std.specs.Prelude.{◌≡◌, false, true, IsTrue, IfOk, IfErr, OnErr};
+ghost use Rattle.std.specs.Prelude.{◌≡◌, false, true, IsTrue, IfOk, IfErr, OnOk, OnErr};
 ghost use Rattle.amqp_base.specs.Canon.{same_descriptor};
 ghost use Rattle.amqp_base.specs.Codes.{Kind, row};
 ghost use Rattle.amqp_de.specs.Calls.{NamedRead, NamedRefused};
@@ -9,6 +9,7 @@ ghost use Rattle.amqp_de.specs.DescribedFields.{MapBehindNamed};
 ghost use Rattle.amqp_de.specs.DescribedFields.{FieldsBehind, FieldsBehindRefused};
 ghost use Rattle.amqp_de.specs.DescribedFields.{FieldsBehindNamed};
 ghost use Rattle.amqp_de.specs.DescribedFields.{NamesBehind, NamesBehindRefused, NamesBehindNamed};
+ghost use Rattle.amqp_de.specs.ReadFields.{Filled};
 ghost use Rattle.amqp_de.specs.Steps.{Stops};
 ghost use Rattle.amqp_types.specs.Descriptors.{descriptor_of};
 
@@ -59,16 +60,15 @@ pub(crate) fn is_list(code: EncodingCodes) -> bool
 }
 
 impl<R: Read> Deserializer<R> {
-    /// The fields behind a descriptor.
-    fn read_list_behind<S: Fields<R>>(
-        &mut self,
-        alloc: Global,
-        fields: S,
-    ) -> Result<S::Values, Error>
-        ensures ok { IfOk result (λ vs. ListRead (S.slots fields) vs self.old self.new) }
+    /// The fields behind a descriptor. They are read where they stand, as a row of many values
+    /// would be copied wherever it is handed on.
+    #[inline(always)]
+    fn read_list_behind<S: Fields<R>>(&mut self, alloc: Global, fields: &mut S) -> Result<(), Error>
+        ensures ok { OnOk result (Filled (S.slots fields.new)
+            (λ vs. ListRead (S.slots fields.old) vs self.old self.new)) }
         ensures err { IfErr result (λ e.
-            ListMissed (S.slots fields) R.buffers self.old self.new e) }
-        ensures named { IfErr result (λ e. ListBehindNamed (S.slots fields) S.takes S.refuses
+            ListMissed (S.slots fields.old) R.buffers self.old self.new e) }
+        ensures named { IfErr result (λ e. ListBehindNamed (S.slots fields.old) S.takes S.refuses
             R.buffers self.old self.new e) }
         ensures ended { OnErr result (IsTrue self.new.ended) }
     {
@@ -79,7 +79,7 @@ impl<R: Read> Deserializer<R> {
                     return Err(Error::custom(alloc, "expected a list behind the descriptor"));
                 }
                 match self.deserialize_leading(alloc, fields) {
-                    Ok(values) => return Ok(values),
+                    Ok(()) => return Ok(()),
                     Err(e) => return Err(e),
                 }
             }
@@ -111,18 +111,26 @@ impl<R: Read> Deserializer<R> {
             (S.slots fields) S.takes S.refuses R.buffers self.old self.new e) }
         ensures stops { Stops self.old result self.new }
     {
+        let mut slots = fields;
         match self.deserialize_descriptor(alloc) {
             Ok(found) => {
                 if !is_wanted(descriptor, found) {
                     self.stop();
                     return Err(Error::custom(alloc, "another descriptor"));
                 }
-                match self.read_list_behind(alloc, fields) {
-                    Ok(values) => return Ok(values),
+                match self.read_list_behind(alloc, &mut slots) {
+                    Ok(()) => {}
                     Err(e) => return Err(e),
                 }
             }
             Err(e) => return Err(e),
+        }
+        match slots.into_values() {
+            Some(values) => return Ok(values),
+            None => {
+                self.stop();
+                return Err(Error::SequenceLengthMismatch);
+            }
         }
     }
 

@@ -1,7 +1,8 @@
 //! Fields that are left out at the end of a list.
 
-ghost use Rattle.std.specs.Prelude.{◌≡◌, false, IsTrue, IfOk, IfErr, OnErr};
+ghost use Rattle.std.specs.Prelude.{◌≡◌, false, IsTrue, IfOk, IfErr, OnOk, OnErr};
 ghost use Rattle.amqp_de.specs.DescribedFields.{ListRead, ListRefused, ListNamed};
+ghost use Rattle.amqp_de.specs.ReadFields.{Filled};
 ghost use Rattle.amqp_de.specs.ReadLeading.{ReadsNull, RefusesNull};
 
 use crate::{Deserialize, Deserializer, Fields};
@@ -39,32 +40,31 @@ impl<R: Read> Deserializer<R> {
     }
 
     /// Reads the fields of a list (part 1, section 1.6.22) in order; where it has fewer elements,
-    /// each of the fields that are left is what its type reads from null.
+    /// each of the fields that are left is what its type reads from null. Each has a value then,
+    /// where it stands.
     ///
     /// The refusals of a list's header, `SequenceLengthMismatch` where it has more elements than
     /// there are fields, then those of the fields. A refusal ends the deserializer.
+    #[inline(always)]
     pub(crate) fn deserialize_leading<S: Fields<R>>(
         &mut self,
         alloc: Global,
-        fields: S,
-    ) -> Result<S::Values, Error>
-        ensures ok { IfOk result (λ vs. ListRead (S.slots fields) vs self.old self.new) }
+        fields: &mut S,
+    ) -> Result<(), Error>
+        ensures ok { OnOk result (Filled (S.slots fields.new)
+            (λ vs. ListRead (S.slots fields.old) vs self.old self.new)) }
         ensures err { IfErr result (λ e.
-            ListRefused (S.slots fields) S.grows R.buffers self.old self.new e) }
-        ensures named { IfErr result (λ e. ListNamed (S.slots fields) S.takes S.refuses S.grows
+            ListRefused (S.slots fields.old) S.grows R.buffers self.old self.new e) }
+        ensures named { IfErr result (λ e. ListNamed (S.slots fields.old) S.takes S.refuses S.grows
             R.buffers self.old self.new e) }
         ensures ended { OnErr result (IsTrue self.new.ended) }
     {
-        let mut slots = fields;
         let mut list = self.deserialize_list()?;
-        if !slots.hold(list.inner.left) {
+        if !fields.hold(list.inner.left) {
             return Err(Error::SequenceLengthMismatch);
         }
-        slots.read_leading(alloc, &mut list)?;
-        let Some(values) = slots.into_values() else {
-            return Err(Error::SequenceLengthMismatch);
-        };
+        fields.read_leading(alloc, &mut list)?;
         list.end()?;
-        Ok(values)
+        Ok(())
     }
 }

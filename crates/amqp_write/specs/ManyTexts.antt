@@ -29,6 +29,10 @@ pub record AreTexts (m : Mark) (is : List Item) (b : List ℕ) : Type 0 where
 abbrev pub HasTextOf : Mark → Item → ℕ → Type 0
 HasTextOf m i n = (b : List ℕ) × IsText m i b × (n ≡ length b)
 
+-- the number's text was counted, and nothing else changed
+abbrev pub CountsText : Mark → Item → State → State → Type 0
+CountsText m i s t = (b : List ℕ) × IsText m i b × Appended {A = Unit {0}} s b (Ok tt) t
+
 -- they have texts of so many bytes, as far as a usize counts
 abbrev pub HaveTextsOf : Mark → List Item → ℕ → Type 0
 HaveTextsOf m is n = (b : List ℕ) × AreTexts m is b × (n ≡ min (length b) 18446744073709551615)

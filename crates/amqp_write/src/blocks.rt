@@ -1,9 +1,9 @@
 //! Numbers whose texts are written many at a time.
 
-ghost use Rattle.std.specs.Prelude.{◌*◌, ◌≤◌, length, map};
+ghost use Rattle.std.specs.Prelude.{◌≡◌, ◌*◌, ◌≤◌, false, IsTrue, length, map};
 ghost use Rattle.amqp_write.specs.State.{stand};
 ghost use Rattle.amqp_write.specs.Appending.{as_error};
-ghost use Rattle.amqp_write.specs.ManyTexts.{HaveTextsOf, PutsAll, WritesTexts};
+ghost use Rattle.amqp_write.specs.ManyTexts.{CountsText, HaveTextsOf, PutsAll, WritesTexts};
 
 use crate::numbers::Texts;
 use crate::place::Place;
@@ -73,6 +73,27 @@ fn lengths<P: Texts<T>, T: Typed + Copy>(values: &[T]) -> usize
 }
 
 impl Place {
+    /// Counts the text of one number, where the writer only counts. Whether it did; else nothing
+    /// was done. What is done doesn't depend on the number: a branch that is guessed wrong takes
+    /// longer than a text.
+    #[inline(always)]
+    pub(crate) fn counts<W: Sink, P: Texts<T>, T: Typed + Copy>(
+        &self,
+        writer: &mut W,
+        value: T,
+    ) -> bool
+        ensures counted { IsTrue result →
+            CountsText P.mark (T.meaning.item value Setting.Plain)
+            (stand W.Write W.FaultCount writer.old self.now)
+            (stand W.Write W.FaultCount writer.new self.now) }
+        ensures same { result ≡ false → writer.new ≡ writer.old }
+    {
+        match (*writer).pass() {
+            Pass::Measures => writer.counts(P::text_len(value) as usize),
+            _ => false,
+        }
+    }
+
     /// Writes numbers. Where they are only counted, no text of theirs is made.
     pub fn append_numbers<W: Sink, P: Texts<T>, T: Typed + Copy>(
         &mut self,

@@ -6,6 +6,7 @@ ghost use Rattle.amqp_write.specs.State.{stand, mark_of, unmarked};
 ghost use Rattle.amqp_write.specs.Law.{marked};
 ghost use Rattle.amqp_write.specs.Appending.{PaysItem, as_error};
 
+use crate::numbers::Outside;
 use crate::place::{Mark, Place};
 use crate::refusal::Refusal;
 use amqp_base::{EncodingCodes, Error, Sink, codes};
@@ -57,6 +58,9 @@ impl Place {
         ensures law { PaysItem (stand W.Write W.FaultCount writer.old self.old) (scalar (int v))
             Error.InvalidValue (as_error result) (stand W.Write W.FaultCount writer.new self.new) }
     {
+        if self.counts::<W, Outside, i32>(writer, v) {
+            return Ok(());
+        }
         match i8::try_from(v) {
             Ok(small) => self.append(writer, &[codes::SMALL_INT, small.cast_unsigned()]),
             Err(_) => self.plain_four_bytes(writer, EncodingCodes::Int, v.to_be_bytes()),

@@ -2,9 +2,10 @@
 
 ghost use Rattle.std.specs.Prelude.{◌≡◌, false};
 ghost use Rattle.amqp_base.specs.Item.{scalar, ubyte, ushort, uint, ulong};
-ghost use Rattle.amqp_write.specs.State.{stand};
+ghost use Rattle.amqp_write.specs.State.{stand, mark_of, unmarked};
 ghost use Rattle.amqp_write.specs.Appending.{PaysItem, as_error};
 
+use crate::numbers::Outside;
 use crate::place::{Mark, Place};
 use crate::refusal::Refusal;
 use amqp_base::{EncodingCodes, Error, Sink, codes};
@@ -43,10 +44,29 @@ impl Place {
     {
         let mark = self.mark;
         match mark {
-            Mark::Unmarked if v == 0 => self.append(writer, &[codes::UINT0]),
-            Mark::Unmarked if v < 256 => self.append(writer, &[codes::SMALL_UINT, v as u8]),
+            Mark::Unmarked => self.plain_uint(writer, v),
             _ => self.four_bytes(writer, EncodingCodes::Uint, v.to_be_bytes()),
         }
+    }
+
+    /// The text of an uint outside arrays.
+    #[inline(always)]
+    fn plain_uint<W: Sink>(&mut self, writer: &mut W, v: u32) -> Result<(), Refusal>
+        requires answers { self.old.ended ≡ false }
+        requires marked { mark_of self.old ≡ unmarked }
+        ensures law { PaysItem (stand W.Write W.FaultCount writer.old self.old) (scalar (uint v))
+            Error.InvalidValue (as_error result) (stand W.Write W.FaultCount writer.new self.new) }
+    {
+        if self.counts::<W, Outside, u32>(writer, v) {
+            return Ok(());
+        }
+        if v == 0 {
+            return self.append(writer, &[codes::UINT0]);
+        }
+        if v < 256 {
+            return self.append(writer, &[codes::SMALL_UINT, v as u8]);
+        }
+        self.plain_four_bytes(writer, EncodingCodes::Uint, v.to_be_bytes())
     }
 
     /// A ulong (section 1.6.6): outside arrays 44 for 0, 53 and a byte up to 255, else 80 and eight
@@ -60,9 +80,28 @@ impl Place {
     {
         let mark = self.mark;
         match mark {
-            Mark::Unmarked if v == 0 => self.append(writer, &[codes::ULONG0]),
-            Mark::Unmarked if v < 256 => self.append(writer, &[codes::SMALL_ULONG, v as u8]),
+            Mark::Unmarked => self.plain_ulong(writer, v),
             _ => self.eight_bytes(writer, EncodingCodes::Ulong, v.to_be_bytes()),
         }
+    }
+
+    /// The text of a ulong outside arrays.
+    #[inline(always)]
+    fn plain_ulong<W: Sink>(&mut self, writer: &mut W, v: u64) -> Result<(), Refusal>
+        requires answers { self.old.ended ≡ false }
+        requires marked { mark_of self.old ≡ unmarked }
+        ensures law { PaysItem (stand W.Write W.FaultCount writer.old self.old) (scalar (ulong v))
+            Error.InvalidValue (as_error result) (stand W.Write W.FaultCount writer.new self.new) }
+    {
+        if self.counts::<W, Outside, u64>(writer, v) {
+            return Ok(());
+        }
+        if v == 0 {
+            return self.append(writer, &[codes::ULONG0]);
+        }
+        if v < 256 {
+            return self.append(writer, &[codes::SMALL_ULONG, v as u8]);
+        }
+        self.eight_bytes(writer, EncodingCodes::Ulong, v.to_be_bytes())
     }
 }

@@ -14,9 +14,6 @@ returns-then-not-is_wanted-clause-named g c =
     rw c.stop.ensures (another_named _ (described_list_refusal s.awaited g.S.Fields.takes g.S.Fields.refuses) g.R.Read.buffers _ (descriptor_of c.in-Ok.found) _ _ _ (sym c.is_wanted.ensures ∙ c.if-not-is_wanted.true) c.in-Ok.ensures.ok c.custom.ensures)
 
 -- the descriptor that is wanted
-pub returns-in-Ok-read_list_behind-clause-ok : goal.returns-in-Ok-read_list_behind-clause-ok
-returns-in-Ok-read_list_behind-clause-ok g c = behind_found _ _ _ (descriptor_of c.in-Ok.found) _ _ _ (sym c.is_wanted.ensures ∙ c.if-not-is_wanted.false) c.in-Ok.ensures.ok c.in-Ok-read_list_behind.ensures.ok
-
 pub returns-in-Err-read_list_behind-clause-err : goal.returns-in-Err-read_list_behind-clause-err
 returns-in-Err-read_list_behind-clause-err g c = behind_missed _ _ g.R.Read.buffers _ (descriptor_of c.in-Ok.found) _ _ _ _ c.in-Ok.ensures.ok c.in-Err-read_list_behind.ensures.err
 
@@ -24,6 +21,11 @@ pub returns-in-Err-read_list_behind-clause-named : goal.returns-in-Err-read_list
 returns-in-Err-read_list_behind-clause-named g c =
     let s = g.S.Fields.slots c.args.fields in
     behind_named _ (described_list_refusal s.awaited g.S.Fields.takes g.S.Fields.refuses) g.R.Read.buffers _ _ (descriptor_of c.in-Ok.found) _ _ _ (sym c.is_wanted.ensures ∙ c.if-not-is_wanted.false) c.in-Ok.ensures.ok c.in-Err-read_list_behind.ensures.named
+
+pub returns-in-Some-clause-ok : goal.returns-in-Some-clause-ok
+returns-in-Some-clause-ok g c =
+    let values = c.into_values.ensures.some _ c.in-Some.is in
+    behind_found _ _ _ (descriptor_of c.in-Ok.found) _ _ _ (sym c.is_wanted.ensures ∙ c.if-not-is_wanted.false) c.in-Ok.ensures.ok (c.in-Ok-read_list_behind.ensures.ok.values _ values.holds)
 
 -- no descriptor
 pub returns-in-Err-clause-err : goal.returns-in-Err-clause-err
