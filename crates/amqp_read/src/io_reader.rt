@@ -217,6 +217,7 @@ impl<S: Source> Read for IoReader<S> {
         }
     }
 
+    #[inline(always)]
     fn forward_read_str(&mut self, alloc: Global, n: usize) -> Result<String, Error> {
         match self.receive_at_once(alloc, n) {
             Ok(Some(bytes)) => match self.take_text(bytes) {

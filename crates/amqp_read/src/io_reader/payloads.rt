@@ -74,6 +74,7 @@ impl<S: Source> IoReader<S> {
 
     /// Asks the source once for `n` bytes, where nothing was received and they aren't many: the
     /// bytes, apart from the buffer, where it gave them all. What it gave else is kept.
+    #[inline(always)]
     pub(super) fn receive_at_once(
         &mut self,
         alloc: Global,
@@ -119,6 +120,7 @@ impl<S: Source> IoReader<S> {
 
     /// Bytes that were received apart from the buffer are consumed as a text. What isn't UTF-8 goes
     /// into the buffer.
+    #[inline(always)]
     pub(super) fn take_text(&mut self, bytes: Vec<u8>) -> Result<String, Error>
         requires received { self.old.reading.received ≡ [] }
         requires counted { self.old.reading.taken + length bytes.items < 2 ^ 64 }
