@@ -5,12 +5,13 @@ mod codec;
 mod counting;
 #[cfg(not(counting))]
 mod instructions;
+mod numbers;
 mod plain;
 #[cfg(not(counting))]
 mod timing;
 
 use codec::{Array, Binary, Open, OrderedMap, Record, Small, Symbol};
-use std::fmt::Write;
+use numbers::Numbers;
 
 type OursEncode = unsafe extern "C" fn(*const u8, usize, u32, *mut u8, usize) -> usize;
 type OursDecode = unsafe extern "C" fn(*const u8, usize, u32) -> usize;
@@ -153,55 +154,13 @@ impl Case {
     }
 }
 
-/// The same numbers at each run (xorshift).
-struct Numbers(u64);
-
-impl Numbers {
-    fn next(&mut self) -> u64 {
-        self.0 ^= self.0 << 13;
-        self.0 ^= self.0 >> 7;
-        self.0 ^= self.0 << 17;
-        self.0
-    }
-
-    /// A half small and a half wide, in an order by chance.
-    fn ints(&mut self, count: usize) -> Vec<i32> {
-        let mut ints: Vec<i32> = Vec::new();
-        for at in 0..count {
-            let n = self.next();
-            ints.push(if at % 2 == 0 { n as i8 as i32 } else { (n >> 17) as i8 as i32 ^ 0x1234_5600 });
-            ints.swap(at, (n >> 32) as usize % (at + 1));
-        }
-        ints
-    }
-
-    /// Zero, a byte, or wide by chance, a third each.
-    fn long(&mut self) -> u64 {
-        let n = self.next();
-        match n % 3 {
-            0 => 0,
-            1 => 1 + (n >> 8) % 255,
-            _ => 256 + (n >> 8),
-        }
-    }
-
-    fn text(&mut self, len: usize) -> String {
-        let mut text = String::new();
-        while text.len() < len {
-            write!(text, "{:016x}", self.next()).unwrap();
-        }
-        text.truncate(len);
-        text
-    }
-
-    fn record(&mut self) -> Record {
-        Record {
-            id: self.long(),
-            name: self.text(12),
-            active: self.next() % 2 == 0,
-            level: self.next() as i32 >> (self.next() % 32),
-            number: (self.next() % 2 == 0).then(|| self.long() as u32),
-        }
+fn some_record(n: &mut Numbers) -> Record {
+    Record {
+        id: n.long(),
+        name: n.text(12),
+        active: n.next() % 2 == 0,
+        level: n.next() as i32 >> (n.next() % 32),
+        number: (n.next() % 2 == 0).then(|| n.long() as u32),
     }
 }
 
@@ -221,10 +180,10 @@ fn cases() -> Vec<Case> {
         map.insert(key, n.long() as u32);
     }
     let few = n.ints(10);
-    let record = n.record();
-    let records: Vec<Record> = (0..1_000).map(|_| n.record()).collect();
+    let record = some_record(&mut n);
+    let records: Vec<Record> = (0..1_000).map(|_| some_record(&mut n)).collect();
     let tuples: Vec<(u64, String, bool, i32)> = (0..1_000)
-        .map(|_| n.record())
+        .map(|_| some_record(&mut n))
         .map(|it| (it.id, it.name, it.active, it.level))
         .collect();
     // The same numbers in a list alone, and in lists around it that have one element each.
