@@ -7,6 +7,7 @@ mod io_reader;
 mod raw;
 mod read;
 mod slice_reader;
+mod texts;
 
 pub use io_reader::IoReader;
 pub use read::{Read, read_const_bytes};

@@ -11,7 +11,7 @@ ghost use Rattle.amqp_read.specs.Steps.{Passes, PassesSome, Failed, NotAtHand};
 ghost use Rattle.amqp_read.specs.Raw.{TakesValue, TakesStrict, NoValue, HasValue};
 ghost use Rattle.amqp_read.specs.Raw.{ValuePassesCount, MeasuresValue, Measures, NoScalar};
 ghost use Rattle.amqp_read.specs.Raw.{SeesNumber, Sees};
-ghost use Rattle.amqp_read.specs.Texts.{NoText, NotText};
+ghost use Rattle.amqp_read.specs.Texts.{NoText};
 ghost use Rattle.amqp_base.specs.declared.error.Error.TheVariants.{OutOfMemory};
 
 use crate::raw::{Data, data_of};
@@ -285,20 +285,6 @@ pub trait Read: sealed::Sealed + Drop {
             Ok(None) => Err(Error::Io(ErrorKind::UnexpectedEof)),
             Err(e) => Err(e),
         }
-    }
-}
-
-/// A copy of the bytes, as a text.
-pub(crate) fn text_of(alloc: Global, bytes: &[u8]) -> Result<String, Error>
-    ensures ok { IfOk result (λ t. string_bytes t ≡ bytes.now) }
-    ensures why { IfErr result (λ e. NotText bytes.now e ⊎ (e ≡ OutOfMemory)) }
-{
-    match std::str::from_utf8(bytes) {
-        Ok(text) => match String::from_str(alloc, text) {
-            Ok(text) => return Ok(text),
-            Err(_) => return Err(Error::OutOfMemory),
-        },
-        Err(_) => return Err(Error::InvalidUtf8Encoding),
     }
 }
 

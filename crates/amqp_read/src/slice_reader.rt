@@ -16,7 +16,7 @@ ghost use Rattle.amqp_read.specs.Steps.{PassesSome, Failed};
 
 use crate::Read;
 use crate::read::sealed::Sealed;
-use crate::read::text_of;
+use crate::texts::{is_text, text_of};
 use amqp_base::Error;
 use std::alloc::Global;
 use std::io::ErrorKind;
@@ -102,14 +102,12 @@ impl<'s> SliceReader<'s> {
             return Err(Error::Io(ErrorKind::UnexpectedEof));
         }
         let (front, rest) = self.rest.split_at(n);
-        match std::str::from_utf8(front) {
-            Ok(text) => {
-                self.rest = rest;
-                self.taken += n;
-                Ok(text)
-            }
-            Err(_) => Err(Error::InvalidUtf8Encoding),
+        if !is_text(front) {
+            return Err(Error::InvalidUtf8Encoding);
         }
+        self.rest = rest;
+        self.taken += n;
+        Ok(unsafe { std::str::from_utf8_unchecked(front) })
     }
 
     /// The next `n` bytes, where there are so many. They stay.

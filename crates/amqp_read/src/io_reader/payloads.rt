@@ -13,7 +13,7 @@ ghost use Rattle.amqp_read.specs.Streaming.{with_received};
 
 use super::IoReader;
 use crate::buffer::PIECE;
-use crate::read::text_of;
+use crate::texts::{is_text, text_of};
 use amqp_base::{Error, Source};
 use std::alloc::Global;
 
@@ -92,17 +92,17 @@ impl<S: Source> IoReader<S> {
         if !self.can_ask_at_once(n, PIECE) {
             return Ok(None);
         }
-        let mut bytes = match Vec::from_elem(alloc, 0, n) {
+        let mut received = match Vec::from_elem(alloc, 0, n) {
             Ok(bytes) => bytes,
             Err(_) => return Err(Error::OutOfMemory),
         };
-        match self.source.read_some(&mut bytes) {
+        match self.source.read_some(&mut received) {
             Ok(got) => {
                 if got == n {
-                    return Ok(Some(bytes));
+                    return Ok(Some(received));
                 }
-                bytes.truncate(got);
-                self.buffer.take_over(bytes);
+                received.truncate(got);
+                self.buffer.take_over(received);
                 Ok(None)
             }
             Err(kind) => Err(Error::from(kind)),
@@ -131,16 +131,12 @@ impl<S: Source> IoReader<S> {
             self.new.reading) }
         ensures why { IfErr result (λ e. NotText bytes.items e) }
     {
-        match String::from_utf8(bytes) {
-            Ok(text) => {
-                self.consume_apart(text.as_bytes());
-                Ok(text)
-            }
-            Err(refused) => {
-                self.buffer.take_over(refused.into_bytes());
-                Err(Error::InvalidUtf8Encoding)
-            }
+        if !is_text(&bytes) {
+            self.buffer.take_over(bytes);
+            return Err(Error::InvalidUtf8Encoding);
         }
+        self.consume_apart(&bytes);
+        Ok(unsafe { String::from_utf8_unchecked(bytes) })
     }
 
     /// The next `n` bytes, by the buffer.

@@ -148,11 +148,47 @@ fn are_same(alloc: Global) -> bool {
     are_so
 }
 
+/// Of a hundred bytes ever more are looked at while some are consumed: as many as stand in the
+/// reader itself, and more.
+fn are_few_and_many<R: Read>(reader: &mut R) -> bool {
+    let mut is_so = is(reader.peek_at(29), Ok(Some(29)));
+    is_so = reader.skip(10).is_ok() && is_so;
+    is_so = is(reader.peek_at(21), Ok(Some(31))) && is_so;
+    is_so = is(reader.peek_at(22), Ok(Some(32))) && is_so;
+    is_so = is_bytes(reader, [10, 11, 12, 13, 14, 15, 16, 17, 18, 19, 20, 21, 22]) && is_so;
+    is_so = is(reader.peek_at(40), Ok(Some(63))) && is_so;
+    is_so = is_bytes(reader, [23, 24, 25, 26, 27, 28, 29, 30, 31, 32, 33, 34, 35]) && is_so;
+    is_so = reader.skip(60).is_ok() && is_so;
+    is_so = is(reader.peek_at(3), Ok(Some(99))) && is_so;
+    is_so = is(reader.peek_at(4), Ok(None)) && is_so;
+    is_so = is(reader.next(), Ok(Some(96))) && is_so;
+    reader.bytes_consumed() == 97 && is_so
+}
+
+/// The next thirteen bytes are these.
+fn is_bytes<R: Read>(reader: &mut R, want: [u8; 13]) -> bool {
+    is(read_const_bytes::<R, 13>(reader), Ok(want))
+}
+
+/// They are the same over a slice and over sources that give 1, 7, 32 or all of them a read.
+fn are_same_hundred(alloc: Global) -> bool {
+    let mut bytes = [0u8; 100];
+    for i in 0..bytes.len() {
+        bytes[i] = (i % 256) as u8;
+    }
+    let mut are_so = are_few_and_many(&mut SliceReader::new(&bytes));
+    for most in [1, 7, 32, 1000] {
+        are_so = are_few_and_many(&mut over(alloc, 100, most, 0)) && are_so;
+    }
+    are_so
+}
+
 #[test]
 fn a_source_is_read_however_it_cuts_its_bytes(rt: HostRuntime) {
     assert!(rt; are_three(rt.alloc()));
     assert!(rt; are_at_hand(rt.alloc()));
     assert!(rt; are_same(rt.alloc()));
+    assert!(rt; are_same_hundred(rt.alloc()));
     assert!(rt; fails_at(rt.alloc(), 1));
     assert!(rt; fails_at(rt.alloc(), 2));
     assert!(rt; fails_at(rt.alloc(), 12));
@@ -170,6 +206,54 @@ fn a_text_is_handed_on_where_it_is_one(rt: HostRuntime) {
     let alloc = rt.alloc();
     assert!(rt; is_text(alloc, b"\xc3\xa9", Answer::Taken, 2));
     assert!(rt; is_text(alloc, b"\xff", Answer::InvalidUtf8Encoding, 0));
+}
+
+/// Two hundred times `a`, with these bytes from an index on.
+fn with(piece: &[u8], at: usize) -> [u8; 200] {
+    let mut bytes = [b'a'; 200];
+    for (to, from) in bytes.iter_mut().skip(at).zip(piece.iter()) {
+        *to = *from;
+    }
+    bytes
+}
+
+/// The first `n` bytes are a text, or none.
+fn is_front_text(alloc: Global, bytes: &[u8], n: usize, want: Answer) -> bool {
+    let consumed = if want == Answer::Taken { n } else { 0 };
+    match bytes.get(..n) {
+        Some(front) => is_text(alloc, front, want, consumed),
+        None => false,
+    }
+}
+
+/// `n` bytes are a text with a character of two bytes at an index, where both find room, and none
+/// with a byte there that stands in no text.
+fn are_texts(alloc: Global, n: usize, at: usize) -> bool {
+    let cut = at.saturating_add(1) == n;
+    let two = if cut {
+        Answer::InvalidUtf8Encoding
+    } else {
+        Answer::Taken
+    };
+    let are_two = is_front_text(alloc, &with(b"\xc3\xa9", at), n, two);
+    let no_text = is_front_text(alloc, &with(b"\xff", at), n, Answer::InvalidUtf8Encoding);
+    are_two && no_text && is_front_text(alloc, &with(b"b", at), n, Answer::Taken)
+}
+
+#[test]
+fn each_byte_of_a_text_counts(rt: HostRuntime) {
+    let alloc = rt.alloc();
+    for n in [
+        1, 3, 4, 7, 8, 9, 15, 16, 17, 31, 32, 33, 63, 64, 65, 127, 128, 129, 200,
+    ] {
+        for at in [
+            0usize, 1, 5, 8, 15, 16, 30, 31, 32, 62, 63, 64, 65, 126, 127, 128, 199,
+        ] {
+            if at < n {
+                assert!(rt; are_texts(alloc, n, at), "{n} {at}");
+            }
+        }
+    }
 }
 
 /// Gives the bytes of a slice, so many a read at most.
