@@ -148,9 +148,8 @@ fn are_same(alloc: Global) -> bool {
     are_so
 }
 
-/// Of a hundred bytes ever more are looked at while some are consumed: as many as stand in the
-/// reader itself, and more.
-fn are_few_and_many<R: Read>(reader: &mut R) -> bool {
+/// Of a hundred bytes ever more are looked at while some are consumed.
+fn are_a_hundred<R: Read>(reader: &mut R) -> bool {
     let mut is_so = is(reader.peek_at(29), Ok(Some(29)));
     is_so = reader.skip(10).is_ok() && is_so;
     is_so = is(reader.peek_at(21), Ok(Some(31))) && is_so;
@@ -176,9 +175,9 @@ fn are_same_hundred(alloc: Global) -> bool {
     for i in 0..bytes.len() {
         bytes[i] = (i % 256) as u8;
     }
-    let mut are_so = are_few_and_many(&mut SliceReader::new(&bytes));
+    let mut are_so = are_a_hundred(&mut SliceReader::new(&bytes));
     for most in [1, 7, 32, 1000] {
-        are_so = are_few_and_many(&mut over(alloc, 100, most, 0)) && are_so;
+        are_so = are_a_hundred(&mut over(alloc, 100, most, 0)) && are_so;
     }
     are_so
 }
