@@ -216,6 +216,17 @@ impl Source for &[u8] {
 
     #[inline(always)]
     fn read_some(&mut self, buf: &mut [u8]) -> Result<usize, io::ErrorKind> {
+        // what is read by the byte is asked for so often that a copy's call would show
+        if buf.len() == 1 {
+            return match self.split_first() {
+                Some((first, rest)) => {
+                    buf[0] = *first;
+                    *self = rest;
+                    Ok(1)
+                }
+                None => Ok(0),
+            };
+        }
         let n = buf.len().min(self.len());
         let (front, rest) = self.split_at(n);
         let (head, _) = buf.split_at_mut(n);
