@@ -222,6 +222,9 @@ impl<R: Read, T: Deserialize<R>> Deserialize<R> for Vec<T> {
     #[inline(always)]
     fn deserialize(alloc: Global, de: &mut Deserializer<R>) -> Result<Vec<T>, Error> {
         let mut access = de.deserialize_elements(alloc)?;
+        if let Err(e) = access.receive_ahead() {
+            return Err(e);
+        }
         let announced = access.inner.left;
         let room = access.de.room(announced);
         let mut items = Vec::with_capacity(alloc, room)?;

@@ -1,5 +1,5 @@
 -- What asking a source for more does to what is to come.
-use Rattle.std.proofs.Common.{◌≡◌, ◌⊎◌, ◌<◌, ◌≤◌, ◌+◌, ◌++◌, [], ◌∷◌, List, ℕ, zero, suc, length, take, drop, arith, Option, Some, None, refl, sym, ap, ◌∙◌, append_assoc, Bool, true, false, IsTrue, MatchOption, IfSome, OnOk, Result, Ok, Err, inl, inr, subst, max}
+use Rattle.std.proofs.Common.{◌≡◌, ◌⊎◌, ◌<◌, ◌≤◌, ◌+◌, ◌++◌, [], ◌∷◌, List, ℕ, zero, suc, length, take, drop, arith, Option, Some, None, refl, sym, ap, ◌∙◌, append_assoc, Bool, true, false, IsTrue, MatchOption, IfSome, IfOk, OnOk, Result, Ok, Err, inl, inr, subst, max}
 use Rattle.std.specs.Borrow.{GName}
 use Rattle.std.specs.Io.KnownBytes.{Consumes, Keeps, prepend_known}
 use Rattle.std.proofs.lemmas.List.{drop-append-le, take-append-le, drop_all, take_all, length-append, length-take-le, drop-drop, take-append-drop}
@@ -187,6 +187,11 @@ apart_counted u bytes r t f l h o e none =
 -- bytes that were received apart from the buffer are consumed
 pub apart_takes : {bytes held : List ℕ} {a b d : Reading} → IsApart bytes a b → held ≡ bytes → Takes (with_received held b) d held → Takes a d bytes
 apart_takes p same q = looked_takes p.looked (rw (sym same) q) refl
+
+-- a call that looked first reads what a call behind it reads
+pub looked_reads : {A E : Type 0} (now : A → List ℕ) (result : Result A E) (d : Reading) {n : ℕ} {a b : Reading} → Looked n a b → IfOk result (λ v. length (now v) ≡ n) → IfOk result (λ v. Takes b d (now v)) → IfOk result (λ v. Takes a d (now v))
+looked_reads now (Ok v) d looked len takes = looked_takes looked takes len
+looked_reads now (Err e) d looked len takes = tt
 
 consumes_none : (known : Option (List ℕ)) → Consumes known known []
 consumes_none None = tt

@@ -2,17 +2,16 @@
 
 ghost use Rattle.std.specs.Prelude.{◌≡◌, ◌<◌, ◌≤◌, ◌+◌, ◌-◌, ◌*◌};
 ghost use Rattle.std.specs.Prelude.{◌++◌, max, true, [], length};
-ghost use Rattle.std.specs.Prelude.{take, drop, OnOk, OnErr, IfOk, IfErr, IfSome, IsTrue, None};
+ghost use Rattle.std.specs.Prelude.{take, drop, OnErr, IfOk, IfErr, IfSome, IsTrue, None};
 ghost use Rattle.std.specs.Prelude.{MatchOption};
 ghost use Rattle.std.specs.Io.KnownBytes.{IsAtEnd, ReadConsumes};
-ghost use Rattle.amqp_base.specs.declared.error.Error.TheVariants.{OutOfMemory};
-ghost use Rattle.amqp_base.specs.Faults.{Counts, Remembers};
+ghost use Rattle.amqp_base.specs.Faults.{Counts, Remembers, refusal_of};
 ghost use Rattle.amqp_read.specs.Reading.{Stays};
 ghost use Rattle.amqp_read.specs.Steps.{Fails};
 ghost use Rattle.amqp_read.specs.Streaming.{Fronted, reads};
 
 use crate::greatest::Greatest;
-use amqp_base::{Count, Error, Source};
+use amqp_base::{Count, Source};
 use std::alloc::Global;
 use std::io::ErrorKind;
 use std::marker::Model;
@@ -113,13 +112,12 @@ impl Buffer {
         }
     }
 
-    /// Finds room for `n` bytes more, and at once for as many as are held where `most` are to come.
-    /// Small vectors grow as every vector does, by 64 bytes at least, and large ones no further
+    /// Finds room for `n` bytes more, and at once for as many as are held where `most` are to come:
+    /// whether there is memory for it. Small vectors grow as every vector does, by 64 bytes at least, and large ones no further
     /// than for `most`.
-    fn grow(&mut self, n: usize, most: usize) -> Result<(), Error>
+    fn grow(&mut self, n: usize, most: usize) -> bool
         ensures others { self.new ≡ record self.old { room = self.new.room } }
-        ensures ok { OnOk result (n ≤ self.new.room) }
-        ensures err { IfErr result (λ e. e ≡ OutOfMemory) }
+        ensures found { IsTrue result → n ≤ self.new.room }
     {
         let held = self.bytes.len();
         let grown = if held < PIECE || most < held / 4 {
@@ -127,30 +125,23 @@ impl Buffer {
         } else {
             self.bytes.reserve_exact(held.min(most).max(n))
         };
-        match grown {
-            Ok(()) => Ok(()),
-            Err(_) => Err(Error::OutOfMemory),
-        }
+        grown.is_ok()
     }
 
     /// Finds room for `n` bytes more of `most` that are to come, and moves the unread bytes to the
-    /// front where they begin in the second half.
+    /// front where they begin in the second half: whether there is memory for it.
     #[inline(always)]
-    pub(crate) fn make_room(&mut self, n: usize, most: usize) -> Result<(), Error>
+    pub(crate) fn make_room(&mut self, n: usize, most: usize) -> bool
         ensures front { Fronted self.old self.new }
         ensures first_half { 2 * self.new.start ≤ self.new.length }
         ensures seen { length self.new.unread ≤ self.new.most }
         ensures moved { self.new.moved + self.new.start ≤ self.old.moved + self.old.start }
-        ensures ok { OnOk result (n ≤ self.new.room) }
-        ensures err { IfErr result (λ e. e ≡ OutOfMemory) }
+        ensures found { IsTrue result → n ≤ self.new.room }
     {
         if self.start > 0 {
             self.move_to_front();
         }
-        if n <= self.bytes.capacity() - self.bytes.len() {
-            return Ok(());
-        }
-        self.grow(n, most)
+        n <= self.bytes.capacity() - self.bytes.len() || self.grow(n, most)
     }
 
     /// Moves the unread bytes to the front where they begin in the second half.
@@ -213,7 +204,12 @@ impl Buffer {
 
     /// Asks a source once for some of `n` bytes and keeps what it gives: how many. Memory is asked
     /// for first.
-    pub(crate) fn receive<S: Source>(&mut self, source: &mut S, n: usize) -> Result<usize, Error>
+    #[tactic(auto, unfolding(amqp_base::specs::Faults::refusal_of))]
+    pub(crate) fn receive<S: Source>(
+        &mut self,
+        source: &mut S,
+        n: usize,
+    ) -> Result<usize, ErrorKind>
         ensures stays { Stays
             (reads self.old.unread (S.remaining source.old) 0 (S.faults source.old)
             (S.last_fault source.old) (S.is_honest source.old) (S.origin source.old))
@@ -228,19 +224,24 @@ impl Buffer {
         ensures kept { OnErr result (self.new.unread ≡ self.old.unread) }
         ensures moved { self.new.moved + self.new.start ≤ self.old.moved + self.old.start }
         ensures most { self.new.most ≡ max self.old.most (length self.new.unread) }
-        ensures why { IfErr result (λ e. Fails true true
+        ensures why { IfErr result (λ kind. Fails true true
             (reads self.old.unread (S.remaining source.old) 0 (S.faults source.old)
             (S.last_fault source.old) (S.is_honest source.old) (S.origin source.old))
             (reads self.new.unread (S.remaining source.new) 0 (S.faults source.new)
-            (S.last_fault source.new) (S.is_honest source.new) (S.origin source.new)) e) }
+            (S.last_fault source.new) (S.is_honest source.new) (S.origin source.new))
+            (refusal_of kind)) }
     {
         let piece = n.min(PIECE);
-        self.make_room(piece, n)?;
+        if !self.make_room(piece, n) {
+            return Err(ErrorKind::OutOfMemory);
+        }
         let have = self.bytes.len();
         let Some(wanted) = have.checked_add(piece) else {
-            return Err(Error::OutOfMemory);
+            return Err(ErrorKind::OutOfMemory);
         };
-        self.bytes.resize(wanted, 0)?;
+        if self.bytes.resize(wanted, 0).is_err() {
+            return Err(ErrorKind::OutOfMemory);
+        }
         match read_behind(source, &mut self.bytes, have) {
             Ok(got) => {
                 self.bytes.truncate(have + got);
@@ -249,7 +250,7 @@ impl Buffer {
             }
             Err(kind) => {
                 self.bytes.truncate(have);
-                Err(Error::from(kind))
+                Err(kind)
             }
         }
     }

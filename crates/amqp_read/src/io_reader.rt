@@ -111,10 +111,10 @@ impl<S: Source> IoReader<S> {
             NotSeen true true n self.old.reading self.new.reading e) }
         ensures most { SawMore self.old self.new }
     {
-        if self.fill(n)? {
-            Ok(())
-        } else {
-            Err(Error::Io(ErrorKind::UnexpectedEof))
+        match self.fill(n) {
+            Ok(true) => Ok(()),
+            Ok(false) => Err(Error::Io(ErrorKind::UnexpectedEof)),
+            Err(kind) => Err(Error::from(kind)),
         }
     }
 
@@ -157,10 +157,11 @@ impl<S: Source> Read for IoReader<S> {
 
     ghost buffers = { true };
 
+    #[inline(always)]
     fn peek(&mut self) -> Result<Option<u8>, Error> {
-        match self.fill(1) {
-            Ok(_) => Ok(self.buffer.unread().first().copied()),
-            Err(e) => Err(e),
+        match self.buffer.unread().first() {
+            Some(b) => Ok(Some(*b)),
+            None => self.look(),
         }
     }
 
@@ -199,11 +200,17 @@ impl<S: Source> Read for IoReader<S> {
     fn peek_bytes(&mut self, n: usize) -> Result<Option<&[u8]>, Error> {
         match self.fill(n) {
             Ok(_) => Ok(self.buffer.front(n)),
-            Err(refusal) => Err(refusal),
+            Err(refusal) => Err(Error::from(refusal)),
         }
     }
 
     fn read_bytes(&mut self, alloc: Global, n: usize) -> Result<Vec<u8>, Error> {
+        if self.has_received(n) {
+            return match self.take_received_bytes(alloc, n) {
+                Ok(bytes) => Ok(bytes),
+                Err(e) => Err(e),
+            };
+        }
         match self.receive_at_once(alloc, n) {
             Ok(Some(bytes)) => {
                 self.consume_apart(&bytes);
@@ -219,6 +226,12 @@ impl<S: Source> Read for IoReader<S> {
 
     #[inline(always)]
     fn forward_read_str(&mut self, alloc: Global, n: usize) -> Result<String, Error> {
+        if self.has_received(n) {
+            return match self.take_received_text(alloc, n) {
+                Ok(text) => Ok(text),
+                Err(e) => Err(e),
+            };
+        }
         match self.receive_at_once(alloc, n) {
             Ok(Some(bytes)) => match self.take_text(bytes) {
                 Ok(text) => Ok(text),
@@ -240,7 +253,7 @@ impl<S: Source> Read for IoReader<S> {
                 None => Err(Error::OutOfMemory),
             },
             Ok(false) => Ok(None),
-            Err(e) => Err(e),
+            Err(kind) => Err(Error::from(kind)),
         }
     }
 
@@ -257,7 +270,7 @@ impl<S: Source> Read for IoReader<S> {
                 }
             }
             Ok(false) => Err(Error::Io(ErrorKind::UnexpectedEof)),
-            Err(e) => Err(e),
+            Err(kind) => Err(Error::from(kind)),
         }
     }
 
@@ -283,7 +296,7 @@ impl<S: Source> Read for IoReader<S> {
         let asked = self.more(n);
         match asked {
             Ok(_) => Ok(()),
-            Err(e) => Err(e),
+            Err(kind) => Err(Error::from(kind)),
         }
     }
 

@@ -6,6 +6,7 @@ ghost use Rattle.std.specs.Prelude.{IfOk, IfErr, OnOk, OnErr, IsTrue, MatchOptio
 ghost use Rattle.std.specs.Prelude.{Some, None};
 ghost use Rattle.amqp_base.specs.declared.error.Error.TheVariants.{Io};
 ghost use Rattle.amqp_read.specs.Reading.{Stays, Takes};
+ghost use Rattle.amqp_base.specs.Faults.{refusal_of};
 ghost use Rattle.amqp_read.specs.Steps.{Ended, Looked, Fails, NotTaken};
 ghost use Rattle.amqp_read.specs.Steps.{PassesCount};
 
@@ -49,7 +50,8 @@ impl<S: Source> IoReader<S> {
 
     /// Asks the source once for all of `block`: whether it gave it. What it gave else is kept, and
     /// `block` stays.
-    fn read_small(&mut self, block: &mut [u8]) -> Result<bool, Error>
+    #[tactic(auto, unfolding(amqp_base::specs::Faults::refusal_of))]
+    fn read_small(&mut self, block: &mut [u8]) -> Result<bool, ErrorKind>
         requires received { self.old.reading.received ≡ [] }
         requires some { 0 < length block.old }
         requires few { length block.old ≤ 16 }
@@ -62,13 +64,12 @@ impl<S: Source> IoReader<S> {
             × (block.new ≡ block.old)) }
         ensures err { OnErr result (Stays self.old.reading self.new.reading
             × (block.new ≡ block.old)) }
-        ensures why { IfErr result (λ e.
-            Fails true true self.old.reading self.new.reading e) }
+        ensures why { IfErr result (λ kind.
+            Fails true true self.old.reading self.new.reading (refusal_of kind)) }
     {
         let n = block.len();
-        match self.buffer.make_room(n, n) {
-            Ok(()) => {}
-            Err(e) => return Err(e),
+        if !self.buffer.make_room(n, n) {
+            return Err(ErrorKind::OutOfMemory);
         }
         let mut small = [0; SMALL];
         match self.source.read_some(&mut small[..n]) {
@@ -82,12 +83,12 @@ impl<S: Source> IoReader<S> {
                     Ok(false)
                 }
             }
-            Err(kind) => Err(Error::from(kind)),
+            Err(kind) => Err(kind),
         }
     }
 
     /// Asks the source once for a small `block` where nothing was received: whether it gave it.
-    fn read_at_once(&mut self, block: &mut [u8]) -> Result<bool, Error>
+    fn read_at_once(&mut self, block: &mut [u8]) -> Result<bool, ErrorKind>
         ensures len { length block.new ≡ length block.old }
         ensures taken { IfOk result (λ all. IsTrue all →
             Takes self.old.reading self.new.reading block.new) }
@@ -96,8 +97,8 @@ impl<S: Source> IoReader<S> {
             × (block.new ≡ block.old)) }
         ensures err { OnErr result (Stays self.old.reading self.new.reading
             × (block.new ≡ block.old)) }
-        ensures why { IfErr result (λ e.
-            Fails true true self.old.reading self.new.reading e) }
+        ensures why { IfErr result (λ kind.
+            Fails true true self.old.reading self.new.reading (refusal_of kind)) }
     {
         let n = block.len();
         if self.can_ask_at_once(n, SMALL) {
@@ -137,7 +138,7 @@ impl<S: Source> IoReader<S> {
         match self.read_at_once(block) {
             Ok(true) => Ok(()),
             Ok(false) => self.read_buffered(block),
-            Err(e) => Err(e),
+            Err(kind) => Err(Error::from(kind)),
         }
     }
 
@@ -177,10 +178,25 @@ impl<S: Source> IoReader<S> {
         if self.bytes_consumed() != usize::MAX {
             return self.next_of_source();
         }
+        self.next_uncounted()
+    }
+
+    /// What is answered where one byte more can't be counted.
+    #[cold]
+    #[inline(never)]
+    fn next_uncounted(&mut self) -> Result<Option<u8>, Error>
+        requires uncounted { 2 ^ 64 ≤ self.old.reading.taken + 1 }
+        ensures ok { IfOk result (λ o. MatchOption o
+            (Stays self.old.reading self.new.reading × Ended self.old.reading)
+            (λ b. Takes self.old.reading self.new.reading (b ∷ []))) }
+        ensures err { OnErr result (Stays self.old.reading self.new.reading) }
+        ensures why { IfErr result (λ e. Fails true true self.old.reading self.new.reading e
+            ⊎ PassesCount true 1 self.old.reading e) }
+    {
         match self.fill(1) {
             Ok(true) => Err(self.uncounted_byte()),
             Ok(false) => Ok(None),
-            Err(e) => Err(e),
+            Err(kind) => Err(Error::from(kind)),
         }
     }
 

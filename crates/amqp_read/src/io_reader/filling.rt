@@ -1,11 +1,12 @@
 //! Receiving until so many bytes are unread.
 
 ghost use Rattle.std.specs.Prelude.{◌≡◌, ◌<◌, ◌≤◌, ◌+◌, ◌^◌};
-ghost use Rattle.std.specs.Prelude.{true, false, length};
-ghost use Rattle.std.specs.Prelude.{IfOk, IfErr, OnOk, IsTrue};
+ghost use Rattle.std.specs.Prelude.{true, false, [], ◌∷◌, length};
+ghost use Rattle.std.specs.Prelude.{IfOk, IfErr, OnOk, IsTrue, MatchOption};
 ghost use Rattle.std.specs.declared.io.ErrorKind.TheVariants.{UnexpectedEof};
 ghost use Rattle.amqp_base.specs.declared.error.Error.TheVariants.{Io};
-ghost use Rattle.amqp_read.specs.Steps.{IsShort, Looked, Fails, NotTaken};
+ghost use Rattle.amqp_base.specs.Faults.{refusal_of};
+ghost use Rattle.amqp_read.specs.Steps.{Ended, IsShort, Looked, Fails, NotTaken, Shows};
 ghost use Rattle.amqp_read.specs.Streaming.{SawMore};
 
 use super::IoReader;
@@ -14,38 +15,63 @@ use std::io::ErrorKind;
 
 impl<S: Source> IoReader<S> {
     /// Asks the source once for what `n` unread bytes lack: whether it gave some.
-    pub(super) fn more(&mut self, n: usize) -> Result<bool, Error>
+    pub(super) fn more(&mut self, n: usize) -> Result<bool, ErrorKind>
         requires { length self.old.reading.received < n }
         ensures looked { Looked n self.old.reading self.new.reading }
         ensures some { IfOk result (λ some. IsTrue some →
             length self.old.reading.received < length self.new.reading.received) }
         ensures short { IfOk result (λ some. some ≡ false → IsShort n self.old.reading) }
-        ensures why { IfErr result (λ e.
-            Fails true true self.old.reading self.new.reading e) }
+        ensures why { IfErr result (λ kind.
+            Fails true true self.old.reading self.new.reading (refusal_of kind)) }
         ensures most { SawMore self.old self.new }
     {
         let lacking = n - self.buffer.len();
-        let got = self.buffer.receive(&mut self.source, lacking)?;
-        Ok(got != 0)
+        match self.buffer.receive(&mut self.source, lacking) {
+            Ok(got) => Ok(got != 0),
+            Err(kind) => Err(kind),
+        }
     }
 
     /// Whether `n` bytes are received and unread, once the source was asked for what they lack.
-    pub(super) fn fill(&mut self, n: usize) -> Result<bool, Error>
+    pub(super) fn fill(&mut self, n: usize) -> Result<bool, ErrorKind>
         ensures looked { Looked n self.old.reading self.new.reading }
         ensures full { IfOk result (λ f. IsTrue f → n ≤ length self.new.reading.received) }
         ensures short { IfOk result (λ f. f ≡ false → IsShort n self.old.reading) }
-        ensures why { IfErr result (λ e.
-            Fails true true self.old.reading self.new.reading e) }
+        ensures why { IfErr result (λ kind.
+            Fails true true self.old.reading self.new.reading (refusal_of kind)) }
         ensures most { SawMore self.old self.new }
     {
         'bytes: while self.received() < n {
             match self.more(n) {
                 Ok(true) => {}
                 Ok(false) => return Ok(false),
-                Err(e) => return Err(e),
+                Err(kind) => return Err(kind),
             }
         }
         Ok(true)
+    }
+
+    /// The next byte, where none was received. It stays, so room for it is found first.
+    pub(super) fn look(&mut self) -> Result<Option<u8>, Error>
+        requires received { self.old.reading.received ≡ [] }
+        ensures ok { IfOk result (λ o. MatchOption o (Ended self.old.reading) (λ b.
+            Shows self.new.reading (b ∷ []))) }
+        ensures looked { Looked 1 self.old.reading self.new.reading }
+        ensures why { IfErr result (λ e.
+            Fails true true self.old.reading self.new.reading e) }
+    {
+        if !self.buffer.make_room(1, 1) {
+            return Err(Error::OutOfMemory);
+        }
+        let mut byte = [0; 1];
+        match self.source.read_some(&mut byte) {
+            Ok(0) => Ok(None),
+            Ok(_) => {
+                self.buffer.append(&byte);
+                Ok(Some(byte[0]))
+            }
+            Err(kind) => Err(Error::from(kind)),
+        }
     }
 
     /// Receives bytes until `n` are unread that can be counted.
@@ -60,7 +86,7 @@ impl<S: Source> IoReader<S> {
             Ok(true) if n > usize::MAX - self.taken => Err(Error::Io(ErrorKind::Other)),
             Ok(true) => Ok(()),
             Ok(false) => Err(Error::Io(ErrorKind::UnexpectedEof)),
-            Err(e) => Err(e),
+            Err(kind) => Err(Error::from(kind)),
         }
     }
 }

@@ -57,6 +57,7 @@ impl<S: Source> IoReader<S> {
     }
 
     /// A copy of the next `n` bytes as a text, which were received, and which are consumed.
+    #[inline(always)]
     fn take_front_text(&mut self, alloc: Global, n: usize) -> Result<String, Error>
         requires received { n ≤ length self.old.reading.received }
         requires counted { self.old.reading.taken + n < 2 ^ 64 }
@@ -67,9 +68,13 @@ impl<S: Source> IoReader<S> {
         ensures why { IfErr result (λ e.
             NoText n self.old.reading e ⊎ (e ≡ OutOfMemory)) }
     {
-        let text = text_of(alloc, &self.buffer.unread()[..n])?;
-        self.consume(n);
-        Ok(text)
+        match text_of(alloc, &self.buffer.unread()[..n]) {
+            Ok(text) => {
+                self.consume(n);
+                Ok(text)
+            }
+            Err(e) => Err(e),
+        }
     }
 
     /// Asks the source once for `n` bytes, where nothing was received and they aren't many: the
@@ -139,6 +144,67 @@ impl<S: Source> IoReader<S> {
         Ok(unsafe { String::from_utf8_unchecked(bytes) })
     }
 
+    /// The next `n` bytes, which were received, and which are consumed.
+    pub(super) fn take_received_bytes(&mut self, alloc: Global, n: usize) -> Result<Vec<u8>, Error>
+        requires received { n ≤ length self.old.reading.received }
+        requires counted { self.old.reading.taken + n < 2 ^ 64 }
+        ensures len { IfOk result (λ v. length v.items ≡ n) }
+        ensures ok { IfOk result (λ v. Takes self.old.reading self.new.reading v.items) }
+        ensures kept { OnErr result (self.new.reading ≡ self.old.reading) }
+        ensures err { IfErr result (λ e. e ≡ OutOfMemory) }
+    {
+        match self.hand_over(alloc, n) {
+            Some(bytes) => {
+                self.consume_apart(&bytes);
+                Ok(bytes)
+            }
+            None => self.take_front(alloc, n),
+        }
+    }
+
+    /// The next `n` bytes as a text, which were received, and which are consumed.
+    #[inline(always)]
+    pub(super) fn take_received_text(&mut self, alloc: Global, n: usize) -> Result<String, Error>
+        requires received { n ≤ length self.old.reading.received }
+        requires counted { self.old.reading.taken + n < 2 ^ 64 }
+        ensures len { IfOk result (λ t. length (string_bytes t) ≡ n) }
+        ensures ok { IfOk result (λ t.
+            Takes self.old.reading self.new.reading (string_bytes t)) }
+        ensures err { OnErr result (Stays self.old.reading self.new.reading) }
+        ensures why { IfErr result (λ e.
+            NoText n self.old.reading e ⊎ (e ≡ OutOfMemory)) }
+    {
+        if n < PIECE {
+            return match self.take_front_text(alloc, n) {
+                Ok(text) => Ok(text),
+                Err(e) => Err(e),
+            };
+        }
+        match self.take_long_text(alloc, n) {
+            Ok(text) => Ok(text),
+            Err(e) => Err(e),
+        }
+    }
+
+    /// The same of many bytes: where they are all that the buffer holds, its memory becomes the
+    /// text's.
+    #[inline(never)]
+    fn take_long_text(&mut self, alloc: Global, n: usize) -> Result<String, Error>
+        requires received { n ≤ length self.old.reading.received }
+        requires counted { self.old.reading.taken + n < 2 ^ 64 }
+        ensures len { IfOk result (λ t. length (string_bytes t) ≡ n) }
+        ensures ok { IfOk result (λ t.
+            Takes self.old.reading self.new.reading (string_bytes t)) }
+        ensures err { OnErr result (Stays self.old.reading self.new.reading) }
+        ensures why { IfErr result (λ e.
+            NoText n self.old.reading e ⊎ (e ≡ OutOfMemory)) }
+    {
+        match self.hand_over(alloc, n) {
+            Some(bytes) => self.take_text(bytes),
+            None => self.take_front_text(alloc, n),
+        }
+    }
+
     /// The next `n` bytes, by the buffer.
     pub(super) fn read_bytes_buffered(&mut self, alloc: Global, n: usize) -> Result<Vec<u8>, Error>
         ensures len { IfOk result (λ v. length v.items ≡ n) }
@@ -148,16 +214,7 @@ impl<S: Source> IoReader<S> {
             NotTaken true true n self.old.reading self.new.reading e) }
     {
         match self.receive_all(n) {
-            Ok(()) => match self.hand_over(alloc, n) {
-                Some(bytes) => {
-                    self.consume_apart(&bytes);
-                    Ok(bytes)
-                }
-                None => match self.take_front(alloc, n) {
-                    Ok(bytes) => Ok(bytes),
-                    Err(e) => Err(e),
-                },
-            },
+            Ok(()) => self.take_received_bytes(alloc, n),
             Err(e) => Err(e),
         }
     }
@@ -172,16 +229,7 @@ impl<S: Source> IoReader<S> {
             ⊎ NotTaken true true n self.old.reading self.new.reading e) }
     {
         match self.receive_all(n) {
-            Ok(()) => match self.hand_over(alloc, n) {
-                Some(bytes) => match self.take_text(bytes) {
-                    Ok(text) => Ok(text),
-                    Err(e) => Err(e),
-                },
-                None => match self.take_front_text(alloc, n) {
-                    Ok(text) => Ok(text),
-                    Err(e) => Err(e),
-                },
-            },
+            Ok(()) => self.take_received_text(alloc, n),
             Err(e) => Err(e),
         }
     }

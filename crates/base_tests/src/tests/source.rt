@@ -98,6 +98,20 @@ fn slice_gives_all(bytes: &[u8]) -> bool {
     gives_four(&mut bytes) && bytes.is_empty()
 }
 
+/// Each byte is given alone, and then none.
+fn gives_each<S: Source>(source: &mut S) -> bool {
+    let mut one = [0u8; 1];
+    let is_first = gives(source, &mut one, 1, b"a");
+    let is_second = gives(source, &mut one, 1, b"m");
+    gives(source, &mut one, 0, b"m") && is_first && is_second
+}
+
+/// A slice gives its bytes one by one, and has none behind them.
+fn slice_gives_each(bytes: &[u8]) -> bool {
+    let mut bytes = bytes;
+    gives_each(&mut bytes) && bytes.is_empty()
+}
+
 /// Three are given, behind one that was given before.
 fn gives_three<S: Source>(source: &mut S) -> bool {
     let mut buf = *b"pmq";
@@ -114,6 +128,7 @@ fn lent_gives_three(bytes: &[u8]) -> bool {
 #[test]
 fn a_slice_gives_its_bytes(rt: HostRuntime) {
     assert!(rt; slice_gives_all(b"amqp"));
+    assert!(rt; slice_gives_each(b"am"));
     assert!(rt; lent_gives_three(b"amqp"));
 }
 

@@ -1,4 +1,4 @@
-use Rattle.std.proofs.Common.{rules, ◌||◌, true, refl, sym, subst, ◌∙◌, arith}
+use Rattle.std.proofs.Common.{rules, ◌||◌, [], true, refl, sym, subst, ◌∙◌, arith}
 use Rattle.std.proofs.lemmas.Result.{err_from_is_err_and}
 use Rattle.amqp_de.specs.Access.{Listing}
 use Rattle.amqp_de.specs.Decoding.{as_ended}
@@ -29,19 +29,31 @@ items-init g c =
       from = from;
       now = from;
       opened = c.in_ok-access.ensures.opened;
-      ahead = ahead_start from;
+      ahead = c.in_default.ensures.ahead;
       sofar = sofar_start m.takes m.means from c.args.de.now c.in_ok-items.items.items c.in_ok-access.ensures.opened.1.opens c.in_ok-items.ensures.items;
       reaches = reach_start m.takes m.refuses from;
     }
 
--- the source failed meanwhile
+-- the source failed before the first element
 pub returns-in-Err-clause-err : goal.returns-in-Err-clause-err
 unfolding open_list
 returns-in-Err-clause-err g c =
     let m = g.T.Typed.meaning in
-    let v = c.items.invariant in
+    let from = listing c.in_ok-access.access in
     let r = listing c.receive_ahead.new.self in
-    let n = ahead_failed {grows = true} v.now (listing c.items.access) r (λ _. refl) v.ahead v.sofar.reads.not_ended c.in-Err.ensures.ahead c.in-Err.ensures.why in
+    let opens = c.in_ok-access.ensures.opened.1.opens in
+    let s = sofar_start m.takes m.means from c.args.de.now [] opens refl in
+    let n = ahead_failed {grows = true} from from r (λ _. refl) (ahead_start from) s.reads.not_ended c.in-Err.ensures.ahead c.in-Err.ensures.why in
+    missed_at _ _ (search rules) (part_missed m.takes m.means g.R.Read.buffers c.args.de.now from from [] opens s true (ended_on r) _ n)
+
+-- the source failed meanwhile
+pub returns-in-Err-receive_ahead-clause-err : goal.returns-in-Err-receive_ahead-clause-err
+unfolding open_list
+returns-in-Err-receive_ahead-clause-err g c =
+    let m = g.T.Typed.meaning in
+    let v = c.items.invariant in
+    let r = listing c.receive_ahead-in-items.new.self in
+    let n = ahead_failed {grows = true} v.now (listing c.items.access) r (λ _. refl) v.ahead v.sofar.reads.not_ended c.in-Err-receive_ahead.ensures.ahead c.in-Err-receive_ahead.ensures.why in
     missed_at _ _ (search rules) (part_missed m.takes m.means g.R.Read.buffers c.args.de.now v.from v.now c.items.items.items v.opened.1.opens v.sofar true (ended_on r) _ n)
 
 -- no memory was there for many at once
@@ -107,7 +119,7 @@ pub returns-clause-ok : goal.returns-clause-ok
 unfolding open_list
 returns-clause-ok g c =
     let m = g.T.Typed.meaning in
-    let f = rw c.in_default.is at c.in-Ok-next_element.ensures.next in
+    let f = rw c.in_default-2.is at c.in-Ok-next_element.ensures.next in
     let v = c.items.invariant in
     let a = ahead_more v.now _ _ v.ahead c.in-Ok.ensures.ahead in
     let r = c.in-Ok-read_many.ensures.read in
@@ -147,11 +159,22 @@ pub returns-in-Err-clause-named : goal.returns-in-Err-clause-named
 unfolding open_list
 returns-in-Err-clause-named g c =
     let m = g.T.Typed.meaning in
-    let v = c.items.invariant in
+    let from = listing c.in_ok-access.access in
     let r = listing c.receive_ahead.new.self in
+    let opened = c.in_ok-access.ensures.opened in
+    let s = sofar_start m.takes m.means from c.args.de.now [] opened.1.opens refl in
+    let n = ahead_failed {takes = m.takes} {grows = true} from from r (λ _. refl) (ahead_start from) s.reads.not_ended c.in-Err.ensures.ahead c.in-Err.ensures.why in
+    reach_named m.takes m.refuses {grows = true} g.R.Read.buffers c.args.de.now _ _ from from (ended_on r) opened s.reads (reach_start m.takes m.refuses from) (n.some_left s.reads.not_ended) (ahead_failed_named from from r (λ _. refl) (ahead_start from) c.in-Err.ensures.why) (search rules)
+
+pub returns-in-Err-receive_ahead-clause-named : goal.returns-in-Err-receive_ahead-clause-named
+unfolding open_list
+returns-in-Err-receive_ahead-clause-named g c =
+    let m = g.T.Typed.meaning in
+    let v = c.items.invariant in
+    let r = listing c.receive_ahead-in-items.new.self in
     let here = listing c.items.access in
-    let n = ahead_failed {takes = m.takes} {grows = true} v.now here r (λ _. refl) v.ahead v.sofar.reads.not_ended c.in-Err.ensures.ahead c.in-Err.ensures.why in
-    reach_named m.takes m.refuses {grows = true} g.R.Read.buffers c.args.de.now _ _ v.from v.now (ended_on r) v.opened v.sofar.reads v.reaches (n.some_left v.sofar.reads.not_ended) (ahead_failed_named v.now here r (λ _. refl) v.ahead c.in-Err.ensures.why) (search rules)
+    let n = ahead_failed {takes = m.takes} {grows = true} v.now here r (λ _. refl) v.ahead v.sofar.reads.not_ended c.in-Err-receive_ahead.ensures.ahead c.in-Err-receive_ahead.ensures.why in
+    reach_named m.takes m.refuses {grows = true} g.R.Read.buffers c.args.de.now _ _ v.from v.now (ended_on r) v.opened v.sofar.reads v.reaches (n.some_left v.sofar.reads.not_ended) (ahead_failed_named v.now here r (λ _. refl) v.ahead c.in-Err-receive_ahead.ensures.why) (search rules)
 
 pub returns-in-Err-read_many-clause-named : goal.returns-in-Err-read_many-clause-named
 unfolding open_list
@@ -181,7 +204,7 @@ pub returns-in_err-end-clause-named : goal.returns-in_err-end-clause-named
 unfolding open_list
 returns-in_err-end-clause-named g c =
     let m = g.T.Typed.meaning in
-    let f = rw c.in_default.is at c.in-Ok-next_element.ensures.next in
+    let f = rw c.in_default-2.is at c.in-Ok-next_element.ensures.next in
     let v = c.items.invariant in
     let a = ahead_more v.now _ _ v.ahead c.in-Ok.ensures.ahead in
     let r = c.in-Ok-read_many.ensures.read in

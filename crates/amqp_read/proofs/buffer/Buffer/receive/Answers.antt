@@ -18,7 +18,7 @@ returns-in-Ok-clause-stays g c =
     rw kept (received_stays _ _ _ _ _ _ _ _ _ _ _ _ _ c.in-Ok.ensures.read.0 c.in-Ok.ensures.counts c.in-Ok.ensures.honest c.in-Ok.ensures.origin)
 
 pub returns-in-Err-clause-why : goal.returns-in-Err-clause-why
-returns-in-Err-clause-why g c = rw c.from.ensures (fault_fails _ refl c.in-Err.ensures.counts c.in-Err.ensures.kind)
+returns-in-Err-clause-why g c = fault_fails _ refl c.in-Err.ensures.counts c.in-Err.ensures.kind
 
-pub returns-in_err-make_room-clause-most : goal.returns-in_err-make_room-clause-most
-returns-in_err-make_room-clause-most g c = let same = c.make_room.ensures.front.most in let seen = c.make_room.ensures.seen in omega arith
+pub returns-then-not-make_room-clause-most : goal.returns-then-not-make_room-clause-most
+returns-then-not-make_room-clause-most g c = let same = c.make_room.ensures.front.most in let seen = c.make_room.ensures.seen in omega arith

@@ -13,4 +13,4 @@ returns-in-Ok-clause-ok g c =
     (front_may_come _ _ _ _ _ _ _ _ same c.fill.ensures.looked.stays)
 
 pub returns-in-Err-clause-why : goal.returns-in-Err-clause-why
-returns-in-Err-clause-why g c = fails_failed c.args.self.now.reading c.fill.new.self.reading c.in-Err.refusal c.in-Err.ensures.why
+returns-in-Err-clause-why g c = fails_failed c.args.self.now.reading c.fill.new.self.reading c.from.result (rw c.from.ensures c.in-Err.ensures.why)

@@ -6,7 +6,7 @@ returns-in-Ok-Some-clause-ok g c =
     let some = c.in-Ok-Some.field-0-is in
     (when_some _ c.in-Ok-Some.ensures.len some, apart_takes (when_some _ c.in-Ok-Some.ensures.apart some) c.deref.ensures.value c.consume_apart.ensures)
 
-pub returns-in-Ok-clause-ok : goal.returns-in-Ok-clause-ok
-returns-in-Ok-clause-ok g c =
-    let len = c.in-Ok.ensures.len in
-    (len, looked_takes (c.in-Ok-None.ensures.else_kept c.in-Ok-None.field-0-is) c.in-Ok.ensures.ok len)
+pub returns-in-Ok-read_bytes_buffered-clause-ok : goal.returns-in-Ok-read_bytes_buffered-clause-ok
+returns-in-Ok-read_bytes_buffered-clause-ok g c =
+    let len = c.in-Ok-read_bytes_buffered.ensures.len in
+    (len, looked_takes (c.in-Ok-None.ensures.else_kept c.in-Ok-None.field-0-is) c.in-Ok-read_bytes_buffered.ensures.ok len)
