@@ -1,5 +1,5 @@
 -- The texts of strings outside arrays.
-use Rattle.std.proofs.Common.{◌≡◌, ℕ, ◌+◌, ◌-◌, ◌<◌, ◌≤◌, List, [], ◌∷◌, ◌++◌, length, get_or, map, take, drop, set, min, Some, refl, sym, ◌∙◌, ap, subst, arith, append_assoc, length-drop, length-set, Result, Ok, Err}
+use Rattle.std.proofs.Common.{◌≡◌, ℕ, ◌+◌, ◌-◌, ◌<◌, ◌≤◌, List, [], ◌∷◌, ◌++◌, length, get_or, map, take, drop, set, min, Some, refl, sym, ◌∙◌, ap, subst, arith, append_assoc, length-append, length-take-le, length-drop, length-set, take-take, take-append-drop, take_at, Result, Ok, Err}
 use Rattle.std.proofs.lemmas.List.{take_all}
 use Rattle.std.proofs.lemmas.Grind.{take-set_at}
 use Rattle.std.proofs.lemmas.Slice.{take-put_mid}
@@ -16,7 +16,7 @@ use Rattle.amqp_base.specs.declared.shape.Setting.TheVariants.{Plain}
 use Rattle.amqp_write.specs.declared.refusal.Refusal.{Refusal}
 use Rattle.amqp_write.specs.State.{State, Mark, unmarked}
 use Rattle.amqp_write.specs.Appending.{Appended, as_error, error_of, payload_at}
-use Rattle.amqp_write.specs.ManyTexts.{AreTexts, HaveTextsOf, PutsText, WritesTexts}
+use Rattle.amqp_write.specs.ManyTexts.{AreTexts, HaveTextsOf, PutsBytes, PutsText, WritesTexts}
 use Rattle.amqp_write.proofs.ManyTexts.{Written, text_alone, one_more, put_length, lengths_more, written_more, written_refused, same_bad, same_done}
 use Rattle.amqp_write.proofs.TextOf.{text_at, payload_narrow, payload_wide}
 use Rattle.amqp_write.proofs.WideTexts.{scalar_sizes}
@@ -32,23 +32,45 @@ pub wide_string : (b : List ℕ) → IsUtf8 b → 254 < length b → length b �
 unfolding row
 wide_string b u h k = string_alone b _ u (payload_wide 0xa1 Str32 b h k)
 
+-- bytes that were put into a block by one copy
+pub puts_bytes : (at k : ℕ) (xs b : List ℕ) → at + length b ≤ length xs → k ≡ length b → PutsBytes b at xs (put_mid at k xs b)
+puts_bytes at k xs b room is = record {
+  long = put_length xs b at k (omega (arith, room, is)) (sym is);
+  front = take-put_mid at k xs b (at + length b) refl (omega (arith, room));
+}
+
+-- and by two: the first n of them, and from the m-th on
+pub puts_ends : (at n m k j : ℕ) (xs b first last : List ℕ) → m ≤ n → m + n ≡ length b → k ≡ n → j ≡ n → at + length b ≤ length xs → first ≡ take n b → last ≡ drop m b → PutsBytes b at xs (put_mid (at + m) j (put_mid at k xs first) last)
+puts_ends at n m k j xs b first last overlap is one_is two_is room front back =
+    let mid : List ℕ = put_mid at k xs first in
+    let first_is : length first ≡ n = ap length front ∙ length-take-le n b (omega (arith, is)) in
+    let last_is : length last ≡ n = ap length back ∙ (length-drop m b ∙ omega (arith, is)) in
+    let one : PutsBytes first at xs mid = puts_bytes at k xs first (omega (arith, room, is, first_is)) (one_is ∙ sym first_is) in
+    let rest : List ℕ = drop m first in
+    let cut : first ≡ take m b ++ rest = sym (take-append-drop m first) ∙ ap (λ l. l ++ rest) (ap (take m) front ∙ take-take m n b overlap) in
+    let head : length (take at xs ++ take m b) ≡ at + m = omega (arith, length-append (take at xs) (take m b), length-take-le at xs (omega (arith, room)), length-take-le m b (omega (arith, is))) in
+    let begins : take (at + length first) mid ≡ (take at xs ++ take m b) ++ rest = one.front ∙ (ap (λ l. take at xs ++ l) cut ∙ sym (append_assoc (take at xs) (take m b) rest)) in
+    let below : take (at + m) mid ≡ take at xs ++ take m b = sym (take-take (at + m) (at + length first) mid (omega (arith, overlap, first_is))) ∙ (ap (take (at + m)) begins ∙ take_at (take at xs ++ take m b) rest (at + m) head) in
+    record {
+      long = put_length mid last (at + m) j (omega (arith, room, is, two_is, one.long)) (last_is ∙ sym two_is) ∙ one.long;
+      front = take-put_mid (at + m) j mid last (at + length b) (omega (arith, last_is, is)) (omega (arith, room, is, one.long)) ∙ (ap (λ l. l ++ last) below ∙ (append_assoc (take at xs) (take m b) last ∙ ap (λ l. take at xs ++ l) (ap (λ l. take m b ++ l) back ∙ take-append-drop m b)));
+    }
+
 -- a block into which the text of a short string was put
-pub puts_string : (at k : ℕ) (xs b : List ℕ) → at + 2 + length b ≤ length xs → k ≡ length b → IsUtf8 b → length b ≤ 254 → PutsText unmarked (scalar (string b)) at xs (at + 2 + length b) (put_mid (at + 2) k (set (set xs at 0xa1) (at + 1) (length b)) b)
-puts_string at k xs b room is u short =
+pub puts_string : (at : ℕ) (xs b new : List ℕ) → at + 2 + length b ≤ length xs → IsUtf8 b → length b ≤ 254 → PutsBytes b (at + 2) (set (set xs at 0xa1) (at + 1) (length b)) new → PutsText unmarked (scalar (string b)) at xs (at + 2 + length b) new
+puts_string at xs b new room u short put =
     let head = set (set xs at 0xa1) (at + 1) (length b) in
     let one = length-set xs at 0xa1 in
     let two = length-set (set xs at 0xa1) (at + 1) (length b) in
     let first : take (at + 1) (set xs at 0xa1) ≡ take at xs ++ 0xa1 ∷ [] = take-set_at xs at (at + 1) 0xa1 refl (omega (arith, room)) in
     let second : take (at + 2) head ≡ take (at + 1) (set xs at 0xa1) ++ length b ∷ [] = take-set_at (set xs at 0xa1) (at + 1) (at + 2) (length b) (omega arith) (omega (arith, room, one)) in
-    let all : take (at + 2 + length b) (put_mid (at + 2) k head b) ≡ take (at + 2) head ++ b = take-put_mid (at + 2) k head b (at + 2 + length b) refl (omega (arith, room, one, two)) in
-    let long : length (put_mid (at + 2) k head b) ≡ length head = put_length head b (at + 2) k (omega (arith, room, is, one, two)) (sym is) in
     record {
       bytes = 0xa1 ∷ length b ∷ b;
       texts = narrow_string b u short;
       ends = omega arith;
-      long = long ∙ (two ∙ one);
-      within = omega (arith, room, long, two, one);
-      front = all ∙ (ap (λ ys. ys ++ b) (second ∙ (ap (λ ys. ys ++ length b ∷ []) first ∙ append_assoc (take at xs) (0xa1 ∷ []) (length b ∷ []))) ∙ append_assoc (take at xs) (0xa1 ∷ length b ∷ []) b);
+      long = put.long ∙ (two ∙ one);
+      within = omega (arith, room, put.long, two, one);
+      front = put.front ∙ (ap (λ ys. ys ++ b) (second ∙ (ap (λ ys. ys ++ length b ∷ []) first ∙ append_assoc (take at xs) (0xa1 ∷ []) (length b ∷ []))) ∙ append_assoc (take at xs) (0xa1 ∷ length b ∷ []) b);
     }
 
 -- one text, appended or refused

@@ -46,6 +46,11 @@ how_many (Err e) = 0
 abbrev pub IsFront : Item → List ℕ → ℕ → Type 0
 IsFront i b n = IsText unmarked i (take n b) × (n ≤ length b)
 
+-- the bytes stand in a block from at on, behind what stood there
+pub record PutsBytes (bytes : List ℕ) (at : ℕ) (old new : List ℕ) : Type 0 where
+  pub long : length new ≡ length old
+  pub front : take (at + length bytes) new ≡ take at old ++ bytes
+
 -- the number's text stands in a block from at to end, behind what stood there
 pub record Puts (m : Mark) (i : Item) (at : ℕ) (old : List ℕ) (end : ℕ) (new : List ℕ) : Type 0 where
   pub bytes : List ℕ

@@ -6,8 +6,8 @@ ghost use Rattle.amqp_base.specs.Canon.{limit};
 ghost use Rattle.amqp_base.specs.Item.{scalar, string};
 ghost use Rattle.amqp_write.specs.State.{stand, unmarked};
 ghost use Rattle.amqp_write.specs.Appending.{as_error};
-ghost use Rattle.amqp_write.specs.ManyTexts.{HaveTextsOf, PutsAll, PutsText, WritesTexts};
-ghost use Rattle.amqp_write.specs.ManyTexts.{how_many};
+ghost use Rattle.amqp_write.specs.ManyTexts.{HaveTextsOf, PutsAll, PutsBytes, PutsText};
+ghost use Rattle.amqp_write.specs.ManyTexts.{WritesTexts, how_many};
 
 use crate::place::{LONGEST, NARROW, Place};
 use crate::refusal::Refusal;
@@ -47,6 +47,39 @@ fn text_lengths(values: &[String]) -> (usize, usize)
     (count, sum)
 }
 
+/// Puts the bytes into the block from `at` on, by two copies that may overlap: the first N of them
+/// and the last N.
+#[inline(always)]
+fn put_ends<const N: usize>(bytes: &[u8], block: &mut [u8], at: usize)
+    requires least { N ≤ length bytes.now }
+    requires most { length bytes.now ≤ N + N }
+    requires room { at + length bytes.now ≤ length block.old }
+    ensures put { PutsBytes bytes.now at block.old block.new }
+{
+    let behind = bytes.len() - N;
+    block[at..at + N].copy_from_slice(&bytes[..N]);
+    block[at + behind..at + behind + N].copy_from_slice(&bytes[behind..]);
+}
+
+/// Puts the bytes into the block from `at` on. Of 8 to 32 bytes two copies of a fixed width take
+/// less time than the call that copies any number.
+#[inline(always)]
+fn put_bytes(bytes: &[u8], block: &mut [u8], at: usize)
+    requires room { at + length bytes.now ≤ length block.old }
+    ensures put { PutsBytes bytes.now at block.old block.new }
+{
+    let len = bytes.len();
+    if len >= 16 && len <= 32 {
+        put_ends::<16>(bytes, block, at);
+        return;
+    }
+    if len >= 8 && len <= 16 {
+        put_ends::<8>(bytes, block, at);
+        return;
+    }
+    block[at..at + len].copy_from_slice(bytes);
+}
+
 /// Writes the text of a short string into the block from `at` on: where the next may begin.
 #[inline(always)]
 fn put_string(value: &str, block: &mut [u8], at: usize) -> usize
@@ -58,7 +91,7 @@ fn put_string(value: &str, block: &mut [u8], at: usize) -> usize
     let len = bytes.len();
     block[at] = codes::STR8;
     block[at + 1] = len as u8;
-    block[at + 2..at + 2 + len].copy_from_slice(bytes);
+    put_bytes(bytes, block, at + 2);
     at + 2 + len
 }
 

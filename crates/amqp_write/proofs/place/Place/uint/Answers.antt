@@ -1,5 +1,5 @@
-use Rattle.amqp_write.specs.State.{stand, mark_of, mark_in}
-use Rattle.std.proofs.Common.{refl, ap, arith}
+use Rattle.amqp_write.specs.State.{stand, mark_of}
+use Rattle.std.proofs.Common.{arith}
 use Rattle.amqp_write.proofs.TextOf.{not_unmarked}
 use Rattle.amqp_write.proofs.WideTexts.{pays_wide, uint_wide}
 use Rattle.amqp_write.proofs.place.Place.uint.Goals as goal
