@@ -51,6 +51,7 @@ pub record Run (shape : Shape) (u : State) (xs : List Item) (v : State) : Type 0
 
 -- parts on a serializer
 abbrev pub outer_in : CodeOuter → Back
+outer_in (CodeOuter.Outside setting) = record { setting = setting; mark = unmarked; found = None }
 outer_in (CodeOuter.Had setting mark found descriptor) = record { setting = setting; mark = mark_in descriptor mark; found = found_in descriptor found }
 
 -- the state with that again

@@ -89,6 +89,8 @@ pub struct Named;
 /// caller looks into by itself are structs, and it stops at so many.
 #[derive(Drop)]
 pub(crate) enum Outer {
+    /// Its setting, of a serializer outside arrays that wrote no first element.
+    Outside(Setting),
     /// Its setting, its mark, the constructor of the last first element, and their descriptor.
     Had {
         setting: Setting,
@@ -363,12 +365,7 @@ impl Parts {
             buffer,
             count: 0,
             opened: Opened::Buffered,
-            outer: Outer::Had {
-                setting: Setting::Plain,
-                mark: Mark::Unmarked,
-                found: None,
-                descriptor: None,
-            },
+            outer: Outer::Outside(Setting::Plain),
         })
     }
 
@@ -382,12 +379,7 @@ impl Parts {
             },
             count: 0,
             opened: Opened::Buffered,
-            outer: Outer::Had {
-                setting: Setting::Plain,
-                mark: Mark::Unmarked,
-                found: None,
-                descriptor: None,
-            },
+            outer: Outer::Outside(Setting::Plain),
         }
     }
 

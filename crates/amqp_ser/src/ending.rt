@@ -13,7 +13,7 @@ use crate::Serializer;
 use crate::answer::answer;
 use crate::compound::{Outer, Parts};
 use amqp_base::{Error, Pass, Shape, Sink, Size};
-use amqp_write::{Opened, Refusal, no_memory, refused};
+use amqp_write::{Mark, Opened, Refusal, no_memory, refused};
 use std::io::ErrorKind;
 
 impl<W: Sink> Serializer<W> {
@@ -152,6 +152,11 @@ impl<W: Sink> Serializer<W> {
         ensures { self.new.state ≡ back (outer_in outer) self.old.state }
     {
         match outer {
+            Outer::Outside(setting) => {
+                self.place.setting = setting;
+                self.place.mark = Mark::Unmarked;
+                self.place.found = None;
+            }
             Outer::Had {
                 setting,
                 mark,

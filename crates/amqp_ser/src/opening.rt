@@ -143,6 +143,30 @@ impl<W: Sink> Serializer<W> {
         outer
     }
 
+    /// What the serializer has is set aside, for the parts of a compound: outside arrays its
+    /// setting alone.
+    #[inline(always)]
+    fn set_aside_for(&mut self, shape: Shape) -> Outer
+        ensures setting { (outer_in result).setting ≡ self.old.state.setting }
+        ensures mark { (outer_in result).mark ≡ self.old.state.mark }
+        ensures found { (outer_in result).found ≡ self.old.state.found }
+        ensures state { self.new.state ≡ record self.old.state {
+          setting = setting_inside shape;
+          mark = next_mark shape [];
+          found = None;
+        } }
+    {
+        match (self.place.mark, self.place.found) {
+            (Mark::Unmarked, None) => {
+                let outer = Outer::Outside(self.place.setting);
+                self.place.setting = setting_inside(shape);
+                self.place.mark = first_mark(shape);
+                outer
+            }
+            _ => self.set_aside(setting_inside(shape), first_mark(shape)),
+        }
+    }
+
     /// The parts that come stand on the serializer itself, until their compound ends.
     #[inline(always)]
     fn lend(&mut self, alloc: Global, shape: Shape, opened: Opened) -> Parts
@@ -160,7 +184,7 @@ impl<W: Sink> Serializer<W> {
           ended = true;
         } }
     {
-        let outer = self.set_aside(setting_inside(shape), first_mark(shape));
+        let outer = self.set_aside_for(shape);
         self.set_ended(true);
         let buffer = Serializer {
             writer: Vec::new(alloc),
