@@ -36,8 +36,8 @@ pub fn least_width(constructor: &Constructor) -> usize
     }
 }
 
-/// The width that a code's category names.
-fn own_width(code: EncodingCodes) -> usize
+/// The width that a code's category names: of data, of a length, or of a size and a count.
+pub fn own_width(code: EncodingCodes) -> usize
     ensures { result ≡ own_width (row code).category }
 {
     match Category::try_from(code) {

@@ -18,7 +18,7 @@ mod signed;
 mod unsigned;
 
 pub use ahead::descriptor_ahead;
-pub use constructor::{Constructor, Limit, least_width};
+pub use constructor::{Constructor, Limit, least_width, own_width};
 pub use decimals::decimal_data;
 pub use floats::{AsDouble, AsFloat};
 pub use header::{list_count, map_count};

@@ -6,22 +6,24 @@ use Rattle.std.specs.Io.KnownBytes.{Consumes, Keeps}
 use Rattle.amqp_base.specs.declared.error.Error.{Error}
 use Rattle.amqp_base.specs.declared.error.Error.TheVariants.{OutOfMemory}
 use Rattle.amqp_base.specs.declared.format_code.EncodingCodes.{EncodingCodes}
+use Rattle.amqp_base.specs.declared.format_code.EncodingCodes.TheVariants.{DescribedType}
+use Rattle.amqp_base.proofs.CodeAgain.{code_again}
 use Rattle.amqp_base.specs.declared.format_code.Category.{Category}
-use Rattle.amqp_base.specs.Codes.{Kind, row}
+use Rattle.amqp_base.specs.Codes.{Kind, row, code_of}
 use Rattle.amqp_base.specs.Faults.{IsFault}
-use Rattle.amqp_base.specs.Item.{Item}
+use Rattle.amqp_base.specs.Item.{Item, Descriptor}
 use Rattle.amqp_base.specs.Meaning.{Meaning}
 use Rattle.amqp_base.specs.Refusals.{IsDevice}
 use Rattle.amqp_base.specs.Refusing.{Refusing}
 use Rattle.amqp_base.specs.Wire.{Constructor, bare, under, under_pair, Wire, lenient, of_code, of_described, of_data, of_pair, Data, of_fixed, of_variable, fixed, variable, list0, of_list, of_map, of_array, empty_array}
-use Rattle.amqp_read.specs.Reading.{Reading, Stays, Takes}
+use Rattle.amqp_read.specs.Reading.{Reading, Agree, Stays, Takes}
 use Rattle.amqp_read.specs.Steps.{Looked, Fails}
 use Rattle.amqp_data.specs.Excuses.{Overfull, Excused, no_memory, faulted, uncounted}
-use Rattle.amqp_data.specs.Places.{own_width, least_width}
+use Rattle.amqp_data.specs.Places.{own_width}
 use Rattle.amqp_data.proofs.Readings.{stays_same, steady_then, stayed, advances_then}
 use Rattle.amqp_data.proofs.Received.{agree_front, keeps_known}
 use Rattle.amqp_de.specs.Access.{Listing, Part, NoPart, PartNamed, PassesEnd}
-use Rattle.amqp_de.specs.Ahead.{Ahead, AheadFails, least_left, reading_on}
+use Rattle.amqp_de.specs.Ahead.{Ahead, AheadFails, behind_code, first_least, least_left, parts_least, reading_on}
 use Rattle.amqp_de.specs.Decoding.{Decoding, stands_under, behind_descriptor, as_ended}
 use Rattle.amqp_de.specs.Law.{Missed}
 use Rattle.amqp_de.specs.Many.{AreRead}
@@ -42,12 +44,59 @@ data_least (empty_array z k b lz lk nk f) = omega (arith, lz, length-append z (k
 code_least : (e : EncodingCodes) (t : List ℕ) (i : Item) → Wire lenient (under e) t i → own_width (row e).category ≤ length t
 code_least e t i (of_data h) = data_least h
 
-pair_least : (c : Constructor) (described : Bool) (t : List ℕ) (i : Item) → Wire lenient (behind_descriptor c described) t i → least_width c ≤ length t
-pair_least bare d t i (of_code p h) = omega arith
-pair_least bare d t i (of_described a b g h) = omega arith
-pair_least (under e) d t i w = code_least e t i w
-pair_least (under_pair x e) true t i w = code_least e t i w
-pair_least (under_pair x e) false t i (of_pair w) = code_least e t _ w
+pair_least : (x : Descriptor) (e : EncodingCodes) (described : Bool) (t : List ℕ) (i : Item) → Wire lenient (behind_descriptor (under_pair x e) described) t i → own_width (row e).category ≤ length t
+pair_least x e true t i w = code_least e t i w
+pair_least x e false t i (of_pair w) = code_least e t _ w
+
+-- so many bytes fewer are left for the others
+least_on : (l m w n : ℕ) → l ≡ suc m → w ≤ n → l * w ≤ n + m * w
+least_on l m w n h k = rw (h, suc-mul m w) (omega (arith, k))
+
+-- an item is at least as long as its first byte says
+text_least : (t : List ℕ) (i : Item) → Wire lenient bare t i → first_least t ≤ length t
+unfolding row code_of
+text_least t i (of_code {x} {e} {b} p h) = let least = code_least e b i h in rw p (omega (arith, least))
+text_least t i (of_described a b g h) = omega arith
+
+none_behind : (x : ℕ) → own_width (row DescribedType).category ≤ x
+unfolding row
+none_behind x = omega arith
+
+-- what a byte's code says, found by its code
+pub behind_again : (b : ℕ) (e : EncodingCodes) → (row e).byte ≡ b → own_width (row e).category ≤ behind_code (code_of b)
+behind_again b e h = elim (code_again e) [
+  | inl same ↦ rw (sym h, same) (omega arith)
+  | inr d ↦ rw d (none_behind _)
+]
+
+-- and as the first of its bytes says that were received
+first_received : (s t : List ℕ) → Agree s t → 1 ≤ length t → first_least s ≤ first_least t
+first_received [] [] h n = absurd (omega (arith, n))
+first_received [] (y ∷ t) h n = omega arith
+first_received (x ∷ s) [] h n = absurd (omega (arith, n))
+first_received (x ∷ s) (y ∷ t) h n = rw h.0 (omega arith)
+
+some_text : (t : List ℕ) (i : Item) → Wire lenient bare t i → 1 ≤ length t
+some_text t i (of_code p h) = omega arith
+some_text t i (of_described a b g h) = omega arith
+
+first_some : (s : List ℕ) → 1 ≤ first_least s
+first_some [] = omega arith
+first_some (x ∷ s) = omega arith
+
+-- so many bytes fewer are left for the others, whichever of theirs were received
+others_least : (m : ℕ) (s : List ℕ) → m ≤ parts_least m bare s
+others_least zero s = omega arith
+others_least (suc m) s = let one = first_some s in omega (arith, one)
+
+part_least : (m : ℕ) (c : Constructor) (described : Bool) (s t rest : List ℕ) (i : Item) → Wire lenient (behind_descriptor c described) t i → Agree s t →
+    parts_least (suc m) c s ≤ length t + parts_least m c rest
+part_least m bare d s t rest i w h =
+    let first = first_received s t h (some_text t i w) in let text = text_least t i w in let others = others_least m rest in omega (arith, first, text, others)
+part_least zero (under e) d s t rest i w h = let least = code_least e t i w in omega (arith, least)
+part_least (suc m) (under e) d s t rest i w h = let least = code_least e t i w in least_on (suc (suc m)) (suc m) _ (length t) refl least
+part_least zero (under_pair x e) d s t rest i w h = let least = pair_least x e d t i w in omega (arith, least)
+part_least (suc m) (under_pair x e) d s t rest i w h = let least = pair_least x e d t i w in least_on (suc (suc m)) (suc m) _ (length t) refl least
 
 -- ---- readers
 
@@ -138,18 +187,14 @@ excused_kept v r new e s (uncounted p q o) = uncounted p q (overfull_kept v.take
 
 -- ---- parts
 
--- so many bytes fewer are left for the others
-least_on : (l m w n : ℕ) → l ≡ suc m → w ≤ n → l * w ≤ n + m * w
-least_on l m w n h k = rw (h, suc-mul m w) (omega (arith, k))
-
 pub ahead_part : {takes : Item → Bool} {means : Item → Type 0} (v r new : Listing) → Ahead v r → Part takes means r new → (to : Listing) × Part takes means v to × Ahead to new
 ahead_part {takes} {means} v r new a part =
     let p : Part takes means (reading_on v r.state.reading) new = subst (λ (l : Listing). Part takes means l new) a.is part in
     let text = p.front.text in
     let to = reading_on new (behind_it v.state.reading new.state.reading text) in
-    let least = pair_least v.state.inherited v.state.described text p.front.item p.front.spelled in
-    let same = ap (λ (c : Constructor). least_width c) p.front.inherited in
-    let fewer : least_left v ≤ length text + least_left to = rw same (least_on v.left new.left (least_width v.state.inherited) (length text) p.left least) in (
+    let received = r.state.reading.received in
+    let least = part_least new.left v.state.inherited v.state.described received text new.state.reading.received p.front.item p.front.spelled p.front.step.agrees in
+    let fewer : least_left v received ≤ length text + least_left to new.state.reading.received = rw (p.left, p.front.inherited) least in (
       to,
       record {
         front = record {
@@ -158,7 +203,7 @@ ahead_part {takes} {means} v r new a part =
           spelled = p.front.spelled;
           taken = p.front.taken;
           value = p.front.value;
-          step = takes_behind (least_left v) v.state.reading r.state.reading new.state.reading text a.looked p.front.step;
+          step = takes_behind (least_left v received) v.state.reading r.state.reading new.state.reading text a.looked p.front.step;
           not_ended = p.front.not_ended;
           inherited = p.front.inherited;
           described = p.front.described;
@@ -171,7 +216,7 @@ ahead_part {takes} {means} v r new a part =
         limit = p.limit;
       },
       record {
-        looked = looked_behind (least_left v) (least_left to) v.state.reading r.state.reading new.state.reading text a.looked p.front.step fewer;
+        looked = looked_behind (least_left v received) (least_left to new.state.reading.received) v.state.reading r.state.reading new.state.reading text a.looked p.front.step fewer;
         is = refl;
       },
     )
@@ -194,11 +239,28 @@ ahead_left v r a = ap (λ (l : Listing). l.left) a.is
 pub ahead_start : (l : Listing) → Ahead l l
 ahead_start l = record { looked = record { stays = stays_same l.state.reading; received = omega arith }; is = refl }
 
+-- the more of them were received, the more are known to be left
+first_grown : (s t : List ℕ) → take (length s) t ≡ s → first_least s ≤ first_least t
+first_grown [] t h = first_some t
+first_grown (x ∷ s) [] h = absurd cc
+first_grown (x ∷ s) (y ∷ t) h = let same : y ≡ x = cc in rw same (omega arith)
+
+least_grown : (n : ℕ) (c : Constructor) (s t : List ℕ) → take (length s) t ≡ s → parts_least n c s ≤ parts_least n c t
+least_grown zero c s t h = omega arith
+least_grown (suc n) bare s t h = let first = first_grown s t h in omega (arith, first)
+least_grown (suc n) (under e) s t h = omega arith
+least_grown (suc n) (under_pair d e) s t h = omega arith
+
+looked_wider : {n m : ℕ} {a b : Reading} → n ≤ m → Looked n a b → Looked m a b
+looked_wider h l = record { stays = l.stays; received = omega (arith, l.received, h) }
+
 pub ahead_more : (v r new : Listing) → Ahead v r → Ahead r new → Ahead v new
 ahead_more v r new a b =
-    let same : least_left r ≡ least_left v = ap least_left a.is in
+    let known = new.state.reading.received in
+    let same : least_left r known ≡ least_left v known = ap (λ (l : Listing). least_left l known) a.is in
+    let grown = least_grown v.left v.state.inherited r.state.reading.received known b.looked.stays.received in
     record {
-      looked = looked_then (least_left v) v.state.reading r.state.reading new.state.reading a.looked (rw same at b.looked);
+      looked = looked_then (least_left v known) v.state.reading r.state.reading new.state.reading (looked_wider grown a.looked) (rw same at b.looked);
       is = b.is ∙ ap (λ (l : Listing). reading_on l new.state.reading) a.is;
     }
 
@@ -319,8 +381,8 @@ settled_on from v x p l = record {
 -- where no part is left nothing was received ahead
 pub ahead_settled : {parts : _} (from v r : Listing) → PartsRead from parts v → Ahead v r → v.left ≡ 0 → PartsRead from parts r
 ahead_settled {parts} from v r p a z =
-    let zero_times : 0 * least_width v.state.inherited ≡ 0 = omega arith in
-    let none : least_left v ≡ 0 = ap (λ (n : ℕ). n * least_width v.state.inherited) z ∙ zero_times in
+    let received = r.state.reading.received in
+    let none : least_left v received ≡ 0 = ap (λ (n : ℕ). parts_least n v.state.inherited received) z in
     subst (λ (l : Listing). PartsRead from parts l) (sym a.is) (settled_on from v r.state.reading p (rw none at a.looked))
 
 pub sofar_settled : {T : Type 0} (takes : Item → Bool) (means : Item → T → Type 0) (from v r : Listing) (vs : List T) → Sofar takes means from v vs → Ahead v r → r.left ≡ 0 → Sofar takes means from r vs

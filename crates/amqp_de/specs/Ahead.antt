@@ -1,14 +1,34 @@
 -- Bytes of parts that are received before these are read.
-use Rattle.std.specs.Prelude.{◌≡◌, ℕ, ◌*◌, ◌<◌, Bool}
+use Rattle.std.specs.Prelude.{◌≡◌, ℕ, zero, suc, ◌+◌, ◌*◌, ◌<◌, Bool, List, [], ◌∷◌, Option, None, Some}
 use Rattle.amqp_base.specs.declared.error.Error.{Error}
+use Rattle.amqp_base.specs.declared.format_code.EncodingCodes.{EncodingCodes}
+use Rattle.amqp_base.specs.Codes.{row, code_of}
+use Rattle.amqp_base.specs.Wire.{Constructor, bare, under, under_pair}
 use Rattle.amqp_read.specs.Reading.{Reading}
 use Rattle.amqp_read.specs.Steps.{Looked, Fails}
-use Rattle.amqp_data.specs.Places.{least_width}
+use Rattle.amqp_data.specs.Places.{least_width, own_width}
 use Rattle.amqp_de.specs.Access.{Listing}
 
--- so many bytes the parts that are left take at least
-abbrev pub least_left : Listing → ℕ
-least_left l = l.left * least_width l.state.inherited
+-- so many bytes of data stand behind a code at least
+abbrev pub behind_code : Option EncodingCodes → ℕ
+behind_code None = 0
+behind_code (Some e) = own_width (row e).category
+
+-- so many bytes an item of its own constructor takes at least, whose first bytes are these
+abbrev pub first_least : List ℕ → ℕ
+first_least [] = 1
+first_least (x ∷ s) = 1 + behind_code (code_of x)
+
+-- so many bytes parts take at least, as many as these, of which these bytes are the first
+abbrev pub parts_least : ℕ → Constructor → List ℕ → ℕ
+parts_least zero c received = 0
+parts_least (suc others) bare received = first_least received + others
+parts_least (suc others) (under e) received = suc others * least_width (under e)
+parts_least (suc others) (under_pair d e) received = suc others * least_width (under_pair d e)
+
+-- so many bytes the parts that are left take at least, where these of them were received
+abbrev pub least_left : Listing → List ℕ → ℕ
+least_left l received = parts_least l.left l.state.inherited received
 
 -- the same access, where its reader is in another state
 abbrev pub reading_on : Listing → Reading → Listing
@@ -21,7 +41,7 @@ reading_on l r = record {
 
 -- Nothing was read. Bytes were received of the parts that are left, no more than these take at least.
 pub record Ahead (old new : Listing) : Type 0 where
-  pub looked : Looked (least_left old) old.state.reading new.state.reading
+  pub looked : Looked (least_left old new.state.reading.received) old.state.reading new.state.reading
   pub is : new ≡ reading_on old new.state.reading
 
 -- the source failed meanwhile, or its bytes found no memory

@@ -20,12 +20,6 @@ ReadsMany m old before (Ok true) new after = (vs : List _) × AreRead m old vs n
 ReadsMany m old before (Ok false) new after = (new ≡ old) × (after ≡ before)
 ReadsMany m old before (Err e) new after = (e ≡ OutOfMemory) × (new ≡ old)
 
--- The next parts were read, and their values are behind those that were there; or some of them, and then there was no
--- memory for further values.
-abbrev pub ReadsSome : {A T : Type 0} → Meaning T → Listing → List T → Result A Error → Listing → List T → Type 0
-ReadsSome m old before (Ok u) new after = (vs : List _) × AreRead m old vs new × (after ≡ before ++ vs)
-ReadsSome m old before (Err e) new after = (e ≡ OutOfMemory) × ((vs : List _) × AreRead m old vs new)
-
 -- the bytes spell one item under the constructor, which means the value; without a constructor they are some
 pub record IsElement {T : Type 0} (m : Meaning T) (c : Constructor) (b : List ℕ) (v : T) : Type 0 where
   pub item : Item

@@ -1,15 +1,17 @@
 //! Bytes of parts that are received before these are read.
 
-ghost use Rattle.std.specs.Prelude.{◌≡◌, IfErr};
-ghost use Rattle.amqp_de.specs.Ahead.{Ahead, AheadFails};
+ghost use Rattle.std.specs.Prelude.{◌≡◌, ◌<◌, ◌≤◌, IfErr};
+ghost use Rattle.amqp_data.specs.Places.{constructor_of};
+ghost use Rattle.amqp_de.specs.Ahead.{Ahead, AheadFails, first_least, parts_least};
 ghost use Rattle.amqp_de.specs.ReadParts.{open_list};
 ghost use Rattle.amqp_de.specs.Seq.{at_open};
 
 use crate::Deserializer;
 use crate::list::{Access, Open};
-use amqp_base::Error;
-use amqp_data::least_width;
+use amqp_base::{EncodingCodes, Error};
+use amqp_data::{Constructor, least_width, own_width};
 use amqp_read::Read;
+use std::convert::TryFrom;
 
 /// So few bytes cost less where they are asked for one by one.
 const FEW: usize = 4;
@@ -34,8 +36,37 @@ impl<R: Read, F> Access<'_, R, F> {
     }
 }
 
+/// How many bytes an item takes at least, of which these are the first.
+#[inline(always)]
+#[tactic(auto, using(crate::proofs::ReceivedAhead::behind_again))]
+fn first_least(bytes: &[u8]) -> usize
+    ensures { result ≤ first_least bytes.now }
+{
+    match bytes.first() {
+        None => 1,
+        Some(code) => match EncodingCodes::try_from(*code) {
+            Ok(code) => own_width(code).saturating_add(1),
+            Err(_) => 1,
+        },
+    }
+}
+
+/// How many bytes parts take at least, as far as a usize counts: as many as these, of which these
+/// bytes are the first.
+#[inline(always)]
+fn parts_least(parts: u32, constructor: &Constructor, bytes: &[u8]) -> usize
+    requires { 0 < parts }
+    ensures { result ≤ parts_least parts (constructor_of constructor.now) bytes.now }
+{
+    match constructor {
+        Constructor::Bare => first_least(bytes).saturating_add(parts as usize - 1),
+        _ => (parts as usize).saturating_mul(least_width(constructor)),
+    }
+}
+
 impl<R: Read> Deserializer<R> {
-    /// Bytes of the parts that are left are received, as many as those take at least.
+    /// Bytes of the parts that are left are received, as many as those take at least: the first one
+    /// as many as its code says, where that is at hand.
     #[inline(always)]
     fn receive_parts(&mut self, inner: &Open) -> Result<(), Error>
         ensures ahead { Ahead (at_open self.old inner.now) (at_open self.new inner.now) }
@@ -45,7 +76,7 @@ impl<R: Read> Deserializer<R> {
         if inner.left == 0 || self.reader.at_hand() >= LONGEST {
             return Ok(());
         }
-        let least = (inner.left as usize).saturating_mul(least_width(&self.inherited));
+        let least = parts_least(inner.left, &self.inherited, self.reader.bytes_at_hand());
         if least < FEW {
             return Ok(());
         }

@@ -228,22 +228,28 @@ impl<R: Read, T: Deserialize<R>> Deserialize<R> for Vec<T> {
         let announced = access.inner.left;
         let room = access.de.room(announced);
         let mut items = Vec::with_capacity(alloc, room)?;
-        'items: while let Some(item) = {
+        'items: while {
             match access.receive_ahead() {
                 Ok(()) => {}
                 Err(e) => return Err(e),
             }
-            match access.read_many(&mut items) {
-                Ok(()) => {}
+            let some = match T::next_elements(&mut access, &mut items) {
+                Ok(some) => some,
                 Err(e) => return Err(e),
+            };
+            if some {
+                true
+            } else {
+                match access.next_element(alloc) {
+                    Ok(Some(item)) => {
+                        items.push(item)?;
+                        true
+                    }
+                    Ok(None) => false,
+                    Err(e) => return Err(e),
+                }
             }
-            match access.next_element(alloc) {
-                Ok(found) => found,
-                Err(e) => return Err(e),
-            }
-        } {
-            items.push(item)?;
-        }
+        } {}
         access.end()?;
         Ok(items)
     }

@@ -7,7 +7,7 @@ ghost use Rattle.amqp_base.specs.declared.format_code.EncodingCodes.TheVariants.
 ghost use Rattle.amqp_base.specs.declared.format_code.EncodingCodes.TheVariants.{Int};
 ghost use Rattle.amqp_base.specs.Wire.{bare, under};
 ghost use Rattle.amqp_data.specs.Parts.{Within};
-ghost use Rattle.amqp_de.specs.Many.{ReadsMany, ReadsSome, IsElement, PutBehind};
+ghost use Rattle.amqp_de.specs.Many.{ReadsMany, IsElement, PutBehind};
 ghost use Rattle.amqp_data.specs.Places.{limit_of};
 ghost use Rattle.amqp_de.specs.ReadParts.{open_list};
 ghost use Rattle.amqp_de.specs.Seq.{at_open};
@@ -53,9 +53,10 @@ impl Wide<4> for i32 {
 
     #[inline(always)]
     fn of_data(bytes: &[u8]) -> i32 {
-        let mut data = [0u8; 4];
-        data.copy_from_slice(bytes);
-        i32::from_be_bytes(data)
+        match bytes.first_chunk::<4>() {
+            Some(data) => i32::from_be_bytes(*data),
+            None => 0,
+        }
     }
 
     #[inline(always)]
@@ -88,9 +89,10 @@ impl Wide<4> for u32 {
 
     #[inline(always)]
     fn of_data(bytes: &[u8]) -> u32 {
-        let mut data = [0u8; 4];
-        data.copy_from_slice(bytes);
-        u32::from_be_bytes(data)
+        match bytes.first_chunk::<4>() {
+            Some(data) => u32::from_be_bytes(*data),
+            None => 0,
+        }
     }
 
     #[inline(always)]
@@ -128,9 +130,10 @@ impl Wide<8> for u64 {
 
     #[inline(always)]
     fn of_data(bytes: &[u8]) -> u64 {
-        let mut data = [0u8; 8];
-        data.copy_from_slice(bytes);
-        u64::from_be_bytes(data)
+        match bytes.first_chunk::<8>() {
+            Some(data) => u64::from_be_bytes(*data),
+            None => 0,
+        }
     }
 
     #[inline(always)]
@@ -185,7 +188,7 @@ fn push_all<T: Wide<W>, const W: usize>(bytes: &[u8], many: usize, items: &mut V
 /// Puts the numbers that stand at the front of the bytes, each with its own constructor, behind the
 /// others, as long as there are such, so many at most, for which there is room: how many they are,
 /// and how many bytes.
-#[inline(always)]
+#[inline(never)]
 fn push_front<T: Wide<W>, const W: usize>(
     bytes: &[u8],
     most: usize,
@@ -209,26 +212,6 @@ fn push_front<T: Wide<W>, const W: usize>(
         at += len;
     }
     (many, at)
-}
-
-impl<R: Read> Access<'_, R, Elements> {
-    /// Reads as many of the next elements as the type has a way to read many at once, and puts them
-    /// behind the others.
-    ///
-    /// `OutOfMemory`: there is no memory for some of them.
-    #[inline(always)]
-    #[tactic(auto, unfolding(crate::specs::ReadParts::open_list))]
-    pub(crate) fn read_many<T: Deserialize<R>>(&mut self, items: &mut Vec<T>) -> Result<(), Error>
-        ensures same_reference { self.new.de.ghost_name ≡ self.old.de.ghost_name }
-        ensures read { ReadsSome T.meaning (open_list self.old) items.old.items result
-            (open_list self.new) items.new.items }
-    {
-        'many: while match T::next_elements(self, items) {
-            Ok(more) => more,
-            Err(e) => return Err(e),
-        } {}
-        Ok(())
-    }
 }
 
 impl<R: Read> Deserializer<R> {

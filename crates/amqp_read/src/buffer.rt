@@ -113,8 +113,8 @@ impl Buffer {
     }
 
     /// Finds room for `n` bytes more, and at once for as many as are held where `most` are to come:
-    /// whether there is memory for it. Small vectors grow as every vector does, by 64 bytes at least, and large ones no further
-    /// than for `most`.
+    /// whether there is memory for it. Small vectors grow as every vector does, by 64 bytes at
+    /// least, and large ones no further than for `most`.
     fn grow(&mut self, n: usize, most: usize) -> bool
         ensures others { self.new ≡ record self.old { room = self.new.room } }
         ensures found { IsTrue result → n ≤ self.new.room }

@@ -167,10 +167,11 @@ pub trait Read: sealed::Sealed + Drop {
         ensures bytes_first { IfErr result (λ e. (e ≡ OutOfMemory) →
             (IsTrue buffers ⊎ Holds (from + n) (reading self.old).to_come)) };
 
-    /// The bytes at hand. All of them stay.
+    /// The bytes at hand, of a source those that were received. All of them stay.
     #[doc(hidden)]
     fn bytes_at_hand(&self) -> &[u8]
         ensures shown { Shows (reading self.now) result.now }
+        ensures received { IsTrue buffers → result.now ≡ (reading self.now).received }
         ensures all { AtHand buffers (length result.now) (reading self.now) };
 
     /// Consumes the next `n` bytes, where all of them are at hand and can be counted; else nothing
@@ -186,6 +187,7 @@ pub trait Read: sealed::Sealed + Drop {
     #[doc(hidden)]
     fn receive_ahead(&mut self, n: usize) -> Result<(), Error>
         ensures looked { Looked n (reading self.old) (reading self.new) }
+        ensures nothing { buffers ≡ false → reading self.new ≡ reading self.old }
         ensures why { IfErr result (λ e.
             Fails buffers buffers (reading self.old) (reading self.new) e) };
 
