@@ -14,6 +14,12 @@ const FEW: usize = 4;
 /// Room for so many more is asked for at once.
 const MANY: usize = 1024;
 
+/// A size that isn't known yet.
+const UNKNOWN: Size = Size {
+    length: 0,
+    count: 0,
+};
+
 /// Sizes of compounds, in the order in which they opened: the first ones in place, the others on
 /// the heap.
 #[derive(Drop)]
@@ -30,10 +36,7 @@ impl Sizes {
         ensures { listed result ≡ [] }
     {
         Sizes {
-            few: [Size {
-                length: 0,
-                count: 0,
-            }; FEW],
+            few: [UNKNOWN; FEW],
             count: 0,
             more: Vec::new(alloc),
         }
@@ -48,6 +51,11 @@ impl Sizes {
         if at < FEW && self.more.is_empty() {
             self.count = at + 1;
             return Some(at);
+        }
+        if at == FEW && self.more.len() < self.more.capacity() {
+            let behind = FEW + self.more.len();
+            self.more.push_reserved(UNKNOWN);
+            return Some(behind);
         }
         self.open_more()
     }
@@ -64,10 +72,7 @@ impl Sizes {
             return None;
         }
         let at = FEW + self.more.len();
-        match self.more.push(Size {
-            length: 0,
-            count: 0,
-        }) {
+        match self.more.push(UNKNOWN) {
             Ok(()) => Some(at),
             Err(_) => None,
         }
