@@ -76,10 +76,6 @@ first_received [] (y ∷ t) h n = omega arith
 first_received (x ∷ s) [] h n = absurd (omega (arith, n))
 first_received (x ∷ s) (y ∷ t) h n = rw h.0 (omega arith)
 
-some_text : (t : List ℕ) (i : Item) → Wire lenient bare t i → 1 ≤ length t
-some_text t i (of_code p h) = omega arith
-some_text t i (of_described a b g h) = omega arith
-
 first_some : (s : List ℕ) → 1 ≤ first_least s
 first_some [] = omega arith
 first_some (x ∷ s) = omega arith
@@ -92,7 +88,7 @@ others_least (suc m) s = let one = first_some s in omega (arith, one)
 part_least : (m : ℕ) (c : Constructor) (described : Bool) (s t rest : List ℕ) (i : Item) → Wire lenient (behind_descriptor c described) t i → Agree s t →
     parts_least (suc m) c s ≤ length t + parts_least m c rest
 part_least m bare d s t rest i w h =
-    let first = first_received s t h (some_text t i w) in let text = text_least t i w in let others = others_least m rest in omega (arith, first, text, others)
+    let text = text_least t i w in let some = first_some t in let first = first_received s t h (omega (arith, some, text)) in let others = others_least m rest in omega (arith, first, text, others)
 part_least zero (under e) d s t rest i w h = let least = code_least e t i w in omega (arith, least)
 part_least (suc m) (under e) d s t rest i w h = let least = code_least e t i w in least_on (suc (suc m)) (suc m) _ (length t) refl least
 part_least zero (under_pair x e) d s t rest i w h = let least = pair_least x e d t i w in omega (arith, least)

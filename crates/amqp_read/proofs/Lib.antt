@@ -1,3 +1,4 @@
+mod InPlace
 mod Streams
 pub mod Measured
 pub mod RawData

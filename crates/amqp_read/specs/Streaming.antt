@@ -9,7 +9,9 @@ use Rattle.amqp_read.specs.Steps.{Looked}
 pub record Buffered : Type 0 where
   -- the received bytes that were not consumed
   pub unread : List ℕ
-  -- how many bytes the vector holds, consumed ones in front of them with them
+  -- how many of them stand in place, without memory: all or none
+  pub in_place : ℕ
+  -- how many bytes are held, consumed ones in front of them with them
   pub length : ℕ
   -- the index of the first unread byte
   pub start : ℕ
@@ -48,6 +50,14 @@ reads received left taken faults last honest origin = record {
   honest = honest;
   origin = origin;
 }
+
+-- the next n bytes were received, and stand in the buffer's vector
+abbrev pub InVector : ℕ → Streaming → Type 0
+InVector n r = n + r.buffer.in_place ≤ length r.reading.received
+
+-- no received byte stands there
+abbrev pub NoneInVector : Streaming → Type 0
+NoneInVector r = length r.reading.received ≤ r.buffer.in_place
 
 -- the most bytes that were unread at once are those of before, or those that are unread now
 abbrev pub SawMore : Streaming → Streaming → Type 0

@@ -3,13 +3,14 @@
 ghost use Rattle.std.specs.Prelude.{◌≡◌, ◌<◌, ◌≤◌, ◌+◌, ◌-◌, ◌*◌};
 ghost use Rattle.std.specs.Prelude.{◌++◌, max, true, [], length};
 ghost use Rattle.std.specs.Prelude.{take, drop, OnErr, IfOk, IfErr, IfSome, IsTrue, None};
-ghost use Rattle.std.specs.Prelude.{MatchOption};
+ghost use Rattle.std.specs.Prelude.{MatchOption, false};
 ghost use Rattle.std.specs.Io.KnownBytes.{IsAtEnd, ReadConsumes};
 ghost use Rattle.amqp_base.specs.Faults.{Counts, Remembers, refusal_of};
 ghost use Rattle.amqp_read.specs.Reading.{Stays};
 ghost use Rattle.amqp_read.specs.Steps.{Fails};
 ghost use Rattle.amqp_read.specs.Streaming.{Fronted, reads};
 
+use crate::few::{FEW, Few};
 use crate::greatest::Greatest;
 use amqp_base::{Count, Source};
 use std::alloc::Global;
@@ -22,9 +23,11 @@ pub(crate) const PIECE: usize = 4096;
 /// The least room that a vector which is short of it grows by.
 const LEAST: usize = 64;
 
-/// Received bytes in one vector; from an index on they are unread.
+/// Received bytes in one vector; from an index on they are unread. A few that were received while
+/// it was empty stand in place, so that small values need no memory here.
 #[derive(Drop)]
 pub(crate) struct Buffer {
+    few: Few,
     bytes: Vec<u8>,
     start: usize,
     moved: Count,
@@ -32,15 +35,17 @@ pub(crate) struct Buffer {
 }
 
 impl Model for Buffer {
-    ghost use Rattle.std.specs.Prelude.{◌≡◌, ◌≤◌, ◌-◌, ◌*◌, drop};
+    ghost use Rattle.std.specs.Prelude.{◌≡◌, ◌<◌, ◌≤◌, ◌+◌, ◌-◌, ◌*◌, ◌++◌};
+    ghost use Rattle.std.specs.Prelude.{drop, length};
     ghost use Rattle.std.specs.Vec.{vec_len, vec_capacity};
     ghost use Rattle.amqp_read.specs.Streaming.{Buffered};
 
     ghost Value = { Buffered };
 
     ghost view = { λ b. record {
-      unread = drop b.start b.bytes.items;
-      length = vec_len b.bytes;
+      unread = b.few ++ drop b.start b.bytes.items;
+      in_place = length b.few;
+      length = length b.few + vec_len b.bytes;
       start = b.start;
       room = vec_capacity b.bytes - vec_len b.bytes;
       moved = b.moved.n;
@@ -50,7 +55,8 @@ impl Model for Buffer {
     ghost invariant = { λ b. (b.start ≤ vec_len b.bytes)
         × (b.start ≡ vec_len b.bytes → vec_len b.bytes ≡ 0)
         × (vec_len b.bytes ≤ 2 * b.most.n)
-        × (vec_len b.bytes - b.start ≤ b.most.n) };
+        × (length b.few + (vec_len b.bytes - b.start) ≤ b.most.n)
+        × (0 < length b.few → vec_len b.bytes ≡ 0) };
 }
 
 impl Buffer {
@@ -60,6 +66,7 @@ impl Buffer {
         ensures counts { (result.moved + result.start ≡ 0) × (result.most ≡ 0) }
     {
         Buffer {
+            few: Few::new(),
             bytes: Vec::new(alloc),
             start: 0,
             moved: Count::new(),
@@ -74,7 +81,7 @@ impl Buffer {
         ensures held { self.now.length ≤ 2 * self.now.most }
         ensures seen { length self.now.unread ≤ self.now.most }
     {
-        self.bytes.len() - self.start
+        self.few.len() + (self.bytes.len() - self.start)
     }
 
     /// The unread bytes.
@@ -82,7 +89,45 @@ impl Buffer {
     pub(crate) fn unread(&self) -> &[u8]
         ensures { result.now ≡ self.now.unread }
     {
+        if self.few.len() > 0 {
+            return self.few.as_slice();
+        }
+        self.in_vector()
+    }
+
+    /// How many of the unread bytes stand in the vector: all or none.
+    #[inline(always)]
+    pub(crate) fn len_in_vector(&self) -> usize
+        ensures { result + self.now.in_place ≡ length self.now.unread }
+    {
+        self.bytes.len() - self.start
+    }
+
+    /// The unread bytes, where they stand in the vector; else none.
+    #[inline(always)]
+    pub(crate) fn in_vector(&self) -> &[u8]
+        ensures bytes { result.now ≡ drop self.now.in_place self.now.unread }
+        ensures none { 0 < self.now.in_place → result.now ≡ [] }
+    {
         &self.bytes[self.start..]
+    }
+
+    /// The next `n` bytes, which stand in the vector.
+    #[inline(always)]
+    pub(crate) fn front_in_vector(&self, n: usize) -> &[u8]
+        requires { n + self.now.in_place ≤ length self.now.unread }
+        ensures { result.now ≡ take n self.now.unread }
+    {
+        &self.bytes[self.start..self.start + n]
+    }
+
+    /// Whether the unread bytes stand in place.
+    #[inline(always)]
+    pub(crate) fn is_in_place(&self) -> bool
+        ensures some { IsTrue result → 0 < length self.now.unread }
+        ensures none { result ≡ false → self.now.in_place ≡ 0 }
+    {
+        self.few.len() > 0
     }
 
     /// The next `n` bytes, where so many are unread.
@@ -91,13 +136,31 @@ impl Buffer {
         ensures { MatchOption result (length self.now.unread < n) (λ b.
             (n ≤ length self.now.unread) × (b.now ≡ take n self.now.unread)) }
     {
-        self.bytes[self.start..].get(..n)
+        self.unread().get(..n)
     }
 
     /// The next `n` bytes were read.
     #[inline(always)]
     pub(crate) fn consume(&mut self, n: usize)
         requires { n ≤ length self.old.unread }
+        ensures unread { self.new.unread ≡ drop n self.old.unread }
+        ensures start { self.new.start ≤ self.old.start + n }
+        ensures used_up { n ≡ length self.old.unread →
+            (self.new.start ≡ 0) × (self.new.length ≡ 0) }
+        ensures moved { self.new.moved ≡ self.old.moved }
+        ensures most { self.new.most ≡ self.old.most }
+    {
+        if self.few.len() > 0 {
+            self.few.consume(n);
+            return;
+        }
+        self.consume_in_vector(n);
+    }
+
+    /// The same, where they stand in the vector.
+    #[inline(always)]
+    pub(crate) fn consume_in_vector(&mut self, n: usize)
+        requires { n + self.old.in_place ≤ length self.old.unread }
         ensures unread { self.new.unread ≡ drop n self.old.unread }
         ensures start { self.new.start ≤ self.old.start + n }
         ensures used_up { n ≡ length self.old.unread →
@@ -136,17 +199,39 @@ impl Buffer {
         ensures first_half { 2 * self.new.start ≤ self.new.length }
         ensures seen { length self.new.unread ≤ self.new.most }
         ensures moved { self.new.moved + self.new.start ≤ self.old.moved + self.old.start }
-        ensures found { IsTrue result → n ≤ self.new.room }
+        ensures found { IsTrue result → (n ≤ self.new.room) × (self.new.in_place ≡ 0) }
     {
+        if self.few.len() > 0 {
+            return self.settle(n, most);
+        }
         if self.start > 0 {
             self.move_to_front();
         }
         n <= self.bytes.capacity() - self.bytes.len() || self.grow(n, most)
     }
 
+    /// The same, where the unread bytes stand in place: they go into the vector.
+    #[inline(never)]
+    fn settle(&mut self, n: usize, most: usize) -> bool
+        requires { 0 < self.old.in_place }
+        ensures front { Fronted self.old self.new }
+        ensures start { self.new.start ≡ 0 }
+        ensures found { IsTrue result → (n ≤ self.new.room) × (self.new.in_place ≡ 0) }
+    {
+        let few = self.few.len();
+        if !self.grow(n.saturating_add(few), most) {
+            return false;
+        }
+        let _ = self.bytes.extend_from_slice(self.few.as_slice());
+        self.few.consume(few);
+        true
+    }
+
     /// Moves the unread bytes to the front where they begin in the second half.
     fn move_to_front(&mut self)
+        requires { self.old.in_place ≡ 0 }
         ensures front { Fronted self.old self.new }
+        ensures in_vector { self.new.in_place ≡ 0 }
         ensures first_half { 2 * self.new.start ≤ self.new.length }
         ensures moved { self.new.moved + self.new.start ≤ self.old.moved + self.old.start }
     {
@@ -159,16 +244,26 @@ impl Buffer {
         }
     }
 
-    /// Keeps what was received.
-    pub(crate) fn append(&mut self, received: &[u8])
-        requires room { length received.now ≤ self.old.room }
-        requires first_half { 2 * self.old.start ≤ self.old.length }
+    /// Whether `n` bytes more find room in place: where none stands in the vector.
+    #[inline(always)]
+    pub(crate) fn has_room_in_place(&self, n: usize) -> bool
+        ensures none { IsTrue result → length self.now.unread ≤ self.now.in_place }
+        ensures few { IsTrue result → length self.now.unread + n ≤ 64 }
+    {
+        self.bytes.is_empty() && n <= FEW - self.few.len()
+    }
+
+    /// Keeps the few bytes that were received, in place.
+    #[inline(always)]
+    pub(crate) fn keep(&mut self, received: &[u8])
+        requires none { length self.old.unread ≤ self.old.in_place }
+        requires few { length self.old.unread + length received.now ≤ 64 }
         ensures unread { self.new.unread ≡ self.old.unread ++ received.now }
         ensures moved { self.new.moved + self.new.start ≡ self.old.moved + self.old.start }
         ensures most { self.new.most ≡ max self.old.most (length self.new.unread) }
     {
-        let _ = self.bytes.extend_from_slice(received);
-        self.most.sees(self.bytes.len() - self.start);
+        self.few.append(received);
+        self.most.sees(self.few.len());
     }
 
     /// Keeps what was received, with the memory that holds it, where nothing is unread.

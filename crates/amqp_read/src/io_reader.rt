@@ -8,7 +8,7 @@ ghost use Rattle.std.specs.declared.io.ErrorKind.TheVariants.{UnexpectedEof};
 ghost use Rattle.amqp_base.specs.declared.error.Error.TheVariants.{Io, OutOfMemory};
 ghost use Rattle.amqp_read.specs.Reading.{Takes};
 ghost use Rattle.amqp_read.specs.Steps.{Looked, NotAtHand, NotSeen};
-ghost use Rattle.amqp_read.specs.Streaming.{IsLean, SawMore};
+ghost use Rattle.amqp_read.specs.Streaming.{InVector, IsLean, NoneInVector, SawMore};
 ghost use Rattle.amqp_read.specs.Streaming.{reads};
 
 mod blocks;
@@ -129,6 +129,49 @@ impl<S: Source> IoReader<S> {
         self.taken += n;
     }
 
+    /// Consumes a byte that stands in the buffer's vector, where it can be counted.
+    #[inline(always)]
+    fn pop_in_vector(&mut self) -> Option<u8>
+        ensures { MatchOption result ((self.new ≡ self.old)
+            × (NoneInVector self.old ⊎ (2 ^ 64 ≤ self.old.reading.taken + 1)))
+            (λ b. Takes self.old.reading self.new.reading (b ∷ [])) }
+    {
+        if self.buffer.len_in_vector() == 0 || self.taken == usize::MAX {
+            return None;
+        }
+        let b = self.buffer.front_in_vector(1)[0];
+        self.consume_in_vector(1);
+        Some(b)
+    }
+
+    /// `n` of the bytes that stand in the buffer's vector are consumed.
+    #[inline(always)]
+    fn consume_in_vector(&mut self, n: usize)
+        requires there { InVector n self.old }
+        requires counted { self.old.reading.taken + n < 2 ^ 64 }
+        ensures { Takes self.old.reading self.new.reading (take n self.old.reading.received) }
+    {
+        self.buffer.consume_in_vector(n);
+        self.taken += n;
+    }
+
+    /// Whether `n` bytes stand in the buffer's vector that can be counted.
+    #[inline(always)]
+    fn has_in_vector(&self, n: usize) -> bool
+        ensures there { IsTrue result → InVector n self.now }
+        ensures counted { IsTrue result → self.now.reading.taken + n < 2 ^ 64 }
+    {
+        self.buffer.len_in_vector() >= n && usize::MAX - self.taken >= n
+    }
+
+    /// The received bytes go into the buffer's vector: whether there is memory for it.
+    fn settle(&mut self) -> bool
+        ensures same { self.new.reading ≡ self.old.reading }
+        ensures there { IsTrue result → self.new.buffer.in_place ≡ 0 }
+    {
+        !self.buffer.is_in_place() || self.buffer.make_room(0, 0)
+    }
+
     /// Whether nothing was received, and `n` bytes, `most` at most, can be counted.
     #[inline(always)]
     fn can_ask_at_once(&self, n: usize, most: usize) -> bool
@@ -136,7 +179,7 @@ impl<S: Source> IoReader<S> {
         ensures few { IsTrue result → (0 < n) × (n ≤ most) }
         ensures counted { IsTrue result → self.now.reading.taken + n < 2 ^ 64 }
     {
-        self.received() == 0 && 0 < n && n <= most && n <= usize::MAX - self.bytes_consumed()
+        self.received() == 0 && 0 < n && n <= most && n <= usize::MAX - self.taken
     }
 
     /// Whether `n` bytes are received that can be counted.
@@ -159,9 +202,12 @@ impl<S: Source> Read for IoReader<S> {
 
     #[inline(always)]
     fn peek(&mut self) -> Result<Option<u8>, Error> {
-        match self.buffer.unread().first() {
+        match self.buffer.in_vector().first() {
             Some(b) => Ok(Some(*b)),
-            None => self.look(),
+            None => match self.look() {
+                Ok(next) => Ok(next),
+                Err(kind) => Err(Error::from(kind)),
+            },
         }
     }
 
@@ -183,18 +229,21 @@ impl<S: Source> Read for IoReader<S> {
 
     #[inline(always)]
     fn next(&mut self) -> Result<Option<u8>, Error> {
-        match self.pop_first() {
+        match self.pop_in_vector() {
             Some(b) => Ok(Some(b)),
-            None => self.next_not_received(),
+            None => match self.next_not_in_vector() {
+                Ok(next) => Ok(next),
+                Err(kind) => Err(Error::from(kind)),
+            },
         }
     }
 
     #[inline(always)]
     fn read_exact(&mut self, buf: &mut [u8]) -> Result<(), Error> {
-        if self.take_received(buf) {
+        if self.take_in_vector(buf) {
             return Ok(());
         }
-        self.read_not_received(buf)
+        self.read_not_in_vector(buf)
     }
 
     fn peek_bytes(&mut self, n: usize) -> Result<Option<&[u8]>, Error> {
@@ -205,7 +254,7 @@ impl<S: Source> Read for IoReader<S> {
     }
 
     fn read_bytes(&mut self, alloc: Global, n: usize) -> Result<Vec<u8>, Error> {
-        if self.has_received(n) {
+        if self.has_in_vector(n) {
             return match self.take_received_bytes(alloc, n) {
                 Ok(bytes) => Ok(bytes),
                 Err(e) => Err(e),
@@ -226,7 +275,7 @@ impl<S: Source> Read for IoReader<S> {
 
     #[inline(always)]
     fn forward_read_str(&mut self, alloc: Global, n: usize) -> Result<String, Error> {
-        if self.has_received(n) {
+        if self.has_in_vector(n) {
             return match self.take_received_text(alloc, n) {
                 Ok(text) => Ok(text),
                 Err(e) => Err(e),
@@ -281,11 +330,11 @@ impl<S: Source> Read for IoReader<S> {
 
     #[inline(always)]
     fn pass_at_hand(&mut self, n: usize) -> bool {
-        let is_at_hand = self.has_received(n);
-        if is_at_hand {
-            self.consume(n);
+        if self.has_in_vector(n) {
+            self.consume_in_vector(n);
+            return true;
         }
-        is_at_hand
+        self.pass_received(n)
     }
 
     #[inline(always)]

@@ -2,6 +2,7 @@
 #![tactic(auto)]
 
 mod buffer;
+mod few;
 mod greatest;
 mod io_reader;
 mod raw;

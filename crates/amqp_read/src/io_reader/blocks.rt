@@ -9,6 +9,7 @@ ghost use Rattle.amqp_read.specs.Reading.{Stays, Takes};
 ghost use Rattle.amqp_base.specs.Faults.{refusal_of};
 ghost use Rattle.amqp_read.specs.Steps.{Ended, Looked, Fails, NotTaken};
 ghost use Rattle.amqp_read.specs.Steps.{PassesCount};
+ghost use Rattle.amqp_read.specs.Streaming.{InVector, NoneInVector};
 
 use super::IoReader;
 use crate::Read;
@@ -19,33 +20,33 @@ use std::io::ErrorKind;
 const SMALL: usize = 16;
 
 impl<S: Source> IoReader<S> {
-    /// Fills `block` with bytes that were received, and consumes them.
+    /// Fills `block` with bytes that stand in the buffer's vector, and consumes them.
     #[inline(always)]
     fn take_into(&mut self, block: &mut [u8])
-        requires received { length block.old ≤ length self.old.reading.received }
+        requires there { InVector (length block.old) self.old }
         requires counted { self.old.reading.taken + length block.old < 2 ^ 64 }
         ensures len { length block.new ≡ length block.old }
         ensures taken { Takes self.old.reading self.new.reading block.new }
     {
         let n = block.len();
-        block.copy_from_slice(&self.buffer.unread()[..n]);
-        self.consume(n);
+        block.copy_from_slice(self.buffer.front_in_vector(n));
+        self.consume_in_vector(n);
     }
 
-    /// Fills `block` with bytes that were received, and consumes them, where all of them were and
-    /// can be counted; else nothing changes.
+    /// Fills `block` with bytes that stand in the buffer's vector, and consumes them, where all of
+    /// them do and can be counted; else nothing changes.
     #[inline(always)]
-    pub(super) fn take_received(&mut self, block: &mut [u8]) -> bool
+    pub(super) fn take_in_vector(&mut self, block: &mut [u8]) -> bool
         ensures len { length block.new ≡ length block.old }
         ensures taken { IsTrue result → Takes self.old.reading self.new.reading block.new }
         ensures else_kept { result ≡ false → self.new ≡ self.old }
         ensures else_as_it_was { result ≡ false → block.new ≡ block.old }
     {
-        let is_received = self.has_received(block.len());
-        if is_received {
+        let is_there = self.has_in_vector(block.len());
+        if is_there {
             self.take_into(block);
         }
-        is_received
+        is_there
     }
 
     /// Asks the source once for all of `block`: whether it gave it. What it gave else is kept, and
@@ -68,9 +69,6 @@ impl<S: Source> IoReader<S> {
             Fails true true self.old.reading self.new.reading (refusal_of kind)) }
     {
         let n = block.len();
-        if !self.buffer.make_room(n, n) {
-            return Err(ErrorKind::OutOfMemory);
-        }
         let mut small = [0; SMALL];
         match self.source.read_some(&mut small[..n]) {
             Ok(got) => {
@@ -79,7 +77,7 @@ impl<S: Source> IoReader<S> {
                     self.taken += n;
                     Ok(true)
                 } else {
-                    self.buffer.append(&small[..got]);
+                    self.buffer.keep(&small[..got]);
                     Ok(false)
                 }
             }
@@ -126,8 +124,8 @@ impl<S: Source> IoReader<S> {
         }
     }
 
-    /// Fills `block`, where fewer bytes are received or can be counted.
-    pub(super) fn read_not_received(&mut self, block: &mut [u8]) -> Result<(), Error>
+    /// Fills `block`, where its bytes don't stand in the buffer's vector, or can't be counted.
+    pub(super) fn read_not_in_vector(&mut self, block: &mut [u8]) -> Result<(), Error>
         ensures len { length block.new ≡ length block.old }
         ensures ok { OnOk result (Takes self.old.reading self.new.reading block.new) }
         ensures err { OnErr result (Stays self.old.reading self.new.reading
@@ -144,15 +142,15 @@ impl<S: Source> IoReader<S> {
 
     /// The next byte, straight from the source.
     #[inline(always)]
-    fn next_of_source(&mut self) -> Result<Option<u8>, Error>
+    fn next_of_source(&mut self) -> Result<Option<u8>, ErrorKind>
         requires received { self.old.reading.received ≡ [] }
         requires counted { self.old.reading.taken + 1 < 2 ^ 64 }
         ensures ok { IfOk result (λ o. MatchOption o
             (Stays self.old.reading self.new.reading × Ended self.old.reading)
             (λ b. Takes self.old.reading self.new.reading (b ∷ []))) }
         ensures err { OnErr result (Stays self.old.reading self.new.reading) }
-        ensures why { IfErr result (λ e.
-            Fails true true self.old.reading self.new.reading e) }
+        ensures why { IfErr result (λ kind.
+            Fails true true self.old.reading self.new.reading (refusal_of kind)) }
     {
         let mut one = [0; 1];
         match self.source.read_some(&mut one) {
@@ -161,53 +159,76 @@ impl<S: Source> IoReader<S> {
                 self.taken += 1;
                 Ok(Some(one[0]))
             }
-            Err(kind) => Err(Error::from(kind)),
+            Err(kind) => Err(kind),
         }
     }
 
-    /// The next byte, where none is received that can be counted.
-    pub(super) fn next_not_received(&mut self) -> Result<Option<u8>, Error>
-        requires { (self.old.reading.received ≡ []) ⊎ (2 ^ 64 ≤ self.old.reading.taken + 1) }
+    /// The next byte, where none that can be counted stands in the buffer's vector.
+    pub(super) fn next_not_in_vector(&mut self) -> Result<Option<u8>, ErrorKind>
+        requires { NoneInVector self.old ⊎ (2 ^ 64 ≤ self.old.reading.taken + 1) }
         ensures ok { IfOk result (λ o. MatchOption o
             (Stays self.old.reading self.new.reading × Ended self.old.reading)
             (λ b. Takes self.old.reading self.new.reading (b ∷ []))) }
         ensures err { OnErr result (Stays self.old.reading self.new.reading) }
-        ensures why { IfErr result (λ e. Fails true true self.old.reading self.new.reading e
-            ⊎ PassesCount true 1 self.old.reading e) }
+        ensures why { IfErr result (λ kind.
+            Fails true true self.old.reading self.new.reading (refusal_of kind)
+            ⊎ PassesCount true 1 self.old.reading (refusal_of kind)) }
     {
-        if self.bytes_consumed() != usize::MAX {
-            return self.next_of_source();
+        if self.bytes_consumed() == usize::MAX {
+            return self.next_uncounted();
         }
-        self.next_uncounted()
+        match self.pop_in_place() {
+            Some(b) => Ok(Some(b)),
+            None => self.next_of_source(),
+        }
+    }
+
+    /// Consumes a byte that stands in place in the buffer.
+    #[inline(always)]
+    fn pop_in_place(&mut self) -> Option<u8>
+        requires counted { self.old.reading.taken + 1 < 2 ^ 64 }
+        ensures { MatchOption result
+            ((self.new ≡ self.old) × (self.old.buffer.in_place ≡ 0))
+            (λ b. Takes self.old.reading self.new.reading (b ∷ [])) }
+    {
+        if !self.buffer.is_in_place() {
+            return None;
+        }
+        let b = self.buffer.unread()[0];
+        self.consume(1);
+        Some(b)
     }
 
     /// What is answered where one byte more can't be counted.
     #[cold]
     #[inline(never)]
-    fn next_uncounted(&mut self) -> Result<Option<u8>, Error>
+    #[tactic(auto, unfolding(amqp_base::specs::Faults::refusal_of))]
+    fn next_uncounted(&mut self) -> Result<Option<u8>, ErrorKind>
         requires uncounted { 2 ^ 64 ≤ self.old.reading.taken + 1 }
         ensures ok { IfOk result (λ o. MatchOption o
             (Stays self.old.reading self.new.reading × Ended self.old.reading)
             (λ b. Takes self.old.reading self.new.reading (b ∷ []))) }
         ensures err { OnErr result (Stays self.old.reading self.new.reading) }
-        ensures why { IfErr result (λ e. Fails true true self.old.reading self.new.reading e
-            ⊎ PassesCount true 1 self.old.reading e) }
+        ensures why { IfErr result (λ kind.
+            Fails true true self.old.reading self.new.reading (refusal_of kind)
+            ⊎ PassesCount true 1 self.old.reading (refusal_of kind)) }
     {
         match self.fill(1) {
             Ok(true) => Err(self.uncounted_byte()),
             Ok(false) => Ok(None),
-            Err(kind) => Err(Error::from(kind)),
+            Err(kind) => Err(kind),
         }
     }
 
     /// Why a received byte that can't be counted isn't consumed.
     #[cold]
-    fn uncounted_byte(&self) -> Error
+    #[tactic(auto, unfolding(amqp_base::specs::Faults::refusal_of))]
+    fn uncounted_byte(&self) -> ErrorKind
         requires received { 0 < length self.now.reading.received }
         requires uncounted { 2 ^ 64 ≤ self.now.reading.taken + 1 }
-        ensures { PassesCount true 1 self.now.reading result }
+        ensures { PassesCount true 1 self.now.reading (refusal_of result) }
     {
         let _received = self.buffer.len();
-        Error::Io(ErrorKind::Other)
+        ErrorKind::Other
     }
 }

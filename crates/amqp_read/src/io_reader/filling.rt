@@ -7,9 +7,10 @@ ghost use Rattle.std.specs.declared.io.ErrorKind.TheVariants.{UnexpectedEof};
 ghost use Rattle.amqp_base.specs.declared.error.Error.TheVariants.{Io};
 ghost use Rattle.amqp_base.specs.Faults.{refusal_of};
 ghost use Rattle.amqp_read.specs.Steps.{Ended, IsShort, Looked, Fails, NotTaken, Shows};
-ghost use Rattle.amqp_read.specs.Streaming.{SawMore};
+ghost use Rattle.amqp_read.specs.Streaming.{InVector, NoneInVector, SawMore};
 
 use super::IoReader;
+use crate::few::FEW;
 use amqp_base::{Error, Source};
 use std::io::ErrorKind;
 
@@ -26,8 +27,37 @@ impl<S: Source> IoReader<S> {
         ensures most { SawMore self.old self.new }
     {
         let lacking = n - self.buffer.len();
+        if self.buffer.has_room_in_place(lacking) {
+            return self.more_in_place(n);
+        }
         match self.buffer.receive(&mut self.source, lacking) {
             Ok(got) => Ok(got != 0),
+            Err(kind) => Err(kind),
+        }
+    }
+
+    /// The same, where what they lack finds room in place in the buffer.
+    #[inline(always)]
+    #[tactic(auto, using(crate::proofs::Streams::received_stays))]
+    fn more_in_place(&mut self, n: usize) -> Result<bool, ErrorKind>
+        requires some { length self.old.reading.received < n }
+        requires none { NoneInVector self.old }
+        requires few { n ≤ 64 }
+        ensures looked { Looked n self.old.reading self.new.reading }
+        ensures some { IfOk result (λ some. IsTrue some →
+            length self.old.reading.received < length self.new.reading.received) }
+        ensures short { IfOk result (λ some. some ≡ false → IsShort n self.old.reading) }
+        ensures why { IfErr result (λ kind.
+            Fails true true self.old.reading self.new.reading (refusal_of kind)) }
+        ensures most { SawMore self.old self.new }
+    {
+        let mut block = [0; FEW];
+        let lacking = n - self.buffer.len();
+        match self.source.read_some(&mut block[..lacking]) {
+            Ok(got) => {
+                self.buffer.keep(&block[..got]);
+                Ok(got != 0)
+            }
             Err(kind) => Err(kind),
         }
     }
@@ -51,40 +81,52 @@ impl<S: Source> IoReader<S> {
         Ok(true)
     }
 
-    /// The next byte, where none was received. It stays, so room for it is found first.
-    pub(super) fn look(&mut self) -> Result<Option<u8>, Error>
+    /// The next byte, which stays, where none stands in the buffer's vector.
+    pub(super) fn look(&mut self) -> Result<Option<u8>, ErrorKind>
+        ensures ok { IfOk result (λ o. MatchOption o (Ended self.old.reading) (λ b.
+            Shows self.new.reading (b ∷ []))) }
+        ensures looked { Looked 1 self.old.reading self.new.reading }
+        ensures why { IfErr result (λ kind.
+            Fails true true self.old.reading self.new.reading (refusal_of kind)) }
+    {
+        match self.buffer.unread().first() {
+            Some(b) => Ok(Some(*b)),
+            None => self.look_at_source(),
+        }
+    }
+
+    /// The next byte, where none was received. It stays.
+    #[inline(always)]
+    fn look_at_source(&mut self) -> Result<Option<u8>, ErrorKind>
         requires received { self.old.reading.received ≡ [] }
         ensures ok { IfOk result (λ o. MatchOption o (Ended self.old.reading) (λ b.
             Shows self.new.reading (b ∷ []))) }
         ensures looked { Looked 1 self.old.reading self.new.reading }
-        ensures why { IfErr result (λ e.
-            Fails true true self.old.reading self.new.reading e) }
+        ensures why { IfErr result (λ kind.
+            Fails true true self.old.reading self.new.reading (refusal_of kind)) }
     {
-        if !self.buffer.make_room(1, 1) {
-            return Err(Error::OutOfMemory);
-        }
         let mut byte = [0; 1];
         match self.source.read_some(&mut byte) {
             Ok(0) => Ok(None),
             Ok(_) => {
-                self.buffer.append(&byte);
+                self.buffer.keep(&byte);
                 Ok(Some(byte[0]))
             }
-            Err(kind) => Err(Error::from(kind)),
+            Err(kind) => Err(kind),
         }
     }
 
-    /// Receives bytes until `n` are unread that can be counted.
+    /// Receives bytes until `n` stand in the buffer's vector that can be counted.
     pub(super) fn receive_all(&mut self, n: usize) -> Result<(), Error>
         ensures looked { Looked n self.old.reading self.new.reading }
-        ensures ok { OnOk result ((n ≤ length self.new.reading.received)
-            × (self.new.reading.taken + n < 2 ^ 64)) }
+        ensures ok { OnOk result (InVector n self.new × (self.new.reading.taken + n < 2 ^ 64)) }
         ensures why { IfErr result (λ e.
             NotTaken true true n self.old.reading self.new.reading e) }
     {
         match self.fill(n) {
             Ok(true) if n > usize::MAX - self.taken => Err(Error::Io(ErrorKind::Other)),
-            Ok(true) => Ok(()),
+            Ok(true) if self.settle() => Ok(()),
+            Ok(true) => Err(Error::OutOfMemory),
             Ok(false) => Err(Error::Io(ErrorKind::UnexpectedEof)),
             Err(kind) => Err(Error::from(kind)),
         }

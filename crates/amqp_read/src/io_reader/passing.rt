@@ -1,12 +1,12 @@
 //! Bytes that are passed over.
 
 ghost use Rattle.std.specs.Prelude.{◌≡◌, ◌<◌, ◌≤◌, ◌+◌, ◌^◌};
-ghost use Rattle.std.specs.Prelude.{true, []};
-ghost use Rattle.std.specs.Prelude.{IfOk, IfErr, OnErr};
+ghost use Rattle.std.specs.Prelude.{true, false, []};
+ghost use Rattle.std.specs.Prelude.{IfOk, IfErr, OnErr, IsTrue};
 ghost use Rattle.amqp_base.specs.declared.error.Error.TheVariants.{Io, OutOfMemory};
 ghost use Rattle.amqp_read.specs.Reading.{Stays};
 ghost use Rattle.amqp_read.specs.Steps.{IsShort, Fails, NotTaken};
-ghost use Rattle.amqp_read.specs.Steps.{Passes};
+ghost use Rattle.amqp_read.specs.Steps.{NotAtHand, Passes};
 
 use super::IoReader;
 use amqp_base::{Error, Source};
@@ -36,6 +36,21 @@ impl<S: Source> IoReader<S> {
             return Ok(k);
         }
         self.pass_of_source(n)
+    }
+
+    /// Consumes the next `n` bytes, where all of them were received and can be counted; else
+    /// nothing changes.
+    #[inline(never)]
+    pub(super) fn pass_received(&mut self, n: usize) -> bool
+        ensures passed { IsTrue result → Passes n self.old.reading self.new.reading }
+        ensures else_kept { result ≡ false → self.new ≡ self.old }
+        ensures else_few { result ≡ false → NotAtHand true n self.old.reading }
+    {
+        let is_received = self.has_received(n);
+        if is_received {
+            self.consume(n);
+        }
+        is_received
     }
 
     /// Consumes some of the next bytes, straight from the source.

@@ -8,7 +8,7 @@ ghost use Rattle.amqp_read.specs.Texts.{NotText, NoText};
 ghost use Rattle.amqp_base.specs.declared.error.Error.TheVariants.{OutOfMemory};
 ghost use Rattle.amqp_read.specs.Reading.{Stays, Takes};
 ghost use Rattle.amqp_read.specs.Steps.{Looked, Fails, NotTaken};
-ghost use Rattle.amqp_read.specs.Streaming.{IsApart};
+ghost use Rattle.amqp_read.specs.Streaming.{InVector, IsApart};
 ghost use Rattle.amqp_read.specs.Streaming.{with_received};
 
 use super::IoReader;
@@ -18,20 +18,20 @@ use amqp_base::{Error, Source};
 use std::alloc::Global;
 
 impl<S: Source> IoReader<S> {
-    /// A copy of the next `n` bytes, which were received.
+    /// A copy of the next `n` bytes, which stand in the buffer's vector.
     fn front_copied(&self, alloc: Global, n: usize) -> Result<Vec<u8>, Error>
-        requires { n ≤ length self.now.reading.received }
+        requires { InVector n self.now }
         ensures ok { IfOk result (λ v. v.items ≡ take n self.now.reading.received) }
         ensures err { IfErr result (λ e. e ≡ OutOfMemory) }
     {
-        match Vec::from_slice(alloc, &self.buffer.unread()[..n]) {
+        match Vec::from_slice(alloc, self.buffer.front_in_vector(n)) {
             Ok(bytes) => Ok(bytes),
             Err(_) => Err(Error::OutOfMemory),
         }
     }
 
-    /// The next `n` bytes, which were received, apart from the buffer with its memory, where they
-    /// are many and all that it holds.
+    /// The next `n` bytes, which stand in the buffer's vector, with its memory, where they are many
+    /// and all that it holds.
     fn hand_over(&mut self, alloc: Global, n: usize) -> Option<Vec<u8>>
         requires counted { self.old.reading.taken + n < 2 ^ 64 }
         ensures len { IfSome result (λ v. length v.items ≡ n) }
@@ -42,9 +42,9 @@ impl<S: Source> IoReader<S> {
         self.buffer.hand_over(alloc, n)
     }
 
-    /// A copy of the next `n` bytes, which were received, and which are consumed.
+    /// A copy of the next `n` bytes, which stand in the buffer's vector. They are consumed.
     fn take_front(&mut self, alloc: Global, n: usize) -> Result<Vec<u8>, Error>
-        requires received { n ≤ length self.old.reading.received }
+        requires there { InVector n self.old }
         requires counted { self.old.reading.taken + n < 2 ^ 64 }
         ensures len { IfOk result (λ v. length v.items ≡ n) }
         ensures ok { IfOk result (λ v. Takes self.old.reading self.new.reading v.items) }
@@ -52,14 +52,15 @@ impl<S: Source> IoReader<S> {
         ensures err { IfErr result (λ e. e ≡ OutOfMemory) }
     {
         let bytes = self.front_copied(alloc, n)?;
-        self.consume(n);
+        self.consume_in_vector(n);
         Ok(bytes)
     }
 
-    /// A copy of the next `n` bytes as a text, which were received, and which are consumed.
+    /// A copy of the next `n` bytes, which stand in the buffer's vector, as a text. They are
+    /// consumed.
     #[inline(always)]
     fn take_front_text(&mut self, alloc: Global, n: usize) -> Result<String, Error>
-        requires received { n ≤ length self.old.reading.received }
+        requires there { InVector n self.old }
         requires counted { self.old.reading.taken + n < 2 ^ 64 }
         ensures len { IfOk result (λ t. length (string_bytes t) ≡ n) }
         ensures ok { IfOk result (λ t.
@@ -68,9 +69,9 @@ impl<S: Source> IoReader<S> {
         ensures why { IfErr result (λ e.
             NoText n self.old.reading e ⊎ (e ≡ OutOfMemory)) }
     {
-        match text_of(alloc, &self.buffer.unread()[..n]) {
+        match text_of(alloc, self.buffer.front_in_vector(n)) {
             Ok(text) => {
-                self.consume(n);
+                self.consume_in_vector(n);
                 Ok(text)
             }
             Err(e) => Err(e),
@@ -144,9 +145,9 @@ impl<S: Source> IoReader<S> {
         Ok(unsafe { String::from_utf8_unchecked(bytes) })
     }
 
-    /// The next `n` bytes, which were received, and which are consumed.
+    /// The next `n` bytes, which stand in the buffer's vector. They are consumed.
     pub(super) fn take_received_bytes(&mut self, alloc: Global, n: usize) -> Result<Vec<u8>, Error>
-        requires received { n ≤ length self.old.reading.received }
+        requires there { InVector n self.old }
         requires counted { self.old.reading.taken + n < 2 ^ 64 }
         ensures len { IfOk result (λ v. length v.items ≡ n) }
         ensures ok { IfOk result (λ v. Takes self.old.reading self.new.reading v.items) }
@@ -162,10 +163,10 @@ impl<S: Source> IoReader<S> {
         }
     }
 
-    /// The next `n` bytes as a text, which were received, and which are consumed.
+    /// The next `n` bytes, which stand in the buffer's vector, as a text. They are consumed.
     #[inline(always)]
     pub(super) fn take_received_text(&mut self, alloc: Global, n: usize) -> Result<String, Error>
-        requires received { n ≤ length self.old.reading.received }
+        requires there { InVector n self.old }
         requires counted { self.old.reading.taken + n < 2 ^ 64 }
         ensures len { IfOk result (λ t. length (string_bytes t) ≡ n) }
         ensures ok { IfOk result (λ t.
@@ -190,7 +191,7 @@ impl<S: Source> IoReader<S> {
     /// text's.
     #[inline(never)]
     fn take_long_text(&mut self, alloc: Global, n: usize) -> Result<String, Error>
-        requires received { n ≤ length self.old.reading.received }
+        requires there { InVector n self.old }
         requires counted { self.old.reading.taken + n < 2 ^ 64 }
         ensures len { IfOk result (λ t. length (string_bytes t) ≡ n) }
         ensures ok { IfOk result (λ t.

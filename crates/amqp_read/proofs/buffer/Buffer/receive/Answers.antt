@@ -1,4 +1,4 @@
-use Rattle.std.proofs.Common.{◌≡◌, ◌≤◌, ◌+◌, ◌++◌, List, ℕ, length, take, drop, arith, ap, ◌∙◌, refl}
+use Rattle.std.proofs.Common.{◌≡◌, ◌≤◌, ◌+◌, ◌++◌, List, ℕ, length, take, drop, arith, ap, ◌∙◌, refl, sym, append_assoc}
 use Rattle.std.proofs.lemmas.Grind.{common_steps}
 use Rattle.amqp_read.specs.Streaming.{Buffered}
 use Rattle.amqp_read.proofs.Streams.{cut_behind, received_stays, fault_fails}
@@ -11,10 +11,12 @@ returns-in-Ok-clause-stays g c =
     let front : take c.len-have.result read ≡ old = grind (arith, common_steps) in
     let cut : c.truncate.new.self.items ≡ take (c.len-have.result + c.in-Ok.got) read = grind (arith, common_steps) in
     let given = take c.in-Ok.got (drop c.len-have.result read) in
-    let unread : drop c.self.inside.start old ≡ c.args.self.now.unread = ap (λ (z : Buffered). z.unread) c.self.view_is ∙ c.make_room.ensures.front.unread in
+    let few = c.self.inside.few in
+    let unread : few ++ drop c.self.inside.start old ≡ c.args.self.now.unread = ap (λ (z : Buffered). z.unread) c.self.view_is ∙ c.make_room.ensures.front.unread in
     let have : c.len-have.result ≡ length old = grind (arith, common_steps) in
     let within : c.self.inside.start ≤ c.len-have.result = omega arith in
-    let kept : drop c.self.inside.start c.truncate.new.self.items ≡ c.args.self.now.unread ++ given = rw cut (cut_behind old read _ _ c.in-Ok.got front have within ∙ ap (λ (z : List ℕ). z ++ given) unread) in
+    let kept : few ++ drop c.self.inside.start c.truncate.new.self.items ≡ c.args.self.now.unread ++ given =
+    rw cut (ap (λ (z : List ℕ). few ++ z) (cut_behind old read _ _ c.in-Ok.got front have within) ∙ sym (append_assoc few (drop c.self.inside.start old) given) ∙ ap (λ (z : List ℕ). z ++ given) unread) in
     rw kept (received_stays _ _ _ _ _ _ _ _ _ _ _ _ _ c.in-Ok.ensures.read.0 c.in-Ok.ensures.counts c.in-Ok.ensures.honest c.in-Ok.ensures.origin)
 
 pub returns-in-Err-clause-why : goal.returns-in-Err-clause-why

@@ -1,6 +1,6 @@
 use Rattle.std.proofs.Common.{◌∙◌, ap, List, ℕ, length}
 use Rattle.amqp_read.proofs.Streams.{looked_takes, on_ok}
-use Rattle.amqp_read.proofs.io_reader.IoReader.read_not_received.Goals as goal
+use Rattle.amqp_read.proofs.io_reader.IoReader.read_not_in_vector.Goals as goal
 
 pub returns-in-Ok-false-clause-ok : goal.returns-in-Ok-false-clause-ok
 returns-in-Ok-false-clause-ok g c =
