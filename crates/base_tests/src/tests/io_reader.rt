@@ -164,6 +164,26 @@ fn are_a_hundred<R: Read>(reader: &mut R) -> bool {
     reader.bytes_consumed() == 97 && is_so
 }
 
+/// Of two hundred bytes more are looked at than stand in place, while some are consumed.
+fn are_two_hundred<R: Read>(reader: &mut R) -> bool {
+    let mut is_so = is(reader.peek_at(59), Ok(Some(59)));
+    is_so = reader.skip(10).is_ok() && is_so;
+    is_so = is(reader.peek_at(59), Ok(Some(69))) && is_so;
+    is_so = is_bytes(reader, [10, 11, 12, 13, 14, 15, 16, 17, 18, 19, 20, 21, 22]) && is_so;
+    is_so = is(reader.peek_at(79), Ok(Some(102))) && is_so;
+    is_so = is_bytes(reader, [23, 24, 25, 26, 27, 28, 29, 30, 31, 32, 33, 34, 35]) && is_so;
+    is_so = reader.skip(60).is_ok() && is_so;
+    is_so = is(reader.peek_at(79), Ok(Some(175))) && is_so;
+    is_so = is_bytes(
+        reader,
+        [96, 97, 98, 99, 100, 101, 102, 103, 104, 105, 106, 107, 108],
+    ) && is_so;
+    is_so = reader.skip(67).is_ok() && is_so;
+    is_so = is(reader.peek_at(3), Ok(Some(179))) && is_so;
+    is_so = is(reader.next(), Ok(Some(176))) && is_so;
+    reader.bytes_consumed() == 177 && is_so
+}
+
 /// The next thirteen bytes are these.
 fn is_bytes<R: Read>(reader: &mut R, want: [u8; 13]) -> bool {
     is(read_const_bytes::<R, 13>(reader), Ok(want))
@@ -171,13 +191,29 @@ fn is_bytes<R: Read>(reader: &mut R, want: [u8; 13]) -> bool {
 
 /// They are the same over a slice and over sources that give 1, 7, 32 or all of them a read.
 fn are_same_hundred(alloc: Global) -> bool {
-    let mut bytes = [0u8; 100];
+    let bytes = counted_bytes();
+    let mut are_so = are_a_hundred(&mut SliceReader::new(&bytes[..100]));
+    for most in [1, 7, 32, 1000] {
+        are_so = are_a_hundred(&mut over(alloc, 100, most, 0)) && are_so;
+    }
+    are_so
+}
+
+/// The bytes from 0 to 199.
+fn counted_bytes() -> [u8; 200] {
+    let mut bytes = [0u8; 200];
     for i in 0..bytes.len() {
         bytes[i] = (i % 256) as u8;
     }
-    let mut are_so = are_a_hundred(&mut SliceReader::new(&bytes));
-    for most in [1, 7, 32, 1000] {
-        are_so = are_a_hundred(&mut over(alloc, 100, most, 0)) && are_so;
+    bytes
+}
+
+/// They are the same over a slice and over sources that give 1, 7, 64 or all of them a read.
+fn are_same_two_hundred(alloc: Global) -> bool {
+    let bytes = counted_bytes();
+    let mut are_so = are_two_hundred(&mut SliceReader::new(&bytes));
+    for most in [1, 7, 64, 1000] {
+        are_so = are_two_hundred(&mut over(alloc, 200, most, 0)) && are_so;
     }
     are_so
 }
@@ -188,6 +224,7 @@ fn a_source_is_read_however_it_cuts_its_bytes(rt: HostRuntime) {
     assert!(rt; are_at_hand(rt.alloc()));
     assert!(rt; are_same(rt.alloc()));
     assert!(rt; are_same_hundred(rt.alloc()));
+    assert!(rt; are_same_two_hundred(rt.alloc()));
     assert!(rt; fails_at(rt.alloc(), 1));
     assert!(rt; fails_at(rt.alloc(), 2));
     assert!(rt; fails_at(rt.alloc(), 12));
