@@ -191,17 +191,17 @@ fn is_bytes<R: Read>(reader: &mut R, want: [u8; 13]) -> bool {
 
 /// They are the same over a slice and over sources that give 1, 7, 32 or all of them a read.
 fn are_same_hundred(alloc: Global) -> bool {
-    let bytes = counted_bytes();
-    let mut are_so = are_a_hundred(&mut SliceReader::new(&bytes[..100]));
+    let bytes: [u8; 100] = counted_bytes();
+    let mut are_so = are_a_hundred(&mut SliceReader::new(&bytes));
     for most in [1, 7, 32, 1000] {
         are_so = are_a_hundred(&mut over(alloc, 100, most, 0)) && are_so;
     }
     are_so
 }
 
-/// The bytes from 0 to 199.
-fn counted_bytes() -> [u8; 200] {
-    let mut bytes = [0u8; 200];
+/// The bytes from 0 on.
+fn counted_bytes<const N: usize>() -> [u8; N] {
+    let mut bytes = [0u8; N];
     for i in 0..bytes.len() {
         bytes[i] = (i % 256) as u8;
     }
@@ -210,7 +210,7 @@ fn counted_bytes() -> [u8; 200] {
 
 /// They are the same over a slice and over sources that give 1, 7, 64 or all of them a read.
 fn are_same_two_hundred(alloc: Global) -> bool {
-    let bytes = counted_bytes();
+    let bytes: [u8; 200] = counted_bytes();
     let mut are_so = are_two_hundred(&mut SliceReader::new(&bytes));
     for most in [1, 7, 64, 1000] {
         are_so = are_two_hundred(&mut over(alloc, 200, most, 0)) && are_so;
