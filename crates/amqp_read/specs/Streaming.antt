@@ -6,11 +6,18 @@ use Rattle.std.specs.declared.io.ErrorKind.{ErrorKind}
 use Rattle.amqp_read.specs.Reading.{Reading}
 use Rattle.amqp_read.specs.Steps.{Looked}
 
+-- few bytes in place, and for how many more there is room behind them
+pub record InPlace : Type 0 where
+  pub bytes : List ℕ
+  pub room : ℕ
+
 pub record Buffered : Type 0 where
   -- the received bytes that were not consumed
   pub unread : List ℕ
   -- how many of them stand in place, without memory: all or none
   pub in_place : ℕ
+  -- how many bytes more find room there
+  pub room_in_place : ℕ
   -- how many bytes are held, consumed ones in front of them with them
   pub length : ℕ
   -- the index of the first unread byte

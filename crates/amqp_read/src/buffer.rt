@@ -10,7 +10,7 @@ ghost use Rattle.amqp_read.specs.Reading.{Stays};
 ghost use Rattle.amqp_read.specs.Steps.{Fails};
 ghost use Rattle.amqp_read.specs.Streaming.{Fronted, reads};
 
-use crate::few::{FEW, Few};
+use crate::few::Few;
 use crate::greatest::Greatest;
 use amqp_base::{Count, Source};
 use std::alloc::Global;
@@ -43,9 +43,10 @@ impl Model for Buffer {
     ghost Value = { Buffered };
 
     ghost view = { λ b. record {
-      unread = b.few ++ drop b.start b.bytes.items;
-      in_place = length b.few;
-      length = length b.few + vec_len b.bytes;
+      unread = b.few.bytes ++ drop b.start b.bytes.items;
+      in_place = length b.few.bytes;
+      room_in_place = b.few.room;
+      length = length b.few.bytes + vec_len b.bytes;
       start = b.start;
       room = vec_capacity b.bytes - vec_len b.bytes;
       moved = b.moved.n;
@@ -55,8 +56,8 @@ impl Model for Buffer {
     ghost invariant = { λ b. (b.start ≤ vec_len b.bytes)
         × (b.start ≡ vec_len b.bytes → vec_len b.bytes ≡ 0)
         × (vec_len b.bytes ≤ 2 * b.most.n)
-        × (length b.few + (vec_len b.bytes - b.start) ≤ b.most.n)
-        × (0 < length b.few → vec_len b.bytes ≡ 0) };
+        × (length b.few.bytes + (vec_len b.bytes - b.start) ≤ b.most.n)
+        × (0 < length b.few.bytes → vec_len b.bytes ≡ 0) };
 }
 
 impl Buffer {
@@ -244,20 +245,34 @@ impl Buffer {
         }
     }
 
+    /// Keeps the few bytes that were received, in place, where nothing is unread.
+    #[inline(always)]
+    pub(crate) fn keep(&mut self, received: &[u8])
+        requires none { self.old.unread ≡ [] }
+        requires few { length received.now ≤ 64 }
+        ensures unread { self.new.unread ≡ received.now }
+        ensures moved { self.new.moved + self.new.start ≡ self.old.moved + self.old.start }
+        ensures most { self.new.most ≡ max self.old.most (length self.new.unread) }
+    {
+        self.few.put(received);
+        self.most.sees(received.len());
+    }
+
     /// Whether `n` bytes more find room in place: where none stands in the vector.
     #[inline(always)]
     pub(crate) fn has_room_in_place(&self, n: usize) -> bool
         ensures none { IsTrue result → length self.now.unread ≤ self.now.in_place }
+        ensures room { IsTrue result → n ≤ self.now.room_in_place }
         ensures few { IsTrue result → length self.now.unread + n ≤ 64 }
     {
-        self.bytes.is_empty() && n <= FEW - self.few.len()
+        self.bytes.is_empty() && self.few.has_room(n)
     }
 
-    /// Keeps the few bytes that were received, in place.
+    /// Keeps the few bytes that were received, in place behind those that are unread.
     #[inline(always)]
-    pub(crate) fn keep(&mut self, received: &[u8])
+    pub(crate) fn append_in_place(&mut self, received: &[u8])
         requires none { length self.old.unread ≤ self.old.in_place }
-        requires few { length self.old.unread + length received.now ≤ 64 }
+        requires room { length received.now ≤ self.old.room_in_place }
         ensures unread { self.new.unread ≡ self.old.unread ++ received.now }
         ensures moved { self.new.moved + self.new.start ≡ self.old.moved + self.old.start }
         ensures most { self.new.most ≡ max self.old.most (length self.new.unread) }

@@ -1,13 +1,13 @@
 //! A few bytes, which take no memory.
 
-ghost use Rattle.std.specs.Prelude.{◌≡◌, ◌≤◌, ◌+◌, ◌++◌, [], length, drop};
+ghost use Rattle.std.specs.Prelude.{◌≡◌, ◌≤◌, ◌+◌, ◌++◌, [], length, drop, IsTrue};
 
 use std::marker::Model;
 
 /// So many bytes are kept in place.
 pub(crate) const FEW: usize = 64;
 
-/// At most 64 bytes, in place.
+/// At most 64 bytes, in place. None of them is ever moved.
 #[derive(Drop)]
 pub(crate) struct Few {
     bytes: [u8; FEW],
@@ -16,11 +16,15 @@ pub(crate) struct Few {
 }
 
 impl Model for Few {
-    ghost use Rattle.std.specs.Prelude.{ℕ, List, ◌≤◌, ◌-◌, take, drop};
+    ghost use Rattle.std.specs.Prelude.{◌≤◌, ◌-◌, take, drop};
+    ghost use Rattle.amqp_read.specs.Streaming.{InPlace};
 
-    ghost Value = { List ℕ };
+    ghost Value = { InPlace };
 
-    ghost view = { λ f. take (f.end - f.start) (drop f.start f.bytes) };
+    ghost view = { λ f. record {
+      bytes = take (f.end - f.start) (drop f.start f.bytes);
+      room = 64 - f.end;
+    } };
 
     ghost invariant = { λ f. (f.start ≤ f.end) × (f.end ≤ 64) };
 }
@@ -29,7 +33,7 @@ impl Few {
     /// None.
     #[inline(always)]
     pub(crate) fn new() -> Few
-        ensures { result ≡ [] }
+        ensures { result.bytes ≡ [] }
     {
         Few {
             bytes: [0; FEW],
@@ -41,7 +45,7 @@ impl Few {
     /// How many there are.
     #[inline(always)]
     pub(crate) fn len(&self) -> usize
-        ensures len { result ≡ length self.now }
+        ensures len { result ≡ length self.now.bytes }
         ensures few { result ≤ 64 }
     {
         self.end - self.start
@@ -50,22 +54,37 @@ impl Few {
     /// All of them.
     #[inline(always)]
     pub(crate) fn as_slice(&self) -> &[u8]
-        ensures { result.now ≡ self.now }
+        ensures { result.now ≡ self.now.bytes }
     {
         &self.bytes[self.start..self.end]
+    }
+
+    /// These bytes alone.
+    #[inline(always)]
+    pub(crate) fn put(&mut self, received: &[u8])
+        requires { length received.now ≤ 64 }
+        ensures { self.new.bytes ≡ received.now }
+    {
+        self.start = 0;
+        self.end = received.len();
+        self.bytes[..received.len()].copy_from_slice(received);
+    }
+
+    /// Whether `n` bytes find room behind them.
+    #[inline(always)]
+    pub(crate) fn has_room(&self, n: usize) -> bool
+        ensures room { IsTrue result → n ≤ self.now.room }
+        ensures few { IsTrue result → length self.now.bytes + n ≤ 64 }
+    {
+        n <= FEW - self.end
     }
 
     /// These bytes behind them.
     #[inline(always)]
     pub(crate) fn append(&mut self, received: &[u8])
-        requires { length self.old + length received.now ≤ 64 }
-        ensures { self.new ≡ self.old ++ received.now }
+        requires { length received.now ≤ self.old.room }
+        ensures { self.new.bytes ≡ self.old.bytes ++ received.now }
     {
-        if received.len() > FEW - self.end {
-            self.bytes.copy_within(self.start..self.end, 0);
-            self.end -= self.start;
-            self.start = 0;
-        }
         let end = self.end + received.len();
         self.bytes[self.end..end].copy_from_slice(received);
         self.end = end;
@@ -74,9 +93,13 @@ impl Few {
     /// The first `n` are gone.
     #[inline(always)]
     pub(crate) fn consume(&mut self, n: usize)
-        requires { n ≤ length self.old }
-        ensures { self.new ≡ drop n self.old }
+        requires { n ≤ length self.old.bytes }
+        ensures { self.new.bytes ≡ drop n self.old.bytes }
     {
         self.start += n;
+        if self.start == self.end {
+            self.start = 0;
+            self.end = 0;
+        }
     }
 }

@@ -42,6 +42,7 @@ impl<S: Source> IoReader<S> {
     fn more_in_place(&mut self, n: usize) -> Result<bool, ErrorKind>
         requires some { length self.old.reading.received < n }
         requires none { NoneInVector self.old }
+        requires room { n ≤ length self.old.reading.received + self.old.buffer.room_in_place }
         requires few { n ≤ 64 }
         ensures looked { Looked n self.old.reading self.new.reading }
         ensures some { IfOk result (λ some. IsTrue some →
@@ -55,7 +56,7 @@ impl<S: Source> IoReader<S> {
         let lacking = n - self.buffer.len();
         match self.source.read_some(&mut block[..lacking]) {
             Ok(got) => {
-                self.buffer.keep(&block[..got]);
+                self.buffer.append_in_place(&block[..got]);
                 Ok(got != 0)
             }
             Err(kind) => Err(kind),
