@@ -2,6 +2,7 @@
 
 ghost use Rattle.std.specs.Prelude.{ℕ, ◌≡◌, ◌*◌, ◌+◌, ◌<◌, ◌≤◌};
 ghost use Rattle.std.specs.Prelude.{◌⊎◌, length, IsTrue, false, take, vec_len, vec_capacity};
+ghost use Rattle.std.specs.Prelude.{slice_index_or};
 ghost use Rattle.amqp_base.specs.declared.format_code.EncodingCodes.{EncodingCodes};
 ghost use Rattle.amqp_base.specs.declared.format_code.EncodingCodes.TheVariants.{Uint, Ulong};
 ghost use Rattle.amqp_base.specs.declared.format_code.EncodingCodes.TheVariants.{Int};
@@ -38,6 +39,16 @@ pub(crate) trait Wide<const W: usize>: Typed + Copy {
         ensures few { result.1 ≤ length bytes.now }
         ensures number { 0 < result.1 →
             IsElement Self.meaning bare (take result.1 bytes.now) result.0 };
+
+    /// The same where a byte stands behind its longest form, with the byte behind it; `code` is its
+    /// constructor.
+    fn with_next(code: u8, bytes: &[u8]) -> (Self, usize, u8)
+        requires room { W + 2 ≤ length bytes.now }
+        requires code { slice_index_or bytes.now 0 0 ≡ code }
+        ensures few { result.1 ≤ W + 1 }
+        ensures number { 0 < result.1 →
+            IsElement Self.meaning bare (take result.1 bytes.now) result.0 }
+        ensures next { 0 < result.1 → slice_index_or bytes.now result.1 0 ≡ result.2 };
 }
 
 impl Wide<4> for i32 {
@@ -61,18 +72,23 @@ impl Wide<4> for i32 {
 
     #[inline(always)]
     fn at_front(bytes: &[u8]) -> (i32, usize) {
-        if bytes.len() < 5 {
-            return match bytes[0] {
-                codes::SMALL_INT if bytes.len() >= 2 => (i8::from_be_bytes([bytes[1]]) as i32, 2),
-                _ => (0, 0),
-            };
+        match bytes[0] {
+            codes::SMALL_INT if bytes.len() >= 2 => (i8::from_be_bytes([bytes[1]]) as i32, 2),
+            codes::INT if bytes.len() >= 5 => (Self::of_data(&bytes[1..5]), 5),
+            _ => (0, 0),
         }
-        let is_wide = bytes[0] == codes::INT;
-        let is_small = bytes[0] == codes::SMALL_INT;
+    }
+
+    #[inline(always)]
+    fn with_next(code: u8, bytes: &[u8]) -> (i32, usize, u8) {
+        let is_wide = code == codes::INT;
+        let is_small = code == codes::SMALL_INT;
         let wide = Self::of_data(&bytes[1..5]);
         let small = i8::from_be_bytes([bytes[1]]) as i32;
         let number = if is_wide { wide } else { small };
-        (number, 5 * is_wide as usize + 2 * is_small as usize)
+        let wide_next = bytes[5] * is_wide as u8;
+        let next = wide_next.wrapping_add(bytes[2] * is_small as u8);
+        (number, 5 * is_wide as usize + 2 * is_small as usize, next)
     }
 }
 
@@ -97,22 +113,31 @@ impl Wide<4> for u32 {
 
     #[inline(always)]
     fn at_front(bytes: &[u8]) -> (u32, usize) {
-        if bytes.len() < 5 {
-            return match bytes[0] {
-                codes::SMALL_UINT if bytes.len() >= 2 => (bytes[1] as u32, 2),
-                codes::UINT0 => (0, 1),
-                _ => (0, 0),
-            };
+        match bytes[0] {
+            codes::UINT0 => (0, 1),
+            codes::SMALL_UINT if bytes.len() >= 2 => (bytes[1] as u32, 2),
+            codes::UINT if bytes.len() >= 5 => (Self::of_data(&bytes[1..5]), 5),
+            _ => (0, 0),
         }
-        let is_wide = bytes[0] == codes::UINT;
-        let is_small = bytes[0] == codes::SMALL_UINT;
-        let is_zero = bytes[0] == codes::UINT0;
+    }
+
+    #[inline(always)]
+    fn with_next(code: u8, bytes: &[u8]) -> (u32, usize, u8) {
+        let is_wide = code == codes::UINT;
+        let is_small = code == codes::SMALL_UINT;
+        let is_zero = code == codes::UINT0;
         // at most one isn't 0: choosing between them would be a branch, often guessed wrong
         let wide = Self::of_data(&bytes[1..5]) * is_wide as u32;
         let small = bytes[1] as u32 * is_small as u32;
+        let wide_next = bytes[5] * is_wide as u8;
+        let small_next = bytes[2] * is_small as u8;
+        let next = wide_next
+            .wrapping_add(small_next)
+            .wrapping_add(bytes[1] * is_zero as u8);
         (
             wide.wrapping_add(small),
             5 * is_wide as usize + 2 * is_small as usize + is_zero as usize,
+            next,
         )
     }
 }
@@ -138,22 +163,31 @@ impl Wide<8> for u64 {
 
     #[inline(always)]
     fn at_front(bytes: &[u8]) -> (u64, usize) {
-        if bytes.len() < 9 {
-            return match bytes[0] {
-                codes::SMALL_ULONG if bytes.len() >= 2 => (bytes[1] as u64, 2),
-                codes::ULONG0 => (0, 1),
-                _ => (0, 0),
-            };
+        match bytes[0] {
+            codes::ULONG0 => (0, 1),
+            codes::SMALL_ULONG if bytes.len() >= 2 => (bytes[1] as u64, 2),
+            codes::ULONG if bytes.len() >= 9 => (Self::of_data(&bytes[1..9]), 9),
+            _ => (0, 0),
         }
-        let is_wide = bytes[0] == codes::ULONG;
-        let is_small = bytes[0] == codes::SMALL_ULONG;
-        let is_zero = bytes[0] == codes::ULONG0;
+    }
+
+    #[inline(always)]
+    fn with_next(code: u8, bytes: &[u8]) -> (u64, usize, u8) {
+        let is_wide = code == codes::ULONG;
+        let is_small = code == codes::SMALL_ULONG;
+        let is_zero = code == codes::ULONG0;
         // at most one isn't 0: choosing between them would be a branch, often guessed wrong
         let wide = Self::of_data(&bytes[1..9]) * is_wide as u64;
         let small = bytes[1] as u64 * is_small as u64;
+        let wide_next = bytes[9] * is_wide as u8;
+        let small_next = bytes[2] * is_small as u8;
+        let next = wide_next
+            .wrapping_add(small_next)
+            .wrapping_add(bytes[1] * is_zero as u8);
         (
             wide.wrapping_add(small),
             9 * is_wide as usize + 2 * is_small as usize + is_zero as usize,
+            next,
         )
     }
 }
@@ -194,14 +228,14 @@ fn push_front<T: Wide<W>, const W: usize>(
     most: usize,
     items: &mut Vec<T>,
 ) -> (usize, usize)
+    requires width { (W ≡ 4) ⊎ (W ≡ 8) }
     requires room { vec_len items.old + most ≤ vec_capacity items.old }
     ensures few { result.0 ≤ most }
     ensures within { result.1 ≤ length bytes.now }
     ensures put { PutBehind T.meaning bare (take result.1 bytes.now) result.0
         items.old.items items.new.items }
 {
-    let mut many = 0;
-    let mut at = 0;
+    let (mut many, mut at) = push_looking_ahead(bytes, most, items);
     while many < most && at < bytes.len() {
         let (number, len) = T::at_front(&bytes[at..]);
         if len == 0 {
@@ -210,6 +244,43 @@ fn push_front<T: Wide<W>, const W: usize>(
         items.push_reserved(number);
         many += 1;
         at += len;
+    }
+    (many, at)
+}
+
+/// The same as long as a byte stands behind the longest form of the next number. What comes behind
+/// each form is looked at before the number's own form is known, so that no constructor waits for
+/// the number before it.
+#[inline(always)]
+fn push_looking_ahead<T: Wide<W>, const W: usize>(
+    bytes: &[u8],
+    most: usize,
+    items: &mut Vec<T>,
+) -> (usize, usize)
+    requires width { (W ≡ 4) ⊎ (W ≡ 8) }
+    requires room { vec_len items.old + most ≤ vec_capacity items.old }
+    ensures few { result.0 ≤ most }
+    ensures within { result.1 ≤ length bytes.now }
+    ensures put { PutBehind T.meaning bare (take result.1 bytes.now) result.0
+        items.old.items items.new.items }
+    ensures so_many { vec_len items.new ≡ vec_len items.old + result.0 }
+    ensures room { vec_capacity items.new ≡ vec_capacity items.old }
+{
+    let mut many = 0;
+    let mut at = 0;
+    let mut code = match bytes.first() {
+        Some(code) => *code,
+        None => return (0, 0),
+    };
+    while many < most && bytes.len() - at > W + 1 {
+        let (number, len, next) = T::with_next(code, &bytes[at..]);
+        if len == 0 {
+            break;
+        }
+        items.push_reserved(number);
+        many += 1;
+        at += len;
+        code = next;
     }
     (many, at)
 }
@@ -304,6 +375,7 @@ impl<R: Read> Deserializer<R> {
         inner: &mut Open,
         items: &mut Vec<T>,
     ) -> Result<bool, Error>
+        requires width { (W ≡ 4) ⊎ (W ≡ 8) }
         requires answers { self.old.ended ≡ false }
         requires code { self.old.inherited ≡ bare }
         ensures { ReadsMany T.meaning (at_open self.old inner.old) items.old.items result

@@ -1,13 +1,10 @@
 -- One number after the other, each behind its own constructor.
-use Rattle.std.proofs.Common.{◌+◌, ◌-◌, ◌≤◌, refl, sym, subst, ◌∙◌, arith, [], length, length-take, drop}
-use Rattle.std.proofs.lemmas.List.{append-nil, take-take}
+use Rattle.std.proofs.Common.{◌+◌, ◌-◌, ◌≤◌, refl, subst, ◌∙◌, arith, length, length-take, drop}
+use Rattle.std.proofs.lemmas.List.{take-take}
 use Rattle.amqp_base.specs.Wire.{bare}
 use Rattle.amqp_de.specs.Many.{IsElement}
 use Rattle.amqp_de.proofs.Many.{put_more}
 use Rattle.amqp_de.proofs.numbers.push_front.Goals as goal
-
-pub loop-many-init : goal.loop-many-init
-loop-many-init g c = record { put = record { values = []; meant = refl; many = refl; items = sym (append-nil _) }; so_many = omega arith; room = refl; within = omega arith; few = omega arith }
 
 pub push_reserved-requires : goal.push_reserved-requires
 push_reserved-requires g c = omega (arith, c.loop-many.invariant.so_many, c.loop-many.invariant.room, c.requires.room, c.loop-many-test.true)

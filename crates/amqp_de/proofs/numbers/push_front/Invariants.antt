@@ -5,9 +5,9 @@ use Rattle.amqp_de.proofs.numbers.push_front.Given as goal
 
 abbrev pub invariant-loop-many : goal.invariant-loop-many
 invariant-loop-many g l = record {
-  put : PutBehind g.T.Typed.meaning bare (take l.at l.bytes) l.many l.initial.items.items l.items.items;
-  so_many : vec_len l.items ≡ vec_len l.initial.items + l.many;
-  room : vec_capacity l.items ≡ vec_capacity l.initial.items;
+  put : PutBehind g.T.Typed.meaning bare (take l.at l.bytes) l.many l.fn.items.items l.items.items;
+  so_many : vec_len l.items ≡ vec_len l.fn.items + l.many;
+  room : vec_capacity l.items ≡ vec_capacity l.fn.items;
   within : l.at ≤ length l.bytes;
   few : l.many ≤ l.most;
 }

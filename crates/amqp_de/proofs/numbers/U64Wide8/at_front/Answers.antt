@@ -1,6 +1,5 @@
 -- The number's own constructor, and its data.
-use Rattle.std.proofs.Common.{◌≡◌, ◌*◌, ◌+◌, ◌%◌, ◌^◌, inl, inr, refl, arith, slice_index_or}
-use Rattle.std.proofs.lemmas.Bool.Decides.{eqb_tells}
+use Rattle.std.proofs.Common.{refl, slice_index_or}
 use Rattle.amqp_base.specs.Codes.{row, code_of}
 use Rattle.amqp_base.specs.SameKind.{same_kind, place}
 use Rattle.amqp_base.specs.Item.{ulong}
@@ -9,29 +8,6 @@ use Rattle.amqp_base.specs.declared.format_code.EncodingCodes.TheVariants.{Ulong
 use Rattle.amqp_data.proofs.ByteNumbers.{number_1}
 use Rattle.amqp_de.proofs.Many.{behind_code, one_byte, no_byte}
 use Rattle.amqp_de.proofs.numbers.U64Wide8.at_front.Goals as goal
-
-pub returns-clause-number : goal.returns-clause-number
-unfolding row code_of payload read same_kind place
-returns-clause-number c =
-    let b = slice_index_or c.args.bytes.now 0 0 in
-    let n = slice_index_or c.args.bytes.now 1 0 in
-    let v = c.of_data.result in
-    elim (eqb_tells b 128) [
-      | inl wide ↦
-          let same : (v * 1 + n * 0) % 2 ^ 64 ≡ v = omega (arith, c.of_data.type_inv) in
-          rw (wide.1, same) (λ _. behind_code _ Ulong 8 128 c.args.bytes.now v refl wide.1 c.requires c.of_data.ensures)
-      | inr narrow ↦ elim (eqb_tells b 83) [
-        | inl small ↦
-            let same : (v * 0 + n * 1) % 2 ^ 64 ≡ n = omega (arith, c.type_inv.bytes 1) in
-            rw (small.1, same) (λ _. one_byte _ SmallUlong 83 (ulong n) n c.args.bytes.now refl small.1 (omega (arith, c.if-bytes-lt9.false)) refl (rw (number_1 n) refl) refl refl)
-        | inr other ↦ elim (eqb_tells b 68) [
-          | inl zero ↦
-              let same : (v * 0 + n * 0) % 2 ^ 64 ≡ 0 = omega arith in
-              rw (zero.1, same) (λ _. no_byte _ Ulong0 68 (ulong 0) 0 c.args.bytes.now refl zero.1 c.requires refl refl refl refl)
-          | inr none ↦ rw (narrow.0, other.0, none.0) (λ h. absurd (omega (arith, h)))
-        ]
-      ]
-    ]
 
 pub returns-in-83-clause-number : goal.returns-in-83-clause-number
 unfolding row code_of payload read same_kind place
@@ -42,3 +18,7 @@ returns-in-83-clause-number c = λ _.
 pub returns-in-68-clause-number : goal.returns-in-68-clause-number
 unfolding row code_of payload read same_kind place
 returns-in-68-clause-number c = λ _. no_byte _ Ulong0 68 (ulong 0) 0 c.args.bytes.now refl c.in-68.is c.requires refl refl refl refl
+
+pub returns-in-128-clause-number : goal.returns-in-128-clause-number
+unfolding row code_of
+returns-in-128-clause-number c = λ _. behind_code _ Ulong 8 128 c.args.bytes.now c.of_data.result refl c.in-128.is c.requires c.of_data.ensures

@@ -1,0 +1,17 @@
+use Rattle.std.proofs.Common.{◌≡◌, ◌+◌, ◌-◌, ◌≤◌, take, length, slice_index_or, vec_len, vec_capacity}
+use Rattle.amqp_base.specs.Wire.{bare}
+use Rattle.amqp_de.specs.Many.{PutBehind}
+use Rattle.amqp_de.proofs.numbers.push_looking_ahead.Given as goal
+
+abbrev pub invariant-loop-many : goal.invariant-loop-many
+invariant-loop-many g l = record {
+  put : PutBehind g.T.Typed.meaning bare (take l.at l.bytes) l.many l.initial.items.items l.items.items;
+  so_many : vec_len l.items ≡ vec_len l.initial.items + l.many;
+  room : vec_capacity l.items ≡ vec_capacity l.initial.items;
+  within : l.at ≤ length l.bytes;
+  few : l.many ≤ l.most;
+  code : slice_index_or l.bytes l.at 0 ≡ l.code;
+}
+
+abbrev pub decreases-loop-many : goal.decreases-loop-many
+decreases-loop-many g l = l.most - l.many
