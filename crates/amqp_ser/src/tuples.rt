@@ -193,6 +193,7 @@ impl<W: Sink> Serializer<W> {
         ensures err { length (P.items parts.now) ≡ len →
             IfErr result (λ e. Refused self.old.state
             (whole (Shape.Tuple len) (P.items parts.now)) e self.new.state) }
+        ensures number { OnOk result (length (P.items parts.now) ≡ len) }
     {
         let mut out = match self.serialize_tuple(alloc, len) {
             Ok(out) => out,

@@ -1,4 +1,6 @@
-use Rattle.std.proofs.Common.{rules, [], length, eq-eqb, refl, false}
+use Rattle.std.proofs.Common.{rules, [], length, eq-eqb, refl, false, inl, inr}
+use Rattle.std.proofs.lemmas.Bool.Decides.{eqb_tells}
+use Rattle.amqp_base.specs.declared.error.Error.TheVariants.{SequenceLengthMismatch}
 use Rattle.amqp_base.specs.Shapes.{whole}
 use Rattle.amqp_base.specs.declared.shape.Shape.{Shape}
 use Rattle.amqp_ser.specs.Law.{Wrote, Refused}
@@ -27,3 +29,13 @@ returns-in-Err-end-clause-err g c = λ len.
     let held = c.write.ensures.ok (rw c.if-write.true refl) s (Shape.Tuple c.args.len) [] c.in-Ok.ensures.opened in
     moved (λ n. Refused s (whole (Shape.Tuple c.args.len) xs) c.in-Err-end.e n) c.end.new.self.0.state _ (search rules)
     ((c.in-Err-end.ensures.law false).err s (Shape.Tuple c.args.len) xs held (rw (eq-eqb (length xs) c.args.len len) refl))
+
+pub returns-in-Ok-end-clause-number : goal.returns-in-Ok-end-clause-number
+returns-in-Ok-end-clause-number g c =
+    let s = c.args.self.now.state in
+    let xs = g.P.TupleParts.items c.args.parts.now in
+    let held = c.write.ensures.ok (rw c.if-write.true refl) s (Shape.Tuple c.args.len) [] c.in-Ok.ensures.opened in
+    elim (eqb_tells (length xs) c.args.len) [
+      | inl same ↦ same.1
+      | inr other ↦ let refused = (c.in-Ok-end.ensures.lacking false s (Shape.Tuple c.args.len) xs SequenceLengthMismatch held (rw other.0 refl)).0 in cc
+    ]
