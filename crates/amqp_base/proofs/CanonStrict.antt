@@ -103,10 +103,6 @@ data Elements (r : Rules) : List ℕ → Items → Type 0 where
   no_elements : Elements r [] none
   elements : (m b : List ℕ) {c : Constructor} {i : Item} {is : Items} → Spells m c → Parts r c b (more i is) → suc (count is) ≤ length b → Elements r (m ++ b) (more i is)
 
-elements_count : {r : Rules} {b : List ℕ} {is : Items} → Elements r b is → count is ≤ length b
-elements_count no_elements = omega arith
-elements_count (elements m b s t few) = omega (arith, length-append m b)
-
 put_array : (r : Rules) (e : EncodingCodes) (w : ℕ) → Again w → (is : Items) (b : List ℕ) → Elements r b is → w + length b < 256 ^ w → PermitsCount r (count is)
     → Data r e Kind.array (Array w) (headed w (count is) b) (array is)
 put_array r e w again _ _ no_elements fits p =

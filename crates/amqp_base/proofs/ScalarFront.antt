@@ -1,10 +1,10 @@
 -- The front of an item without parts, by its code byte.
-use Rattle.std.proofs.Common.{◌≡◌, ℕ, zero, suc, ◌+◌, ◌*◌, ◌<◌, ◌≤◌, true, false, ◌⊎◌, List, [], ◌∷◌, ◌++◌, length, take, drop, get_or, Some, refl, sym, ap, subst, ◌∙◌, arith, inl, inr}
+use Rattle.std.proofs.Common.{◌≡◌, ℕ, zero, suc, ◌+◌, ◌*◌, ◌<◌, ◌≤◌, true, false, List, [], ◌∷◌, ◌++◌, length, take, drop, get_or, Some, refl, sym, ap, subst, ◌∙◌, arith}
 use Rattle.std.proofs.lemmas.List.{length-append, length-take, take-append-drop, take_at}
 use Rattle.std.proofs.lemmas.Option.{same_Some}
 use Rattle.std.specs.Str.{is_utf8, all_scalars}
 use Rattle.amqp_base.specs.declared.format_code.EncodingCodes.{EncodingCodes}
-use Rattle.amqp_base.specs.declared.format_code.EncodingCodes.TheVariants.{BooleanTrue, BooleanFalse, Uint, SmallUint, Uint0}
+use Rattle.amqp_base.specs.declared.format_code.EncodingCodes.TheVariants.{BooleanTrue, BooleanFalse}
 use Rattle.amqp_base.specs.declared.format_code.Category.{Category}
 use Rattle.amqp_base.specs.declared.format_code.Category.TheVariants.{Fixed}
 use Rattle.amqp_base.specs.Codes.{Kind, row, code_of}
@@ -94,32 +94,11 @@ found r (x ∷ s) e w v l p c q =
       takes = omega (arith, length-take w s);
     })
 
-fixed_length : {e : EncodingCodes} {c : Category} {b : List ℕ} {v : Scalar} → ScalarData e c b v → (w : ℕ) → c ≡ Fixed w → length b ≡ w
-fixed_length (fixed {n = n} l p) w h = let m : n ≡ w = cc in l ∙ m
-fixed_length (variable l b ll n p) w h = absurd cc
-
-pub too_short : (r : Rules) (s : List ℕ) (e : EncodingCodes) (w : ℕ) → code_of (get_or s 0 0) ≡ Some e → (row e).category ≡ Fixed w → length s ≤ w → (v : Scalar) (n : ℕ) → Front r bare s (scalar v) n → ⊥
-too_short r s e w p c l v n f =
-    let b = front_begins r s v n f in
-    let head : get_or s 0 0 ≡ b.x = ap (λ (t : List ℕ). get_or t 0 0) b.parts in
-    let same : Some b.code ≡ Some e = sym b.code_is ∙ ap code_of (sym head) ∙ p in
-    let k : (row b.code).category ≡ Fixed w = ap (λ (d : EncodingCodes). (row d).category) (same_Some b.code e same) ∙ c in
-    let m = fixed_length b.there w k in
-    let len : length s ≡ suc (length (b.text ++ b.rest)) = ap (λ (t : List ℕ). length t) b.parts in
-    omega (arith, len, m, l, length-append b.text b.rest)
-
 pub other_kind : (r : Rules) (s : List ℕ) (v : Scalar) (n : ℕ) → ((e : EncodingCodes) → code_of (get_or s 0 0) ≡ Some e → (row e).kind ≡ kind_of v → ⊥) → Front r bare s (scalar v) n → ⊥
 other_kind r s v n h f =
     let b = front_begins r s v n f in
     let head : get_or s 0 0 ≡ b.x = ap (λ (t : List ℕ). get_or t 0 0) b.parts in
     h b.code (ap code_of head ∙ b.code_is) b.kind_is
-
-pub uint_codes : (e : EncodingCodes) → (row e).kind ≡ Kind.uint → (e ≡ Uint) ⊎ ((e ≡ SmallUint) ⊎ (e ≡ Uint0))
-unfolding row
-uint_codes Uint h = inl refl
-uint_codes SmallUint h = inr (inl refl)
-uint_codes Uint0 h = inr (inr refl)
-uint_codes _ h = absurd cc
 
 pub number_4 : (s : List ℕ) → 5 ≤ length s → number (take 4 (drop 1 s)) ≡ get_or s 1 0 * 16777216 + get_or s 2 0 * 65536 + get_or s 3 0 * 256 + get_or s 4 0
 number_4 (x ∷ a ∷ b ∷ c ∷ d ∷ s) h = omega arith

@@ -341,10 +341,6 @@ behind_bound w z k b (inl one) lz lk n y u t l far near =
     omega (arith, near (omega arith), length-append z (k ++ b), length-append k b)
 behind_bound w z k b (inr four) lz lk n y u t l far near = omega (arith, far, length-append z (k ++ b), length-append k b)
 
-pairs_usual : (ps : Pairs) → UsualInPairs ps → UsualIn (in_turn ps)
-pairs_usual no_pairs u = tt
-pairs_usual (pair k v ps) u = (u.0, (u.1, pairs_usual ps u.2))
-
 -- the canonical texts of items are no longer than their parts
 abbrev PartsLeast : Items → List ℕ → Type 0
 PartsLeast is u = (b : List ℕ) → AreBytes b → Parts strict bare b is → length u ≤ length b

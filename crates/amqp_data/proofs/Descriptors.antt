@@ -161,9 +161,6 @@ code_after x s = with_rest s (code_or_refusal (code_of x))
 pub no_primitive : (buffers : Bool) (x : ℕ) (old mid : Reading) (e : Error) → Takes old mid (x ∷ []) → PrimitiveOf x (Err e) → Rejects true buffers primitive_at old mid e
 no_primitive buffers x old mid e t c = behind_first code_after buffers x old mid mid e t (rw c.0 (rejects_here (code_after x) mid InvalidFormatCode not_device (λ s. rw c.1 refl)))
 
-pub primitive_parses : (e : EncodingCodes) (x : ℕ) (rest : List ℕ) → code_of x ≡ Some e → primitive_at (x ∷ rest) ≡ Ok (e, rest)
-primitive_parses e x rest p = rw p refl
-
 -- ---- the constructor of an array's elements
 
 -- a refusal, whatever is looked at behind it

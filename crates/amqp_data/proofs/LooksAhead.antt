@@ -21,12 +21,12 @@ use Rattle.amqp_data.specs.Ahead.{Ahead, Unseen, NumberAhead, TextAhead, DataAhe
 use Rattle.amqp_data.specs.Excuses.{Excused, no_memory, faulted, uncounted}
 use Rattle.amqp_data.specs.Steps.{Rejects, Unread}
 use Rattle.amqp_data.proofs.Received.{keeps_known, agree_then, agree_nothing, may_before, shown_next}
-use Rattle.amqp_data.proofs.Readings.{steady_then, steady_same, stayed, rejects_more, unread_rejects, rejects_here, unread_device, unread_memory}
+use Rattle.amqp_data.proofs.Readings.{steady_then, steady_same, stayed, rejects_here, unread_device, unread_memory}
 use Rattle.amqp_data.proofs.Data.{bytes_short, scalar_under}
 use Rattle.amqp_data.proofs.FixedWidth.{fixed_spells, fixed_refused, other_byte, not_device}
 use Rattle.amqp_data.proofs.KindCodes.{code_byte}
 use Rattle.amqp_data.proofs.Sized.{length_there, text_refused, text_err}
-use Rattle.amqp_data.proofs.Descriptors.{ulong_refused, symbol_refused, other_descriptor, byte_not, behind_first, byte_missing}
+use Rattle.amqp_data.proofs.Descriptors.{ulong_refused, symbol_refused, other_descriptor, byte_not, behind_first}
 
 -- ---- looks one behind the other
 
@@ -187,20 +187,6 @@ power_below (suc (suc (suc (suc (suc (suc zero)))))) h = omega arith
 power_below (suc (suc (suc (suc (suc (suc (suc zero))))))) h = omega arith
 power_below (suc (suc (suc (suc (suc (suc (suc (suc i)))))))) h = absurd (omega arith)
 
--- of fewer bytes than are needed one isn't there
-pub unseen_before : {grows buffers : Bool} (m n : ℕ) (old mid new : Reading) (e : Error) → m ≤ n → Stays old mid → Stays mid new → NotSeen grows buffers m mid new e → Unseen grows buffers n old new e
-unseen_before {grows} {buffers} m n old mid new e l p q u = record { stays = stays_then old mid new p q; why = tell u }
-  where
-    short : (k j : Option (List ℕ)) → Keeps k j → ShortOf m j → ShortOf n k
-    short None j h s = tt
-    short (Some x) None h s = absurd h
-    short (Some x) (Some y) h s = let f : length y ≡ length x = ap (λ (z : List ℕ). length z) h in omega arith
-
-    tell : NotSeen grows buffers m mid new e → NotSeen grows buffers n old new e
-    tell (inl x) = inl (x.0, λ honest. short old.to_come mid.to_come p.to_come (x.1 (p.steady.honest ∙ honest)))
-    tell (inr (inl x)) = inr (inl x)
-    tell (inr (inr x)) = inr (inr (x.0, (let f = p.steady.faults in let g = x.1 in omega arith), x.2))
-
 -- ---- a length, and a text
 
 pub payload_ahead : (n w k : ℕ) (b : List ℕ) (old mid new : Reading) (d : NumberAhead n w k old mid) → length b ≡ k → Looked (n + w + k) mid new → ShowsBehind (n + w) new b → Ahead n (d.digits ++ b) old new
@@ -214,13 +200,6 @@ text_there n w k b t old mid new d l o h q u = record {
   utf8 = is_utf8-from_IsUtf8 t u;
   ahead = rw q (payload_ahead n w k b old mid new d l o h);
 }
-
-no_length : (w : ℕ) (s : List ℕ) → length s < w → text_at w s ≡ Err (Io UnexpectedEof)
-no_length w s l = rw (bytes_short w s l) refl
-
-pub length_unseen : {buffers : Bool} (n w : ℕ) (old new : Reading) (e : Error) → 0 < w → Unseen buffers buffers (n + w) old new e → RejectsAhead n buffers (text_at w) old new e
-length_unseen {buffers} n w old new e h u =
-    rejects_ahead n n (text_at w) old new e u.stays (rejects_more (text_at w) (past n old) (past n new) e (λ _. refl) (unread_rejects (text_at w) w (past n old) (past n new) e (no_length w) (unread_past n w old new e h u)))
 
 payload_short : (w k : ℕ) (d s : List ℕ) → length d ≡ w → number d ≡ k → take (length d) s ≡ d → length s < w + k → text_at w s ≡ Err (Io UnexpectedEof)
 payload_short w k d s l v h f =
@@ -320,8 +299,3 @@ pub no_data : {buffers : Bool} (x : ℕ) (old mid new : Reading) (e : Error) →
 no_data {buffers} x old mid new e l h r =
     rejects_ahead 1 2 (descriptor_at InvalidFormatCode) old new e (stays_then old mid new l.stays r.stays)
     (behind_first (behind_byte (descriptor_data InvalidFormatCode)) buffers x (past 1 old) (past 2 mid) (past 2 new) e (takes_past 1 (x ∷ []) old mid (ahead 1 (x ∷ []) old mid l h)) r.rejects)
-
-pub no_code_ahead : {buffers : Bool} (old new : Reading) (e : Error) → Unseen buffers buffers 2 old new e → RejectsAhead 1 buffers (descriptor_at InvalidFormatCode) old new e
-no_code_ahead {buffers} old new e u =
-    rejects_ahead 1 1 (descriptor_at InvalidFormatCode) old new e u.stays
-    (byte_missing (λ b. behind_byte (descriptor_data InvalidFormatCode) b.0 b.1) buffers (past 1 old) (past 1 new) e (unread_past 1 1 old new e (omega arith) u))

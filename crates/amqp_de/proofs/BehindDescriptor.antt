@@ -12,20 +12,17 @@ use Rattle.amqp_base.specs.Wire.{Constructor, bare, under, under_pair, Wire, len
 use Rattle.amqp_base.proofs.Lists.{cons_parts, rest}
 use Rattle.amqp_base.proofs.OneFront.{same_descriptor_text}
 use Rattle.amqp_read.specs.Reading.{Reading, Takes}
-use Rattle.amqp_data.specs.Arrays.{RejectsFor, TakesDescriptor}
+use Rattle.amqp_data.specs.Arrays.{RejectsFor}
 use Rattle.amqp_data.specs.Steps.{Rejects, Unread}
 use Rattle.amqp_data.proofs.Descriptors.{descriptor_parses, behind_first, byte_missing, rejects_front}
 use Rattle.amqp_data.proofs.FixedWidth.{not_device}
-use Rattle.amqp_data.proofs.Readings.{behind, rejects_here, takes_nothing, takes_then}
+use Rattle.amqp_data.proofs.Readings.{behind, rejects_here, takes_nothing}
 use Rattle.amqp_de.specs.Decoding.{Decoding, stands_under, behind_descriptor}
 use Rattle.amqp_de.specs.Describes.{TakesDescribing, Describes, NoDescriptor}
 use Rattle.amqp_de.specs.Steps.{IsDescribed}
 use Rattle.amqp_de.proofs.Answered.{not_refused, one_refused}
 
 -- ---- 0x00 and a descriptor
-
-pub takes_describing : (d : Descriptor) (x : ℕ) (old mid new : Reading) → x ≡ 0 → Takes old mid (x ∷ []) → TakesDescriptor d mid new → TakesDescribing d old new
-takes_describing d x old mid new z t n = record { text = n.text; spelled = n.spelled; step = takes_then old mid new (0 ∷ []) n.text (rw z at t) n.step }
 
 pub no_first : (custom : Error) (buffers : Bool) (old new : Reading) (e : Error) → Unread buffers buffers 1 old new e → Rejects true buffers (describing_at custom bare) old new e
 unfolding describing_at

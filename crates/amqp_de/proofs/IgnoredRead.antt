@@ -28,16 +28,9 @@ use Rattle.amqp_de.specs.declared.ignored.Inside.{Inside}
 use Rattle.amqp_de.proofs.DescribedRead.{described_found}
 use Rattle.amqp_de.proofs.LookedFirst.{found_behind, missed_of_kind, missed_unseen, none_spent}
 use Rattle.amqp_de.proofs.OneElement.{named_looked}
-use Rattle.amqp_de.proofs.PartsRead.{missed_more}
 use Rattle.amqp_de.proofs.Weaker.{found_of, found_as}
 
 -- ---- a value without parts, by its type
-
-pub kind_found : (k : Kind) (takes : Item → Bool) (means : Item → Type 0) (old new : Decoding) → takes ≡ is_of k → Found takes means old new → Found (is_of k) anything old new
-kind_found k takes means old new h f = found_of takes (is_of k) means anything old new (λ o. (subst (λ (t : Item → Bool). IsTrue (t o.item)) h o.taken, tt)) f
-
-pub kind_missed : (k : Kind) (takes : Item → Bool) (grows buffers : Bool) (old new : Decoding) (e : Error) → takes ≡ is_of k → Missed takes grows buffers old new e → Missed (is_of k) true buffers old new e
-kind_missed k takes grows buffers old new e h m = missed_more (λ _. refl) (subst (λ (t : Item → Bool). Missed t grows buffers old new e) h m)
 
 pub kind_named : (k : Kind) (refuses : Refusing) (grows buffers : Bool) (old new : Decoding) (e : Error) → ((c : Constructor) (s : List ℕ) (x : Error) → refuses c s x → any_scalar_refusal k c s x) → Named refuses grows buffers old new e → Named (any_scalar_refusal k) true buffers old new e
 kind_named k refuses grows buffers old new e g n = record { why = λ a s at h. tell s (n.why a s at h) }

@@ -1,5 +1,5 @@
 -- Reading the key of a variant.
-use Rattle.std.proofs.Common.{◌≡◌, ℕ, Bool, true, false, IsTrue, List, ◌++◌, Some, Ok, Err, refl, sym, ap, subst, ◌∙◌, arith, inl, inr, ◌⊎◌}
+use Rattle.std.proofs.Common.{◌≡◌, ℕ, Bool, true, false, IsTrue, List, ◌++◌, Ok, Err, refl, sym, ap, subst, ◌∙◌, arith, inl, inr, ◌⊎◌}
 use Rattle.amqp_base.specs.declared.error.Error.{Error}
 use Rattle.amqp_base.specs.declared.error.Error.TheVariants.{InvalidFormatCode}
 use Rattle.amqp_base.specs.declared.format_code.EncodingCodes.{EncodingCodes}
@@ -12,16 +12,15 @@ use Rattle.amqp_base.specs.Parse.{code_at}
 use Rattle.amqp_base.specs.ReadBack.{of_own_kind}
 use Rattle.amqp_base.specs.Refusing.{scalar_refusal}
 use Rattle.amqp_base.specs.Typing.{is_of}
-use Rattle.amqp_base.specs.VariantItems.{Key, key_in, key_of, by_key, is_key_kind, key_refusal, no_code, no_key, bad_key}
+use Rattle.amqp_base.specs.VariantItems.{key_in, by_key, is_key_kind, key_refusal, no_code, no_key, bad_key}
 use Rattle.amqp_data.specs.Excuses.{Excused}
 use Rattle.amqp_data.proofs.Readings.{excused_more, stayed}
 use Rattle.amqp_data.proofs.Received.{may_known, keeps_known}
 use Rattle.amqp_de.specs.Decoding.{Decoding, stands_under}
-use Rattle.amqp_de.specs.Law.{Found, Missed, Named}
+use Rattle.amqp_de.specs.Law.{Missed, Named}
 use Rattle.amqp_de.specs.Look.{item_kind, Looks, LooksNot}
-use Rattle.amqp_de.proofs.LookedFirst.{found_behind, missed_of_kind, missed_unseen}
+use Rattle.amqp_de.proofs.LookedFirst.{missed_of_kind, missed_unseen}
 use Rattle.amqp_de.proofs.Naming.{named_behind}
-use Rattle.amqp_de.proofs.Weaker.{found_as}
 
 -- ---- codes and kinds
 
@@ -62,9 +61,6 @@ of_its_kind k (array is) h t = absurd cc
 of_its_kind k (described d v) h t = absurd cc
 
 -- ---- the law
-
-pub key_found : (k : Kind) (v : Scalar) (key : Key) (old mid new : Decoding) (x : EncodingCodes) → key_in v ≡ Some key → Looks old mid x → Found (is_of k) (λ i. i ≡ scalar v) mid new → Found is_key (λ i. key_of i ≡ Some key) old new
-key_found k v key old mid new x h l f = found_behind is_key (λ i. key_of i ≡ Some key) old mid new x l (found_as (is_of k) is_key (λ i. i ≡ scalar v) (λ i. key_of i ≡ Some key) mid new (λ i t m. (rw (m, h) refl, rw m h)) f)
 
 pub key_missed : (k : Kind) (more buffers : Bool) (old mid new : Decoding) (x : EncodingCodes) (e : Error) → (row x).kind ≡ k → Looks old mid x → Missed (is_of k) more buffers mid new e → Missed is_key true buffers old new e
 key_missed k more buffers old mid new x e h l m = missed_of_kind (is_of k) is_key more true buffers old mid new x e (λ _. refl) (λ i p t. of_its_kind k i (sym h ∙ p) t) l m

@@ -261,11 +261,6 @@ shown_taken old new b t h k le = shown_front old.to_come new.to_come old.receive
 pub shown_passed : (n : ℕ) (old new : Reading) (b : List ℕ) → Shows old b → (p : Passes n old new) → n ≤ length b → p.bytes ≡ take n b
 shown_passed n old new b h p le = shown_taken old new b p.bytes h p.step (omega (arith, p.len, le)) ∙ ap (λ l. take l b) p.len
 
--- further elements behind some
-pub read_then : {T : Type 0} (m : Meaning T) (old mid new : Listing) (vs ws : List T) → AreRead m old vs mid → AreRead m mid ws new → AreRead m old (vs ++ ws) new
-read_then m old mid new [] ws h k = subst (λ l. AreRead m l ws new) h k
-read_then m old mid new (v ∷ vs) ws h k = (h.0, h.1, read_then m h.0 mid new vs ws h.2 k)
-
 -- ---- in a loop over the elements
 
 module _ {T : Type 0} (m : Meaning T) (from : Listing) where

@@ -1,5 +1,5 @@
 -- Which variant of an enum stands there.
-use Rattle.std.proofs.Common.{◌≡◌, ℕ, Bool, true, false, IsTrue, List, Some, Result, Ok, Err, refl, sym, ap, subst, ◌∙◌, arith, inl, inr, ◌⊎◌}
+use Rattle.std.proofs.Common.{◌≡◌, ℕ, Bool, true, false, IsTrue, List, Some, Result, Ok, Err, refl, ap, subst, ◌∙◌, arith, inl, inr, ◌⊎◌}
 use Rattle.std.proofs.lemmas.Bool.{ne_eqb}
 use Rattle.amqp_base.specs.declared.error.Error.{Error}
 use Rattle.amqp_base.specs.declared.error.Error.TheVariants.{InvalidLength}
@@ -15,7 +15,7 @@ use Rattle.amqp_data.specs.Keys.{key_scalar}
 use Rattle.amqp_data.specs.declared.keys.Key.{Key}
 use Rattle.amqp_data.proofs.Readings.{onward, advances_then, excused_before, excused_more}
 use Rattle.amqp_de.specs.Access.{Listing, Opens, OpensExactly, OpensNot, Part, NoPart, Plain}
-use Rattle.amqp_de.specs.Decoding.{Decoding, stands_under, as_ended}
+use Rattle.amqp_de.specs.Decoding.{Decoding, stands_under}
 use Rattle.amqp_de.specs.Law.{Found, Missed}
 use Rattle.amqp_de.specs.Steps.{Exact}
 use Rattle.amqp_de.specs.VariantsRead.{NoTwo, KeyFirst, PairOpened, NoPair, pair_by}
@@ -36,18 +36,8 @@ two_item parse c s = at_byte (byte_under c s)
     at_byte (Ok x) = at_code x.1 (any_code x.0)
     at_byte (Err e) = refl
 
-two_exact : (n : ℕ) (s : List ℕ) → n ≡ 2 → of_two n s ≡ Ok (n, s)
-two_exact n s h = rw h refl
-
 not_two : (n : ℕ) (s : List ℕ) → (n ≡ 2 → ⊥) → of_two n s ≡ Err InvalidLength
 not_two n s h = rw (ne_eqb n 2 h) refl
-
-pub two_exactly : (parse : EncodingCodes → List ℕ → Parsed ℕ) (old : Decoding) (l : Listing) → OpensExactly parse old l → l.left ≡ 2 → OpensExactly (two_of parse) old l
-two_exactly parse old l o h = record {
-  exact = λ s at.
-      let p = o.exact s at in
-      (p.0, p.1, two_item parse (stands_under old) s ∙ (ap (λ (x : Parsed ℕ). x >>= λ n. of_two n.0 n.1) p.2 ∙ two_exact l.left p.0 h));
-}
 
 pub two_unopened : (Has : Item → Items → Type 0) (parse : EncodingCodes → List ℕ → Parsed ℕ) (buffers : Bool) (old last : Decoding) (e : Error) → OpensNot Has parse buffers buffers old last e → NoTwo Has parse buffers old last e
 two_unopened Has parse buffers old last e o = record {
@@ -59,20 +49,6 @@ two_unopened Has parse buffers old last e o = record {
     tell : (s : List ℕ) → (item_at parse (stands_under old) s ≡ Err e) ⊎ Excused buffers buffers old.reading last.reading e → (item_at (two_of parse) (stands_under old) s ≡ Err e) ⊎ Excused buffers buffers old.reading last.reading e
     tell s (inl p) = inl (two_item parse (stands_under old) s ∙ ap (λ (x : Parsed ℕ). x >>= λ n. of_two n.0 n.1) p)
     tell s (inr y) = inr y
-
-pub other_count : (Has : Item → Items → Type 0) (parse : EncodingCodes → List ℕ → Parsed ℕ) (buffers : Bool) (old : Decoding) (l : Listing) → Opens Has old l → OpensExactly parse old l → (l.left ≡ 2 → ⊥) → NoTwo Has parse buffers old (as_ended l.state) InvalidLength
-other_count Has parse buffers old l o x h = record {
-  rejects = λ _. record {
-    why = λ s at f.
-        let p = x.exact s at in
-        inl (two_item parse (stands_under old) s ∙ (ap (λ (y : Parsed ℕ). y >>= λ n. of_two n.0 n.1) p.2 ∙ not_two l.left p.0 h));
-    steady = onward o.step;
-    device = λ d. absurd d;
-    memory = λ m. absurd cc;
-  };
-  ended = refl;
-  missed = λ takes sorts. read.not_taken old l none l o (read.parts_begun old l o) takes (λ is. count is ≡ 2) sorts buffers buffers (as_ended l.state) InvalidLength (λ d. d) (λ m. absurd cc) refl refl (λ js c t. h (sym c ∙ t));
-}
 
 -- ---- a pair
 

@@ -10,10 +10,6 @@ left b start end k h =
     let whole : end - start ≡ k + (end - (start + k)) = omega arith in
     rw whole (drop-take k (end - (start + k)) (drop start b) ∙ ap (take (end - (start + k))) (drop-drop k start b))
 
-tail_of : List ℕ → List ℕ
-tail_of [] = []
-tail_of (x ∷ xs) = xs
-
 -- the first place of a front is that of the whole
 longer : (c b n : ℕ) (xs : List ℕ) → Splits c (take b xs) n → Splits c xs n
 longer c zero n xs s = let w = s.within in absurd (omega arith)

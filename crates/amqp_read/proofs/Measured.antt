@@ -385,9 +385,6 @@ unseen_descriptor buffers {a} {b} d e h s (inl n) = inl (record {
 })
 unseen_descriptor buffers d e h s (inr f) = inr (fails_before buffers buffers d e s f)
 
-same_name : (s : List ℕ) (e f : Error) → HasNoScalar s e → HasNoScalar s f → e ≡ f
-same_name s e f h k = h.named ∙ sym k.named
-
 pub unseen_behind : (buffers : Bool) {m : ℕ} {a b : Reading} (d : Reading) (e : Error) → Sees 0 (0 ∷ []) a b → Measures 1 m a b → Stays a b → NoScalar (1 + m) b e ⊎ Fails buffers buffers b d e → NoValue a e ⊎ Fails buffers buffers a d e
 unseen_behind buffers {m} {a} {b} d e h p s (inl n) = inl (record {
   kind = n.kind;

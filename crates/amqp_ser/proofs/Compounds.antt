@@ -64,14 +64,6 @@ free_goes u v b l f a p m set = record {
   setting = set;
 }
 
-pub text_free : (s : State) (i : Item) → Free s → text_for s i ≡ marked s.mark i
-unfolding text_for
-text_free s i f = go (marked s.mark i)
-  where
-    go : (o : Option (List ℕ)) → (o >>= λ b. when (fits s (sizes i) (length b)) b) ≡ o
-    go None = refl
-    go (Some b) = rw (fits_free s (length b) (sizes i) f) refl
-
 some_of : (o : Option Constructor) (g : Constructor → Option (List ℕ)) (b : List ℕ) → o >>= g ≡ Some b → (c : Constructor) × (o ≡ Some c)
 some_of o g b h = let p = bind_some o g b h in (p.0, p.1)
 

@@ -98,10 +98,6 @@ own_without unmarked d v h n = alone_without d v n
 own_without first d v h n = first_without d v n
 own_without (other c) d v h n = absurd h
 
--- the state in which the value is written
-value_in : Mark → State → State
-value_in k m = record m { setting = DescribedBasic; mark = k }
-
 pub behind_ok : {A : Type 0} (s m u w : State) (d : Descriptor) (v : Item) (why : Error) (x : A) → s.ended ≡ false → Pays (record s { mark = unmarked }) (describing d) s.found [] why (Ok x) m → u ≡ record m { setting = DescribedBasic; mark = s.mark } → Wrote u v w → WroteBehind s d v (record w { setting = s.setting })
 unfolding fits
 behind_ok s m u w d v why x answers p is h =
@@ -303,16 +299,6 @@ name_behind d v e long is = go (descriptor_text d) refl
 
 no_memory_behind : (d : Descriptor) (e : Error) → e ≡ OutOfMemory → by_descriptor d e ≡ OutOfMemory
 no_memory_behind d e h = rw h refl
-
-pub by_descriptor_else : (d : Descriptor) (e : Error) → (e ≡ InvalidValue → ⊥) → e ≡ by_descriptor d e
-by_descriptor_else d (Message m) h = refl
-by_descriptor_else d (Io k) h = refl
-by_descriptor_else d InvalidFormatCode h = refl
-by_descriptor_else d InvalidValue h = absurd (h refl)
-by_descriptor_else d InvalidUtf8Encoding h = refl
-by_descriptor_else d SequenceLengthMismatch h = refl
-by_descriptor_else d InvalidLength h = refl
-by_descriptor_else d OutOfMemory h = refl
 
 fault_behind : (d : Descriptor) (e : Error) (k : _) → IsFault k e → e ≡ by_descriptor d e
 fault_behind d (Io x) k h = refl

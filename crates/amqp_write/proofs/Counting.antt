@@ -55,10 +55,6 @@ goes_more s t u a b l m g h =
       setting = h.setting ∙ g.setting;
     }
 
-next_false : (s : State) (l : List Size) (n : ℕ) → is_next s.plan l ≡ false → fits s l n ≡ false
-unfolding fits
-next_false s l n h = h
-
 pub next_refused : (p : Option Planned) (l m r : List Size) (a : List ℕ) → is_next (plan_after p l a) m ≡ false → is_next p (l ++ (m ++ r)) ≡ false
 next_refused None l m r a h = cc
 next_refused (Some p) l m r a h = begins_more p.sizes l (m ++ r) ∙ (ap (λ b. begins p.sizes l && b) (begins_more (drop (length l) p.sizes) m r ∙ (rw h refl)) ∙ and_false (begins p.sizes l))

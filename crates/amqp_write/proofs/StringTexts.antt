@@ -108,8 +108,5 @@ written_some m f vs k n s t u b r x w texts is a =
 pub written_till : {A : Type 0} (m : Mark) (is all next : List Item) (s t u : State) (r : Result A Refusal) (e : Refusal) → Written m is s t → r ≡ Err e → WritesTexts m next t (as_error r) u → WritesTexts {A = ℕ} m all s (as_error (Err e)) u
 written_till m is all next s t u r e w bad wrote = writes_none m all all s u (Err e) e refl (written_refused m is all s t u wrote.bytes r e w bad wrote.appended)
 
-pub written_front : {B : Type 0} (m : Mark) (is : List Item) (s t : State) (y : B) → Written m is s t → WritesTexts m is s (Ok y) t
-written_front m is s t y w = record { bytes = w.bytes; texts = w.front; appended = same_done s t w.bytes 0 y w.appended }
-
 pub refused_some : {A : Type 0} (m : Mark) (is all : List Item) (s t u : State) (b : List ℕ) (r : Result A Refusal) (e : Refusal) → Written m is s t → r ≡ Err e → Appended t b (as_error r) u → WritesTexts {A = ℕ} m all s (as_error (Err e)) u
 refused_some m is all s t u b r e w bad a = writes_none m all all s u (Err e) e refl (written_refused m is all s t u b r e w bad a)

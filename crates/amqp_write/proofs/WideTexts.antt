@@ -1,5 +1,5 @@
 -- Items without parts that are written under the widest code of their kind.
-use Rattle.std.proofs.Common.{◌≡◌, ℕ, ℤ, ◌^◌, ◌<◌, ◌≤◌, List, [], ◌∷◌, Bool, true, false, refl, ◌∙◌, ap, Option, Some, None, Result, Err, OnOk, IfErr, length}
+use Rattle.std.proofs.Common.{◌≡◌, ℕ, ℤ, ◌^◌, ◌<◌, ◌≤◌, List, [], ◌∷◌, Bool, true, false, refl, ◌∙◌, ap, Option, Some, None, Result, Err, length}
 use Rattle.std.proofs.lemmas.Bool.{eq-eqb}
 use Rattle.std.specs.Int.{w8, w16, w32, w64, bytes_high_first, cast_unsigned, from_bool}
 use mir.Val.{SFits}
@@ -14,10 +14,10 @@ use Rattle.amqp_base.specs.Item.{Scalar, scalar, null, boolean, ubyte, ushort, u
 use Rattle.amqp_base.specs.Canon.{canon, body, kind_of, kind_code, scalar_body, scalar_text, short_text, exactly}
 use Rattle.amqp_base.specs.Sizes.{sizes}
 use Rattle.amqp_write.specs.State.{State, Mark, unmarked, first, other}
-use Rattle.amqp_write.specs.Texts.{payload_length, why_unwritten}
-use Rattle.amqp_write.specs.Law.{marked, found_after, Wrote, Refused}
+use Rattle.amqp_write.specs.Texts.{payload_length}
+use Rattle.amqp_write.specs.Law.{marked, found_after}
 use Rattle.amqp_write.specs.Appending.{Pays, fixed_at}
-use Rattle.amqp_write.proofs.Steps.{wrote_pays, refused_pays, pays_none}
+use Rattle.amqp_write.proofs.Steps.{pays_none}
 use Rattle.amqp_write.proofs.TextOf.{pays_text, one_byte}
 use Rattle.amqp_write.proofs.ShortNumbers.{short_0, short_1, short_none, signed_1, signed_none, in_a_byte, unsigned_fits, twos_fits}
 
@@ -49,17 +49,6 @@ pays_wide s v e d r t w p = pays_text s _ _ _ _ [] InvalidValue r t (wide_marked
 pub scalar_sizes : (v : Scalar) → sizes (scalar v) ≡ []
 unfolding sizes
 scalar_sizes v = refl
-
-pub wrote_scalar : {A : Type 0} (s : State) (v : Scalar) (r : Result A Error) (t : State) → Pays s (marked s.mark (scalar v)) (found_after s.mark (kind_code (scalar v)) s.found) [] InvalidValue r t → OnOk r (Wrote s (scalar v) t)
-wrote_scalar s v r t p = wrote_pays s (scalar v) _ _ [] InvalidValue r t refl refl (scalar_sizes v) p
-
--- a value that has no payload can't stand there
-plain_why : (v : Scalar) → payload_length v ≡ 0 → why_unwritten (scalar v) ≡ InvalidValue
-unfolding why_unwritten
-plain_why v h = rw h refl
-
-pub refused_scalar : {A : Type 0} (s : State) (v : Scalar) (r : Result A Error) (t : State) → payload_length v ≡ 0 → Pays s (marked s.mark (scalar v)) (found_after s.mark (kind_code (scalar v)) s.found) [] InvalidValue r t → IfErr r (λ e. Refused s (scalar v) e t)
-refused_scalar s v r t plain p = refused_pays s (scalar v) _ _ [] InvalidValue r t refl refl (scalar_sizes v) (plain_why v plain) p
 
 -- short texts
 pub uint_0 : (n : ℕ) → n ≡ 0 → marked unmarked (scalar (uint n)) ≡ Some (0x43 ∷ [])
