@@ -3,7 +3,8 @@
 ghost use Rattle.std.specs.Prelude.{◌≡◌, ◌⊎◌, ◌<◌, ◌≤◌, ◌+◌, ◌^◌};
 ghost use Rattle.std.specs.Prelude.{true, false, [], ◌∷◌, length, take};
 ghost use Rattle.std.specs.Prelude.{IfErr, OnOk, IsTrue, MatchOption};
-ghost use Rattle.std.specs.Prelude.{Some, None, slice_get};
+ghost use Rattle.std.specs.Prelude.{Some, None, Ok, Err, slice_get};
+ghost use Rattle.amqp_base.specs.Faults.{refusal_of};
 ghost use Rattle.std.specs.declared.io.ErrorKind.TheVariants.{UnexpectedEof};
 ghost use Rattle.amqp_base.specs.declared.error.Error.TheVariants.{Io, OutOfMemory};
 ghost use Rattle.amqp_read.specs.Reading.{Takes};
@@ -193,6 +194,17 @@ impl<S: Source> IoReader<S> {
     }
 }
 
+/// What is answered where there is no next byte: nothing at the end, else the fault.
+#[inline(always)]
+fn no_byte(fault: Option<ErrorKind>) -> Result<Option<u8>, Error>
+    ensures { MatchOption fault (result ≡ Ok None) (λ kind. result ≡ Err (refusal_of kind)) }
+{
+    match fault {
+        None => Ok(None),
+        Some(kind) => Err(Error::from(kind)),
+    }
+}
+
 impl<S: Source> Sealed for IoReader<S> {}
 
 impl<S: Source> Read for IoReader<S> {
@@ -204,10 +216,13 @@ impl<S: Source> Read for IoReader<S> {
     fn peek(&mut self) -> Result<Option<u8>, Error> {
         match self.buffer.in_vector().first() {
             Some(b) => Ok(Some(*b)),
-            None => match self.look() {
-                Ok(next) => Ok(next),
-                Err(kind) => Err(Error::from(kind)),
-            },
+            None => {
+                let mut fault = None;
+                match self.look(&mut fault) {
+                    Some(b) => Ok(Some(b)),
+                    None => no_byte(fault),
+                }
+            }
         }
     }
 
@@ -231,10 +246,13 @@ impl<S: Source> Read for IoReader<S> {
     fn next(&mut self) -> Result<Option<u8>, Error> {
         match self.pop_in_vector() {
             Some(b) => Ok(Some(b)),
-            None => match self.next_not_in_vector() {
-                Ok(next) => Ok(next),
-                Err(kind) => Err(Error::from(kind)),
-            },
+            None => {
+                let mut fault = None;
+                match self.next_not_in_vector(&mut fault) {
+                    Some(b) => Ok(Some(b)),
+                    None => no_byte(fault),
+                }
+            }
         }
     }
 

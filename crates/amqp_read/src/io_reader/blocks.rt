@@ -2,7 +2,7 @@
 
 ghost use Rattle.std.specs.Prelude.{◌≡◌, ◌⊎◌, ◌<◌, ◌≤◌, ◌+◌, ◌^◌};
 ghost use Rattle.std.specs.Prelude.{true, false, [], ◌∷◌, length};
-ghost use Rattle.std.specs.Prelude.{IfOk, IfErr, OnOk, OnErr, IsTrue, MatchOption};
+ghost use Rattle.std.specs.Prelude.{IfOk, IfErr, IfSome, OnOk, OnErr, IsTrue, MatchOption};
 ghost use Rattle.std.specs.Prelude.{Some, None};
 ghost use Rattle.amqp_base.specs.declared.error.Error.TheVariants.{Io};
 ghost use Rattle.amqp_read.specs.Reading.{Stays, Takes};
@@ -140,46 +140,51 @@ impl<S: Source> IoReader<S> {
         }
     }
 
-    /// The next byte, straight from the source.
+    /// The next byte, straight from the source. Where there is none, `fault` has the source's, or
+    /// nothing at the end.
     #[inline(always)]
-    fn next_of_source(&mut self) -> Result<Option<u8>, ErrorKind>
+    fn next_of_source(&mut self, fault: &mut Option<ErrorKind>) -> Option<u8>
         requires received { self.old.reading.received ≡ [] }
         requires counted { self.old.reading.taken + 1 < 2 ^ 64 }
-        ensures ok { IfOk result (λ o. MatchOption o
-            (Stays self.old.reading self.new.reading × Ended self.old.reading)
-            (λ b. Takes self.old.reading self.new.reading (b ∷ []))) }
-        ensures err { OnErr result (Stays self.old.reading self.new.reading) }
-        ensures why { IfErr result (λ kind.
+        ensures ok { IfSome result (λ b. Takes self.old.reading self.new.reading (b ∷ [])) }
+        ensures stays { result ≡ None → Stays self.old.reading self.new.reading }
+        ensures why { result ≡ None → MatchOption fault.new (Ended self.old.reading) (λ kind.
             Fails true true self.old.reading self.new.reading (refusal_of kind)) }
     {
         let mut one = [0; 1];
         match self.source.read_some(&mut one) {
-            Ok(0) => Ok(None),
+            Ok(0) => {
+                *fault = None;
+                None
+            }
             Ok(_) => {
                 self.taken += 1;
-                Ok(Some(one[0]))
+                Some(one[0])
             }
-            Err(kind) => Err(kind),
+            Err(kind) => {
+                *fault = Some(kind);
+                None
+            }
         }
     }
 
-    /// The next byte, where none that can be counted stands in the buffer's vector.
-    pub(super) fn next_not_in_vector(&mut self) -> Result<Option<u8>, ErrorKind>
+    /// The next byte, where none that can be counted stands in the buffer's vector. Where there is
+    /// none, `fault` says why, or has nothing at the end: an answer of two parts needs no memory.
+    pub(super) fn next_not_in_vector(&mut self, fault: &mut Option<ErrorKind>) -> Option<u8>
         requires { NoneInVector self.old ⊎ (2 ^ 64 ≤ self.old.reading.taken + 1) }
-        ensures ok { IfOk result (λ o. MatchOption o
-            (Stays self.old.reading self.new.reading × Ended self.old.reading)
-            (λ b. Takes self.old.reading self.new.reading (b ∷ []))) }
-        ensures err { OnErr result (Stays self.old.reading self.new.reading) }
-        ensures why { IfErr result (λ kind.
+        ensures ok { IfSome result (λ b. Takes self.old.reading self.new.reading (b ∷ [])) }
+        ensures stays { result ≡ None → Stays self.old.reading self.new.reading }
+        ensures why { result ≡ None → MatchOption fault.new (Ended self.old.reading) (λ kind.
             Fails true true self.old.reading self.new.reading (refusal_of kind)
             ⊎ PassesCount true 1 self.old.reading (refusal_of kind)) }
     {
         if self.bytes_consumed() == usize::MAX {
-            return self.next_uncounted();
+            *fault = self.why_uncounted();
+            return None;
         }
         match self.pop_in_place() {
-            Some(b) => Ok(Some(b)),
-            None => self.next_of_source(),
+            Some(b) => Some(b),
+            None => self.next_of_source(fault),
         }
     }
 
@@ -199,24 +204,21 @@ impl<S: Source> IoReader<S> {
         Some(b)
     }
 
-    /// What is answered where one byte more can't be counted.
+    /// Why there is no next byte where one more can't be counted; nothing at the end.
     #[cold]
     #[inline(never)]
     #[tactic(auto, unfolding(amqp_base::specs::Faults::refusal_of))]
-    fn next_uncounted(&mut self) -> Result<Option<u8>, ErrorKind>
+    fn why_uncounted(&mut self) -> Option<ErrorKind>
         requires uncounted { 2 ^ 64 ≤ self.old.reading.taken + 1 }
-        ensures ok { IfOk result (λ o. MatchOption o
-            (Stays self.old.reading self.new.reading × Ended self.old.reading)
-            (λ b. Takes self.old.reading self.new.reading (b ∷ []))) }
-        ensures err { OnErr result (Stays self.old.reading self.new.reading) }
-        ensures why { IfErr result (λ kind.
+        ensures stays { Stays self.old.reading self.new.reading }
+        ensures why { MatchOption result (Ended self.old.reading) (λ kind.
             Fails true true self.old.reading self.new.reading (refusal_of kind)
             ⊎ PassesCount true 1 self.old.reading (refusal_of kind)) }
     {
         match self.fill(1) {
-            Ok(true) => Err(self.uncounted_byte()),
-            Ok(false) => Ok(None),
-            Err(kind) => Err(kind),
+            Ok(true) => Some(self.uncounted_byte()),
+            Ok(false) => None,
+            Err(kind) => Some(kind),
         }
     }
 

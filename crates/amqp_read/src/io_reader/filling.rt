@@ -2,7 +2,7 @@
 
 ghost use Rattle.std.specs.Prelude.{◌≡◌, ◌<◌, ◌≤◌, ◌+◌, ◌^◌};
 ghost use Rattle.std.specs.Prelude.{true, false, [], ◌∷◌, length};
-ghost use Rattle.std.specs.Prelude.{IfOk, IfErr, OnOk, IsTrue, MatchOption};
+ghost use Rattle.std.specs.Prelude.{IfOk, IfErr, IfSome, OnOk, IsTrue, MatchOption, None};
 ghost use Rattle.std.specs.declared.io.ErrorKind.TheVariants.{UnexpectedEof};
 ghost use Rattle.amqp_base.specs.declared.error.Error.TheVariants.{Io};
 ghost use Rattle.amqp_base.specs.Faults.{refusal_of};
@@ -82,38 +82,43 @@ impl<S: Source> IoReader<S> {
         Ok(true)
     }
 
-    /// The next byte, which stays, where none stands in the buffer's vector.
-    pub(super) fn look(&mut self) -> Result<Option<u8>, ErrorKind>
-        ensures ok { IfOk result (λ o. MatchOption o (Ended self.old.reading) (λ b.
-            Shows self.new.reading (b ∷ []))) }
+    /// The next byte, which stays, where none stands in the buffer's vector. Where there is none,
+    /// `fault` says why, or has nothing at the end.
+    pub(super) fn look(&mut self, fault: &mut Option<ErrorKind>) -> Option<u8>
+        ensures ok { IfSome result (λ b. Shows self.new.reading (b ∷ [])) }
         ensures looked { Looked 1 self.old.reading self.new.reading }
-        ensures why { IfErr result (λ kind.
+        ensures why { result ≡ None → MatchOption fault.new (Ended self.old.reading) (λ kind.
             Fails true true self.old.reading self.new.reading (refusal_of kind)) }
     {
         match self.buffer.unread().first() {
-            Some(b) => Ok(Some(*b)),
-            None => self.look_at_source(),
+            Some(b) => Some(*b),
+            None => self.look_at_source(fault),
         }
     }
 
     /// The next byte, where none was received. It stays.
     #[inline(always)]
-    fn look_at_source(&mut self) -> Result<Option<u8>, ErrorKind>
+    fn look_at_source(&mut self, fault: &mut Option<ErrorKind>) -> Option<u8>
         requires received { self.old.reading.received ≡ [] }
-        ensures ok { IfOk result (λ o. MatchOption o (Ended self.old.reading) (λ b.
-            Shows self.new.reading (b ∷ []))) }
+        ensures ok { IfSome result (λ b. Shows self.new.reading (b ∷ [])) }
         ensures looked { Looked 1 self.old.reading self.new.reading }
-        ensures why { IfErr result (λ kind.
+        ensures why { result ≡ None → MatchOption fault.new (Ended self.old.reading) (λ kind.
             Fails true true self.old.reading self.new.reading (refusal_of kind)) }
     {
         let mut byte = [0; 1];
         match self.source.read_some(&mut byte) {
-            Ok(0) => Ok(None),
+            Ok(0) => {
+                *fault = None;
+                None
+            }
             Ok(_) => {
                 self.buffer.keep(&byte);
-                Ok(Some(byte[0]))
+                Some(byte[0])
             }
-            Err(kind) => Err(kind),
+            Err(kind) => {
+                *fault = Some(kind);
+                None
+            }
         }
     }
 

@@ -6,4 +6,4 @@ use Rattle.amqp_read.proofs.io_reader.IoReader.look_at_source.Goals as goal
 pub returns-in-Err-clause-why : goal.returns-in-Err-clause-why
 returns-in-Err-clause-why g c =
     let same = ap (λ (z : Streaming). z.reading.faults) c.self.view_is in
-    fault_fails _ same c.in-Err.ensures.counts c.in-Err.ensures.kind
+    λ _. fault_fails _ same c.in-Err.ensures.counts c.in-Err.ensures.kind
