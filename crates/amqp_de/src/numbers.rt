@@ -2,7 +2,7 @@
 
 ghost use Rattle.std.specs.Prelude.{ℕ, ◌≡◌, ◌*◌, ◌+◌, ◌<◌, ◌≤◌};
 ghost use Rattle.std.specs.Prelude.{◌⊎◌, length, IsTrue, false, take, vec_len, vec_capacity};
-ghost use Rattle.std.specs.Prelude.{slice_index_or};
+ghost use Rattle.std.specs.Prelude.{slice_index_or, if◌then◌else◌};
 ghost use Rattle.amqp_base.specs.declared.format_code.EncodingCodes.{EncodingCodes};
 ghost use Rattle.amqp_base.specs.declared.format_code.EncodingCodes.TheVariants.{Uint, Ulong};
 ghost use Rattle.amqp_base.specs.declared.format_code.EncodingCodes.TheVariants.{Int};
@@ -51,6 +51,34 @@ pub(crate) trait Wide<const W: usize>: Typed + Copy {
         ensures next { 0 < result.1 → slice_index_or bytes.now result.1 0 ≡ result.2 };
 }
 
+/// The length of a number's form, and the byte behind it: one byte of code, and behind it `width`
+/// bytes of data, one or none. 0 where it is none of these. All are looked at, as a choice between
+/// them would be a branch, often guessed wrong.
+#[inline(always)]
+fn behind_form(
+    width: usize,
+    is_wide: bool,
+    is_small: bool,
+    is_zero: bool,
+    bytes: &[u8],
+) -> (usize, u8)
+    requires width { (0 < width) × (width ≤ 8) }
+    requires room { width + 2 ≤ length bytes.now }
+    requires one { (IsTrue is_wide → (is_small ≡ false) × (is_zero ≡ false))
+        × (IsTrue is_small → is_zero ≡ false) }
+    ensures len { result.0 ≡ (if is_wide then width + 1 else if is_small then 2
+        else if is_zero then 1 else 0) }
+    ensures next { 0 < result.0 → slice_index_or bytes.now result.0 0 ≡ result.1 }
+{
+    let wide_next = bytes[width + 1] * is_wide as u8;
+    let small_next = bytes[2] * is_small as u8;
+    let zero_next = bytes[1] * is_zero as u8;
+    (
+        (width + 1) * is_wide as usize + 2 * is_small as usize + is_zero as usize,
+        wide_next.wrapping_add(small_next).wrapping_add(zero_next),
+    )
+}
+
 impl Wide<4> for i32 {
     ghost widest = { Int };
 
@@ -86,9 +114,8 @@ impl Wide<4> for i32 {
         let wide = Self::of_data(&bytes[1..5]);
         let small = i8::from_be_bytes([bytes[1]]) as i32;
         let number = if is_wide { wide } else { small };
-        let wide_next = bytes[5] * is_wide as u8;
-        let next = wide_next.wrapping_add(bytes[2] * is_small as u8);
-        (number, 5 * is_wide as usize + 2 * is_small as usize, next)
+        let (len, next) = behind_form(4, is_wide, is_small, false, bytes);
+        (number, len, next)
     }
 }
 
@@ -126,19 +153,11 @@ impl Wide<4> for u32 {
         let is_wide = code == codes::UINT;
         let is_small = code == codes::SMALL_UINT;
         let is_zero = code == codes::UINT0;
-        // at most one isn't 0: choosing between them would be a branch, often guessed wrong
+        // one at most isn't 0: choosing between them would be a branch, too
         let wide = Self::of_data(&bytes[1..5]) * is_wide as u32;
         let small = bytes[1] as u32 * is_small as u32;
-        let wide_next = bytes[5] * is_wide as u8;
-        let small_next = bytes[2] * is_small as u8;
-        let next = wide_next
-            .wrapping_add(small_next)
-            .wrapping_add(bytes[1] * is_zero as u8);
-        (
-            wide.wrapping_add(small),
-            5 * is_wide as usize + 2 * is_small as usize + is_zero as usize,
-            next,
-        )
+        let (len, next) = behind_form(4, is_wide, is_small, is_zero, bytes);
+        (wide.wrapping_add(small), len, next)
     }
 }
 
@@ -176,19 +195,11 @@ impl Wide<8> for u64 {
         let is_wide = code == codes::ULONG;
         let is_small = code == codes::SMALL_ULONG;
         let is_zero = code == codes::ULONG0;
-        // at most one isn't 0: choosing between them would be a branch, often guessed wrong
+        // one at most isn't 0: choosing between them would be a branch, too
         let wide = Self::of_data(&bytes[1..9]) * is_wide as u64;
         let small = bytes[1] as u64 * is_small as u64;
-        let wide_next = bytes[9] * is_wide as u8;
-        let small_next = bytes[2] * is_small as u8;
-        let next = wide_next
-            .wrapping_add(small_next)
-            .wrapping_add(bytes[1] * is_zero as u8);
-        (
-            wide.wrapping_add(small),
-            9 * is_wide as usize + 2 * is_small as usize + is_zero as usize,
-            next,
-        )
+        let (len, next) = behind_form(8, is_wide, is_small, is_zero, bytes);
+        (wide.wrapping_add(small), len, next)
     }
 }
 

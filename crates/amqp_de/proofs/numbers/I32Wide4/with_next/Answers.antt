@@ -20,24 +20,15 @@ returns-clause-number c = elim c.if-is_wide.branch [
       let is = w.if-is_wide.true in
       let v = c.of_data-wide.result in
       let f : SFits w32 v = search rules in
-      rw (w.number-is, to_z-of_z w32 v f, is) (λ _. behind_code _ Int 4 113 c.args.bytes.now v refl (c.requires.code ∙ is) (omega (arith, c.requires.room)) c.of_data-wide.ensures)
+      rw (c.behind_form-len.ensures.len, w.number-is, to_z-of_z w32 v f, is) (λ _. behind_code _ Int 4 113 c.args.bytes.now v refl (c.requires.code ∙ is) (omega (arith, c.requires.room)) c.of_data-wide.ensures)
   | else-is_wide w ↦ elim (eqb_tells c.args.code 84) [
     | inl small ↦
         let z = c.from_be_bytes-small.result in
         let f : SFits w8 z = search rules in
         let n = slice_index_or c.args.bytes.now 1 0 in
         let v = to_z w32 (of_z w32 (to_z w8 (of_z w8 z))) in
-        rw (w.number-is, small.1) (λ _. one_byte _ SmallInt 84 (int v) v c.args.bytes.now refl (c.requires.code ∙ small.1) (omega (arith, c.requires.room)) refl
+        rw (c.behind_form-len.ensures.len, w.number-is, small.1) (λ _. one_byte _ SmallInt 84 (int v) v c.args.bytes.now refl (c.requires.code ∙ small.1) (omega (arith, c.requires.room)) refl
         (rw (be_widened w32 (n ∷ []) z refl c.from_be_bytes-small.ensures f) refl) refl refl)
-    | inr other ↦ rw (other.0, other_byte c.args.code 113 w.if-is_wide.false) (λ h. absurd (omega (arith, h)))
-  ]
-]
-
-pub returns-clause-next : goal.returns-clause-next
-returns-clause-next c = elim (eqb_tells c.args.code 113) [
-  | inl wide ↦ rw wide.1 (λ _. omega (arith, c.type_inv.bytes 5))
-  | inr narrow ↦ elim (eqb_tells c.args.code 84) [
-    | inl small ↦ rw small.1 (λ _. omega (arith, c.type_inv.bytes 2))
-    | inr other ↦ rw (narrow.0, other.0) (λ h. absurd (omega (arith, h)))
+    | inr other ↦ rw (c.behind_form-len.ensures.len, other.0, other_byte c.args.code 113 w.if-is_wide.false) (λ h. absurd (omega (arith, h)))
   ]
 ]

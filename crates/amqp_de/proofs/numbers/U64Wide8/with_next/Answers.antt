@@ -19,31 +19,16 @@ returns-clause-number c =
     elim (eqb_tells b 128) [
       | inl wide ↦
           let same : (v * 1 + n * 0) % 2 ^ 64 ≡ v = omega (arith, c.of_data.type_inv) in
-          rw (wide.1, same) (λ _. behind_code _ Ulong 8 128 c.args.bytes.now v refl (c.requires.code ∙ wide.1) (omega (arith, c.requires.room)) c.of_data.ensures)
+          rw (c.behind_form-len.ensures.len, wide.1, same) (λ _. behind_code _ Ulong 8 128 c.args.bytes.now v refl (c.requires.code ∙ wide.1) (omega (arith, c.requires.room)) c.of_data.ensures)
       | inr narrow ↦ elim (eqb_tells b 83) [
         | inl small ↦
             let same : (v * 0 + n * 1) % 2 ^ 64 ≡ n = omega (arith, c.type_inv.bytes 1) in
-            rw (small.1, same) (λ _. one_byte _ SmallUlong 83 (ulong n) n c.args.bytes.now refl (c.requires.code ∙ small.1) (omega (arith, c.requires.room)) refl (rw (number_1 n) refl) refl refl)
+            rw (c.behind_form-len.ensures.len, small.1, same) (λ _. one_byte _ SmallUlong 83 (ulong n) n c.args.bytes.now refl (c.requires.code ∙ small.1) (omega (arith, c.requires.room)) refl (rw (number_1 n) refl) refl refl)
         | inr other ↦ elim (eqb_tells b 68) [
           | inl zero ↦
               let same : (v * 0 + n * 0) % 2 ^ 64 ≡ 0 = omega arith in
-              rw (zero.1, same) (λ _. no_byte _ Ulong0 68 (ulong 0) 0 c.args.bytes.now refl (c.requires.code ∙ zero.1) (omega (arith, c.requires.room)) refl refl refl refl)
-          | inr none ↦ rw (narrow.0, other.0, none.0) (λ h. absurd (omega (arith, h)))
-        ]
-      ]
-    ]
-
-pub returns-clause-next : goal.returns-clause-next
-returns-clause-next c =
-    let b = c.args.code in
-    let bytes = c.args.bytes.now in
-    elim (eqb_tells b 128) [
-      | inl wide ↦ rw wide.1 (λ _. omega (arith, c.type_inv.bytes 9))
-      | inr narrow ↦ elim (eqb_tells b 83) [
-        | inl small ↦ rw small.1 (λ _. omega (arith, c.type_inv.bytes 2))
-        | inr other ↦ elim (eqb_tells b 68) [
-          | inl zero ↦ rw zero.1 (λ _. omega (arith, c.type_inv.bytes 1))
-          | inr none ↦ rw (narrow.0, other.0, none.0) (λ h. absurd (omega (arith, h)))
+              rw (c.behind_form-len.ensures.len, zero.1, same) (λ _. no_byte _ Ulong0 68 (ulong 0) 0 c.args.bytes.now refl (c.requires.code ∙ zero.1) (omega (arith, c.requires.room)) refl refl refl refl)
+          | inr none ↦ rw (c.behind_form-len.ensures.len, narrow.0, other.0, none.0) (λ h. absurd (omega (arith, h)))
         ]
       ]
     ]
