@@ -55,6 +55,7 @@ TYPES = PRIMITIVES | {
     "map-u32-array-i32": Map(U32, Array(I32)),
     "map-timestamp-string": Map(TIMESTAMP, STRING),
     "sorted-u32-u32": Map(U32, U32, is_sorted=True),
+    "sorted-string-i32": Map(STRING, I32, is_sorted=True),
     "described-null": Described(NULL),
     "described-described-null": Described(Described(NULL)),
     "described-tuple-bool-i32": Described(Tuple(BOOL, I32)),

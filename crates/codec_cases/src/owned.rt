@@ -248,7 +248,7 @@ fn map<R: Read>(de: &mut Deserializer<R>, alloc: Global, of: Owned) -> Result<Ve
     }
 }
 
-/// A map of times or arrays.
+/// A map of times, texts or arrays.
 fn map_of_others<R: Read>(
     de: &mut Deserializer<R>,
     alloc: Global,
@@ -260,6 +260,7 @@ fn map_of_others<R: Read>(
             <OrderedMap<Timestamp, String>>::deserialize(alloc, de),
         ),
         Owned::MapU32Array => text(alloc, <OrderedMap<u32, Array<i32>>>::deserialize(alloc, de)),
+        Owned::SortedStringI32 => text(alloc, <BTreeMap<String, i32>>::deserialize(alloc, de)),
         _ => described(de, alloc, of),
     }
 }

@@ -93,7 +93,7 @@ fn is_list(outcome: Result<Vec<u32>, Error>, want: &[u32]) -> bool {
 }
 
 /// The next part is the text.
-fn is_some_str(outcome: Result<Option<String>, Error>, want: &str) -> bool {
+pub(crate) fn is_some_str(outcome: Result<Option<String>, Error>, want: &str) -> bool {
     match outcome {
         Ok(found) => match found {
             Some(text) => text.as_str() == want,

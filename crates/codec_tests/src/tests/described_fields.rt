@@ -96,6 +96,14 @@ const WHOLE: &[(Fields, &[u8])] = &[
         ),
         b"\xc0\x04\x02\x52\x0d\x41",
     ),
+    (
+        Fields(
+            "Foo",
+            &[Int("a_field", 13, Taken), Truth("b", true, Taken)],
+            Taken,
+        ),
+        b"\xc0\x04\x02\x54\x0d\x41",
+    ),
 ];
 
 /// What is refused.

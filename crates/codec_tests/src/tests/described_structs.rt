@@ -3,14 +3,14 @@
 use super::answer::{Answer, UNEXPECTED_EOF, is, name_of, told};
 use super::asked::{Asked, taken};
 use super::bytes::is_made_as;
-use super::made::{array, both, string};
+use super::made::{array, both, string, symbol};
 use super::written::{By, Writes, writes_so};
 use Answer::{InvalidFormatCode, InvalidValue, Message, SequenceLengthMismatch, Taken};
 use amqp_base::{DESCRIBED_BASIC, DESCRIBED_LIST, DESCRIBED_MAP, Error, Sink};
 use amqp_de::{Deserializer, StructAccess};
 use amqp_read::Read;
 use amqp_ser::{Serializer, Struct, Written};
-use amqp_types::Descriptor;
+use amqp_types::{Descriptor, Symbol};
 use own_types::Open;
 use std::alloc::Global;
 
@@ -248,6 +248,47 @@ fn a_descriptor_is_written_before_its_value(rt: HostRuntime) {
     let row = b"\x00\x53\x13\xc0\x03\x01\x52\x01";
     assert!(rt; writes_so(alloc, By::New, &One(DESCRIBED_LIST, Taken), row));
     assert!(rt; writes_so(alloc, By::New, &One("Foo", InvalidValue), b""));
+}
+
+/// A descriptor by its code or by its name.
+#[derive(Clone, Copy)]
+enum Alone {
+    Code(u64),
+    Name(&'static str),
+}
+
+/// The descriptor of this name is taken.
+fn takes_name<W: Sink>(ser: &mut Serializer<W>, alloc: Global, name: Option<Symbol>) -> bool {
+    match name {
+        Some(name) => told(ser.serialize_descriptor(alloc, &Descriptor::Name(name))) == Taken,
+        None => false,
+    }
+}
+
+impl Writes for Alone {
+    fn is_answered<W: Sink>(&self, alloc: Global, ser: &mut Serializer<W>) -> bool {
+        match *self {
+            Alone::Code(code) => {
+                told(ser.serialize_descriptor(alloc, &Descriptor::Code(code))) == Taken
+            }
+            Alone::Name(name) => takes_name(ser, alloc, symbol(alloc, name)),
+        }
+    }
+}
+
+const ALONE: &[(Alone, &[u8])] = &[
+    (Alone::Name("amqp"), b"\x00\xa3\x04amqp"),
+    (Alone::Code(0xf2), b"\x00\x53\xf2"),
+    (Alone::Code(113), b"\x00\x53\x71"),
+    (Alone::Name("test:name"), b"\x00\xa3\x09test:name"),
+];
+
+#[test]
+fn a_descriptor_is_written_alone(rt: HostRuntime) {
+    let alloc = rt.alloc();
+    for (descriptor, bytes) in ALONE {
+        assert!(rt; writes_so(alloc, By::New, descriptor, bytes), "{bytes:?}");
+    }
 }
 
 /// What a container `a` says that leaves the rest open.

@@ -21,6 +21,9 @@ fn float_has_one_constructor(rt: HostRuntime) {
         (Float::from_bits(0), b"\x72\x00\x00\x00\x00"),
         (Float::from_bits(0x8000_0000), b"\x72\x80\x00\x00\x00"),
         (Float::from_bits(0xc2f6_e979), b"\x72\xc2\xf6\xe9\x79"),
+        (Float::from_bits(0x42f6_e979), b"\x72\x42\xf6\xe9\x79"),
+        (Float::from_bits(0xff7f_ffff), b"\x72\xff\x7f\xff\xff"),
+        (Float::from_bits(0x7f7f_ffff), b"\x72\x7f\x7f\xff\xff"),
         (Float::from_bits(0xffff_ffff), b"\x72\xff\xff\xff\xff"),
     ];
     assert!(rt; are_written(alloc, floats));
@@ -41,6 +44,10 @@ fn double_has_one_constructor(rt: HostRuntime) {
         (
             Double::from_bits(0x3ff0_0000_0000_0001),
             b"\x82\x3f\xf0\x00\x00\x00\x00\x00\x01",
+        ),
+        (
+            Double::from_bits(0x405e_dd2f_1a9f_be77),
+            b"\x82\x40\x5e\xdd\x2f\x1a\x9f\xbe\x77",
         ),
         (
             Double::from_bits(0xffff_ffff_ffff_ffff),
@@ -92,6 +99,10 @@ fn decimal128_has_one_constructor(rt: HostRuntime) {
             Dec128::from([9; 16]),
             b"\x94\x09\x09\x09\x09\x09\x09\x09\x09\x09\x09\x09\x09\x09\x09\x09\x09",
         ),
+        (
+            Dec128::from(*b"\x01\x02\x03\x04\x05\x06\x07\x08\x09\x0a\x0b\x0c\x0d\x0e\x0f\x10"),
+            b"\x94\x01\x02\x03\x04\x05\x06\x07\x08\x09\x0a\x0b\x0c\x0d\x0e\x0f\x10",
+        ),
         (Dec128::from(*b"0123456789abcdef"), b"\x940123456789abcdef"),
         (
             Dec128::from([0xff; 16]),
@@ -110,6 +121,7 @@ fn timestamp_has_one_constructor(rt: HostRuntime) {
             b"\x83\x80\x00\x00\x00\x00\x00\x00\x00",
         ),
         (Timestamp::from(-1), b"\x83\xff\xff\xff\xff\xff\xff\xff\xff"),
+        (Timestamp::from(0), b"\x83\x00\x00\x00\x00\x00\x00\x00\x00"),
         (
             Timestamp::from(9_223_372_036_854_775_807),
             b"\x83\x7f\xff\xff\xff\xff\xff\xff\xff",
@@ -129,6 +141,10 @@ fn uuid_has_one_constructor(rt: HostRuntime) {
         (
             Uuid::from(*b"amqp\x05\x06\x07\x08\x09\x0a\x0b\x0c\x0d\x0e\x0f\x10"),
             b"\x98amqp\x05\x06\x07\x08\x09\x0a\x0b\x0c\x0d\x0e\x0f\x10",
+        ),
+        (
+            Uuid::from(*b"\x01\x02\x03\x04\x05\x06\x07\x08\x09\x0a\x0b\x0c\x0d\x0e\x0f\x10"),
+            b"\x98\x01\x02\x03\x04\x05\x06\x07\x08\x09\x0a\x0b\x0c\x0d\x0e\x0f\x10",
         ),
         (Uuid::from(*b"0123456789abcdef"), b"\x980123456789abcdef"),
         (

@@ -155,6 +155,14 @@ const OTHERS: &[(&[u8], &[Call], usize)] = &[
     ),
     (b"\0\xa3\x01a", &[Ignored(Ok(DescriptorName("a")))], 0),
     (
+        b"\0\xa3\x09test:name",
+        &[
+            Identified(Ok(DescriptorName("test:name"))),
+            Ignored(Ok(DescriptorName("test:name"))),
+        ],
+        0,
+    ),
+    (
         b"\0\xb3\0\0\0\x01a",
         &[Identified(Ok(DescriptorName("a")))],
         0,

@@ -46,12 +46,18 @@ fn uint_and_ulong_are_written_in_their_shortest_form(rt: HostRuntime) {
     assert!(rt; are_written(alloc, ULONGS));
 }
 
-const BYTES: &[(i8, &[u8])] = &[(-128, b"\x51\x80"), (-1, b"\x51\xff"), (127, b"\x51\x7f")];
+const BYTES: &[(i8, &[u8])] = &[
+    (-128, b"\x51\x80"),
+    (-1, b"\x51\xff"),
+    (0, b"\x51\x00"),
+    (127, b"\x51\x7f"),
+];
 
 const SHORTS: &[(i16, &[u8])] = &[
     (-32_768, b"\x61\x80\x00"),
     (-2, b"\x61\xff\xfe"),
     (-1, b"\x61\xff\xff"),
+    (0, b"\x61\x00\x00"),
     (32_767, b"\x61\x7f\xff"),
 ];
 
@@ -64,6 +70,7 @@ fn byte_and_short_have_one_constructor(rt: HostRuntime) {
 
 const INTS: &[(i32, &[u8])] = &[
     (-128, b"\x54\x80"),
+    (0, b"\x54\x00"),
     (127, b"\x54\x7f"),
     (-129, b"\x71\xff\xff\xff\x7f"),
     (128, b"\x71\x00\x00\x00\x80"),
@@ -73,6 +80,8 @@ const INTS: &[(i32, &[u8])] = &[
 
 const LONGS: &[(i64, &[u8])] = &[
     (-128, b"\x55\x80"),
+    (-1, b"\x55\xff"),
+    (0, b"\x55\x00"),
     (127, b"\x55\x7f"),
     (-129, b"\x81\xff\xff\xff\xff\xff\xff\xff\x7f"),
     (128, b"\x81\x00\x00\x00\x00\x00\x00\x00\x80"),

@@ -16,6 +16,7 @@ fn an_option_is_null_or_the_value(rt: HostRuntime) {
     let alloc = rt.alloc();
     assert!(rt; are_written(alloc, INTS));
     assert!(rt; is_written_as(alloc, &Some(256u32), b"\x70\x00\x00\x01\x00"));
+    assert!(rt; is_written_as(alloc, &None::<()>, b"\x40"));
     // as null, which is read as `None`
     assert!(rt; is_written_as(alloc, &Some(()), b"\x40"));
 }

@@ -47,6 +47,7 @@ const BINARIES: &[(&[u8], &[u8])] = &[
     (b"", b"\xa0\x00"),
     (b"\x01\x02", b"\xa0\x02\x01\x02"),
     (b"\x00\xff", b"\xa0\x02\x00\xff"),
+    (b"amqp", b"\xa0\x04amqp"),
 ];
 
 #[test]
@@ -80,6 +81,12 @@ const TEXTS: &[(&str, &[u8], &[u8])] = &[
     ("", b"\xa1\x00", b"\xa3\x00"),
     ("ab", b"\xa1\x02ab", b"\xa3\x02ab"),
     ("amqp", b"\xa1\x04amqp", b"\xa3\x04amqp"),
+    (
+        "Small String",
+        b"\xa1\x0cSmall String",
+        b"\xa3\x0cSmall String",
+    ),
+    ("hello AMQP", b"\xa1\x0ahello AMQP", b"\xa3\x0ahello AMQP"),
     ("é", b"\xa1\x02\xc3\xa9", b"\xa3\x02\xc3\xa9"),
 ];
 

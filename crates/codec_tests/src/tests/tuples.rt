@@ -77,7 +77,11 @@ fn a_tuple_is_written_with_as_many_parts_as_it_was_opened_for(rt: HostRuntime) {
 
 const PARTS: Call = Tuple(2, &[Uint(Ok(Some(13))), Truth(true)], Answer::Taken);
 
+const NO_PARTS: Call = Tuple(0, &[], Answer::Taken);
+
 #[test]
 fn parts_of_a_tuple_are_read_in_turn(rt: HostRuntime) {
-    assert!(rt; goes(rt.alloc(), b"\xc0\x04\x02\x52\x0d\x41\x40", &[PARTS], 6));
+    let alloc = rt.alloc();
+    assert!(rt; goes(alloc, b"\xc0\x04\x02\x52\x0d\x41\x40", &[PARTS], 6));
+    assert!(rt; goes(alloc, b"\x45\x40", &[NO_PARTS], 1));
 }

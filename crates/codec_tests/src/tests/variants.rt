@@ -1,6 +1,7 @@
 //! The variants of enums, written by their calls.
 
 use super::answer::{Answer, told};
+use super::made::string;
 use super::written::{By, Writes, writes_so};
 use Answer::{InvalidValue, SequenceLengthMismatch, Taken};
 use amqp_base::{DESCRIPTOR, Sink};
@@ -12,11 +13,13 @@ use std::alloc::Global;
 enum Field {
     Truth(bool),
     Ulong(u64),
+    Int(i32),
+    Text(&'static str),
     Uint(&'static str, u32),
     Named(&'static str, bool),
 }
 
-use Field::{Named, Truth, Uint, Ulong};
+use Field::{Int, Named, Text, Truth, Uint, Ulong};
 
 /// What is written of an enum.
 #[derive(Clone, Copy)]
@@ -24,8 +27,22 @@ enum Kind {
     Unit(u32),
     /// A number under an index, of an enum of this name.
     Newtype(&'static str, u32, u32),
+    /// A number of eight bytes under an index.
+    Long(u32, u64),
     Tuple(u32, usize, &'static [Field]),
     Struct(u32, usize, &'static [Field]),
+}
+
+/// The text is taken.
+fn takes_text<W: Sink>(
+    of: &mut VariantSerializer<'_, W>,
+    alloc: Global,
+    text: Option<String>,
+) -> bool {
+    match text {
+        Some(text) => told(of.serialize_field(alloc, &text)) == Taken,
+        None => false,
+    }
 }
 
 /// The field is taken.
@@ -33,6 +50,8 @@ fn takes<W: Sink>(of: &mut VariantSerializer<'_, W>, alloc: Global, field: Field
     match field {
         Truth(value) => told(of.serialize_field(alloc, &value)) == Taken,
         Ulong(value) => told(of.serialize_field(alloc, &value)) == Taken,
+        Int(value) => told(of.serialize_field(alloc, &value)) == Taken,
+        Text(text) => takes_text(of, alloc, string(alloc, text)),
         Uint(name, value) => told(of.serialize_field_named(alloc, name, &value)) == Taken,
         Named(name, value) => told(of.serialize_field_named(alloc, name, &value)) == Taken,
     }
@@ -62,6 +81,9 @@ fn puts<W: Sink>(ser: &mut Serializer<W>, alloc: Global, kind: Kind) -> Answer {
         Kind::Unit(index) => told(ser.serialize_unit_variant(alloc, "Enumeration", index, "A")),
         Kind::Newtype(name, index, value) => {
             told(ser.serialize_newtype_variant(alloc, name, index, "A", &value))
+        }
+        Kind::Long(index, value) => {
+            told(ser.serialize_newtype_variant(alloc, "Enumeration", index, "A", &value))
         }
         Kind::Tuple(index, len, fields) => {
             match ser.serialize_tuple_variant(alloc, "Enumeration", index, "A", len) {
@@ -102,8 +124,16 @@ const ROWS: &[(Enumeration, &[u8])] = &[
         b"",
     ),
     (
+        Enumeration(Kind::Long(1, 13), Taken),
+        b"\xc1\x05\x02\x52\x01\x53\x0d",
+    ),
+    (
         Enumeration(Kind::Tuple(2, 2, &[Truth(true), Ulong(13)]), Taken),
         b"\xc1\x09\x02\x52\x02\xc0\x04\x02\x41\x53\x0d",
+    ),
+    (
+        Enumeration(Kind::Tuple(1, 2, &[Int(13), Text("amqp")]), Taken),
+        b"\xc1\x0e\x02\x52\x01\xc0\x09\x02\x54\x0d\xa1\x04amqp",
     ),
     (
         Enumeration(Kind::Tuple(2, 0, &[]), Taken),
@@ -126,6 +156,13 @@ const ROWS: &[(Enumeration, &[u8])] = &[
             Taken,
         ),
         b"\xc1\x09\x02\x52\x03\xc0\x04\x02\x52\x07\x42",
+    ),
+    (
+        Enumeration(
+            Kind::Struct(0, 2, &[Uint("num", 13), Named("is_a", true)]),
+            Taken,
+        ),
+        b"\xc1\x08\x02\x43\xc0\x04\x02\x52\x0d\x41",
     ),
     // the name of a field isn't written, whatever it is
     (

@@ -2,6 +2,7 @@
 
 use super::answer::{Answer, UNEXPECTED_EOF, is, name_of, told};
 use super::asked::{Asked, taken};
+use super::calls::is_some_str;
 use Answer::{
     InvalidFormatCode, InvalidLength, InvalidUtf8Encoding, InvalidValue, Message,
     SequenceLengthMismatch, Taken,
@@ -31,6 +32,7 @@ enum Held {
     /// So many fields, the first a uint, the second a truth.
     Tuple(usize, Result<(u32, bool), Answer>),
     Struct(usize, Result<(u32, bool), Answer>),
+    IntAndText(i32, &'static str),
 }
 
 /// An enum of this name is told and held so; behind it a uint is answered so.
@@ -67,6 +69,15 @@ fn members<R: Read>(access: StructAccess<'_, R>, alloc: Global) -> Result<(u32, 
     let second = access.next_element::<bool>(alloc);
     let ended = told(access.end());
     both(first, second, ended)
+}
+
+/// The list holds this number and this text, and no more.
+fn int_and_text<R: Read>(list: ListAccess<'_, R>, alloc: Global, number: i32, text: &str) -> bool {
+    let mut list = list;
+    let first = is(list.next_element::<i32>(alloc), Ok(Some(number)));
+    let second = is_some_str(list.next_element::<String>(alloc), text);
+    let ended = told(list.end());
+    first && second && ended == Taken
 }
 
 /// Both values, or the first refusal.
@@ -167,6 +178,29 @@ fn are_fields<R: Read>(
     }
 }
 
+/// The variant is told so, and then the number and the text of its list.
+fn is_int_and_text<R: Read>(
+    de: &mut Deserializer<R>,
+    alloc: Global,
+    name: &'static str,
+    told_so: Told,
+    number: i32,
+    text: &str,
+) -> bool {
+    match de.deserialize_enum(alloc, name) {
+        Ok(variant) => {
+            let mut variant = variant;
+            let is_so = is_told(variant.variant(alloc), told_so);
+            let found = match variant.tuple_variant(2) {
+                Ok(list) => Ok(int_and_text(list, alloc, number, text)),
+                Err(e) => Err(name_of(&e)),
+            };
+            found == Ok(true) && is_so
+        }
+        Err(_) => false,
+    }
+}
+
 /// The variant is told so, and then the fields of its struct.
 fn are_members<R: Read>(
     de: &mut Deserializer<R>,
@@ -200,6 +234,7 @@ fn goes<R: Read>(de: &mut Deserializer<R>, alloc: Global, want: Enumeration) -> 
         Held::Ulong(value) => is_value::<R, u64>(de, alloc, name, told_so, value),
         Held::Tuple(len, parts) => are_fields(de, alloc, name, told_so, len, parts),
         Held::Struct(len, parts) => are_members(de, alloc, name, told_so, len, parts),
+        Held::IntAndText(number, text) => is_int_and_text(de, alloc, name, told_so, number, text),
     }
 }
 
@@ -294,6 +329,11 @@ const PAIRS: &[(&[u8], Enumeration, usize)] = &[
         8,
     ),
     (
+        b"\xc1\x05\x02\x52\x01\x53\x0d\x43",
+        Enumeration("E", Told::Index(1), Held::Ulong(Ok(13)), Ok(0)),
+        8,
+    ),
+    (
         b"\xc0\x05\x02\x52\x01\x52\x0d\x43",
         Enumeration("E", Told::Index(1), Held::Uint(Ok(13)), Ok(0)),
         8,
@@ -317,6 +357,16 @@ const PAIRS: &[(&[u8], Enumeration, usize)] = &[
         b"\xc1\x09\x02\x52\x03\xc0\x04\x02\x52\x07\x42\x43",
         Enumeration("E", Told::Index(3), Held::Struct(2, Ok((7, false))), Ok(0)),
         12,
+    ),
+    (
+        b"\xc1\x0e\x02\x52\x01\xc0\x09\x02\x54\x0d\xa1\x04amqp\x43",
+        Enumeration("E", Told::Index(1), Held::IntAndText(13, "amqp"), Ok(0)),
+        17,
+    ),
+    (
+        b"\xc1\x08\x02\x43\xc0\x04\x02\x52\x0d\x41\x43",
+        Enumeration("E", Told::Index(0), Held::Struct(2, Ok((13, true))), Ok(0)),
+        11,
     ),
     (
         b"\xc1\x09\x02\x52\x03\xc0\x04\x02\x52\x07\x42",
