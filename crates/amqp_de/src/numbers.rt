@@ -153,11 +153,11 @@ impl Wide<4> for u32 {
         let is_wide = code == codes::UINT;
         let is_small = code == codes::SMALL_UINT;
         let is_zero = code == codes::UINT0;
-        // one at most isn't 0: choosing between them would be a branch, too
-        let wide = Self::of_data(&bytes[1..5]) * is_wide as u32;
+        let wide = Self::of_data(&bytes[1..5]);
         let small = bytes[1] as u32 * is_small as u32;
+        let number = if is_wide { wide } else { small };
         let (len, next) = behind_form(4, is_wide, is_small, is_zero, bytes);
-        (wide.wrapping_add(small), len, next)
+        (number, len, next)
     }
 }
 
@@ -195,11 +195,11 @@ impl Wide<8> for u64 {
         let is_wide = code == codes::ULONG;
         let is_small = code == codes::SMALL_ULONG;
         let is_zero = code == codes::ULONG0;
-        // one at most isn't 0: choosing between them would be a branch, too
-        let wide = Self::of_data(&bytes[1..9]) * is_wide as u64;
+        let wide = Self::of_data(&bytes[1..9]);
         let small = bytes[1] as u64 * is_small as u64;
+        let number = if is_wide { wide } else { small };
         let (len, next) = behind_form(8, is_wide, is_small, is_zero, bytes);
-        (wide.wrapping_add(small), len, next)
+        (number, len, next)
     }
 }
 

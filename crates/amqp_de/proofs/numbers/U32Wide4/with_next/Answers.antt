@@ -1,5 +1,5 @@
 -- The number's own constructor, its data, and the byte behind them.
-use Rattle.std.proofs.Common.{◌≡◌, ◌*◌, ◌+◌, ◌%◌, ◌^◌, ◌∙◌, inl, inr, refl, arith, slice_index_or}
+use Rattle.std.proofs.Common.{◌≡◌, ◌*◌, ◌∙◌, inl, inr, refl, arith, slice_index_or}
 use Rattle.std.proofs.lemmas.Bool.Decides.{eqb_tells}
 use Rattle.amqp_base.specs.Codes.{row, code_of}
 use Rattle.amqp_base.specs.SameKind.{same_kind, place}
@@ -7,28 +7,27 @@ use Rattle.amqp_base.specs.Item.{uint}
 use Rattle.amqp_base.specs.Value.{payload, read}
 use Rattle.amqp_base.specs.declared.format_code.EncodingCodes.TheVariants.{Uint, SmallUint, Uint0}
 use Rattle.amqp_data.proofs.ByteNumbers.{number_1}
-use Rattle.amqp_de.proofs.Many.{behind_code, one_byte, no_byte}
+use Rattle.amqp_de.proofs.Many.{behind_code, one_byte, no_byte, other_byte}
+use Rattle.amqp_de.proofs.numbers.U32Wide4.with_next.Goals.{then-is_wide, else-is_wide}
 use Rattle.amqp_de.proofs.numbers.U32Wide4.with_next.Goals as goal
 
 pub returns-clause-number : goal.returns-clause-number
 unfolding row code_of payload read same_kind place
 returns-clause-number c =
-    let b = c.args.code in
     let n = slice_index_or c.args.bytes.now 1 0 in
-    let v = c.of_data.result in
-    elim (eqb_tells b 112) [
-      | inl wide ↦
-          let same : (v * 1 + n * 0) % 2 ^ 32 ≡ v = omega (arith, c.of_data.type_inv) in
-          rw (c.behind_form-len.ensures.len, wide.1, same) (λ _. behind_code _ Uint 4 112 c.args.bytes.now v refl (c.requires.code ∙ wide.1) (omega (arith, c.requires.room)) c.of_data.ensures)
-      | inr narrow ↦ elim (eqb_tells b 82) [
+    elim c.if-is_wide.branch [
+      | then-is_wide w ↦
+          let is = w.if-is_wide.true in
+          rw (c.behind_form-len.ensures.len, w.number-is, is) (λ _. behind_code _ Uint 4 112 c.args.bytes.now c.of_data-wide.result refl (c.requires.code ∙ is) (omega (arith, c.requires.room)) c.of_data-wide.ensures)
+      | else-is_wide w ↦ elim (eqb_tells c.args.code 82) [
         | inl small ↦
-            let same : (v * 0 + n * 1) % 2 ^ 32 ≡ n = omega (arith, c.type_inv.bytes 1) in
-            rw (c.behind_form-len.ensures.len, small.1, same) (λ _. one_byte _ SmallUint 82 (uint n) n c.args.bytes.now refl (c.requires.code ∙ small.1) (omega (arith, c.requires.room)) refl (rw (number_1 n) refl) refl refl)
-        | inr other ↦ elim (eqb_tells b 67) [
+            let same : n * 1 ≡ n = omega arith in
+            rw (c.behind_form-len.ensures.len, w.number-is, small.1, same) (λ _. one_byte _ SmallUint 82 (uint n) n c.args.bytes.now refl (c.requires.code ∙ small.1) (omega (arith, c.requires.room)) refl (rw (number_1 n) refl) refl refl)
+        | inr other ↦ elim (eqb_tells c.args.code 67) [
           | inl zero ↦
-              let same : (v * 0 + n * 0) % 2 ^ 32 ≡ 0 = omega arith in
-              rw (c.behind_form-len.ensures.len, zero.1, same) (λ _. no_byte _ Uint0 67 (uint 0) 0 c.args.bytes.now refl (c.requires.code ∙ zero.1) (omega (arith, c.requires.room)) refl refl refl refl)
-          | inr none ↦ rw (c.behind_form-len.ensures.len, narrow.0, other.0, none.0) (λ h. absurd (omega (arith, h)))
+              let same : n * 0 ≡ 0 = omega arith in
+              rw (c.behind_form-len.ensures.len, w.number-is, zero.1, same) (λ _. no_byte _ Uint0 67 (uint 0) 0 c.args.bytes.now refl (c.requires.code ∙ zero.1) (omega (arith, c.requires.room)) refl refl refl refl)
+          | inr none ↦ rw (c.behind_form-len.ensures.len, other.0, none.0, other_byte c.args.code 112 w.if-is_wide.false) (λ h. absurd (omega (arith, h)))
         ]
       ]
     ]
