@@ -35,8 +35,8 @@ pub(crate) struct Buffer {
 }
 
 impl Model for Buffer {
-    ghost use Rattle.std.specs.Prelude.{◌≡◌, ◌<◌, ◌≤◌, ◌+◌, ◌-◌, ◌*◌, ◌++◌};
-    ghost use Rattle.std.specs.Prelude.{drop, length};
+    ghost use Rattle.std.specs.Prelude.{◌≡◌, ◌<◌, ◌≤◌, ◌+◌, ◌-◌};
+    ghost use Rattle.std.specs.Prelude.{◌*◌, ◌++◌, drop, length};
     ghost use Rattle.std.specs.Vec.{vec_len, vec_capacity};
     ghost use Rattle.amqp_read.specs.Streaming.{Buffered};
 
