@@ -30,6 +30,21 @@ received_stays u got r r' t f f' l l' h h' o o' c faults honest origin = record 
   steady = record { honest = honest; origin = origin; faults = omega arith; taken = omega arith };
 }
 
+keeps_behind : (u : List ℕ) (r r' : Option (List ℕ)) → Keeps r r' → Keeps (prepend_known u r) (prepend_known u r')
+keeps_behind u None r' h = tt
+keeps_behind u (Some xs) None h = absurd h
+keeps_behind u (Some xs) (Some ys) h = ap (λ (z : List ℕ). u ++ z) h
+
+-- a fault leaves what is to come
+pub fault_stays : (u : List ℕ) (r r' : Option (List ℕ)) (t f f' : ℕ) (l l' : Option ErrorKind) (h h' : Bool) (o o' : List GName) →
+    Keeps r r' → f ≤ f' → h' ≡ h → o' ≡ o → Stays (reads u r t f l h o) (reads u r' t f' l' h' o')
+fault_stays u r r' t f f' l l' h h' o o' kept faults honest origin = record {
+  to_come = keeps_behind u r r' kept;
+  taken = refl;
+  received = take-length u;
+  steady = record { honest = honest; origin = origin; faults = faults; taken = omega arith };
+}
+
 -- a fault is want of memory, or the source's
 fault_failed : (last : Option ErrorKind) (e : Error) → IsFault last e → Failed e
 fault_failed last (Io kind) h = tt

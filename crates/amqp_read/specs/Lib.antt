@@ -1,3 +1,4 @@
+pub mod Asking
 pub mod Raw
 pub mod Reading
 pub mod Steps

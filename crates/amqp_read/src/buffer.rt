@@ -2,14 +2,13 @@
 
 ghost use Rattle.std.specs.Prelude.{◌≡◌, ◌<◌, ◌≤◌, ◌+◌, ◌-◌, ◌*◌};
 ghost use Rattle.std.specs.Prelude.{◌++◌, max, true, [], length};
-ghost use Rattle.std.specs.Prelude.{take, drop, OnErr, IfOk, IfErr, IfSome, IsTrue, None};
+ghost use Rattle.std.specs.Prelude.{take, drop, IfOk, IfSome, IsTrue, None};
 ghost use Rattle.std.specs.Prelude.{MatchOption, false};
-ghost use Rattle.std.specs.Io.KnownBytes.{IsAtEnd, ReadConsumes};
-ghost use Rattle.amqp_base.specs.Faults.{Counts, Remembers, refusal_of};
-ghost use Rattle.amqp_read.specs.Reading.{Stays};
-ghost use Rattle.amqp_read.specs.Steps.{Fails};
+ghost use Rattle.std.specs.Io.KnownBytes.{IsAtEnd};
+ghost use Rattle.amqp_read.specs.Asking.{AskedOnce};
 ghost use Rattle.amqp_read.specs.Streaming.{Fronted, reads};
 
+use crate::behind::read_behind;
 use crate::few::Few;
 use crate::greatest::Greatest;
 use amqp_base::{Count, Source};
@@ -268,19 +267,6 @@ impl Buffer {
         self.bytes.is_empty() && self.few.has_room(n)
     }
 
-    /// Keeps the few bytes that were received, in place behind those that are unread.
-    #[inline(always)]
-    pub(crate) fn append_in_place(&mut self, received: &[u8])
-        requires none { length self.old.unread ≤ self.old.in_place }
-        requires room { length received.now ≤ self.old.room_in_place }
-        ensures unread { self.new.unread ≡ self.old.unread ++ received.now }
-        ensures moved { self.new.moved + self.new.start ≡ self.old.moved + self.old.start }
-        ensures most { self.new.most ≡ max self.old.most (length self.new.unread) }
-    {
-        self.few.append(received);
-        self.most.sees(self.few.len());
-    }
-
     /// Keeps what was received, with the memory that holds it, where nothing is unread.
     pub(crate) fn take_over(&mut self, received: Vec<u8>)
         requires { self.old.unread ≡ [] }
@@ -312,34 +298,68 @@ impl Buffer {
         Some(bytes)
     }
 
-    /// Asks a source once for some of `n` bytes and keeps what it gives: how many. Memory is asked
-    /// for first.
-    #[tactic(auto, unfolding(amqp_base::specs::Faults::refusal_of))]
+    /// Asks a source once for some of `n` bytes and keeps what it gives: how many.
     pub(crate) fn receive<S: Source>(
         &mut self,
         source: &mut S,
         n: usize,
     ) -> Result<usize, ErrorKind>
-        ensures stays { Stays
+        ensures asked { AskedOnce n
             (reads self.old.unread (S.remaining source.old) 0 (S.faults source.old)
             (S.last_fault source.old) (S.is_honest source.old) (S.origin source.old))
             (reads self.new.unread (S.remaining source.new) 0 (S.faults source.new)
-            (S.last_fault source.new) (S.is_honest source.new) (S.origin source.new)) }
-        ensures few { IfOk result (λ got. got ≤ n) }
-        ensures len { IfOk result (λ got.
-            length self.new.unread ≡ length self.old.unread + got) }
+            (S.last_fault source.new) (S.is_honest source.new) (S.origin source.new)) result }
         ensures end { IfOk result (λ got.
             got ≡ 0 → 0 < n → IsTrue (S.is_honest source.old) →
             IsAtEnd (S.remaining source.old)) }
-        ensures kept { OnErr result (self.new.unread ≡ self.old.unread) }
         ensures moved { self.new.moved + self.new.start ≤ self.old.moved + self.old.start }
         ensures most { self.new.most ≡ max self.old.most (length self.new.unread) }
-        ensures why { IfErr result (λ kind. Fails true true
+    {
+        if self.has_room_in_place(n) {
+            return self.receive_in_place(source, n);
+        }
+        self.receive_in_vector(source, n)
+    }
+
+    /// The same, where the bytes find room in place behind those that are unread.
+    #[inline(always)]
+    fn receive_in_place<S: Source>(&mut self, source: &mut S, n: usize) -> Result<usize, ErrorKind>
+        requires none { length self.old.unread ≤ self.old.in_place }
+        requires room { n ≤ self.old.room_in_place }
+        ensures asked { AskedOnce n
             (reads self.old.unread (S.remaining source.old) 0 (S.faults source.old)
             (S.last_fault source.old) (S.is_honest source.old) (S.origin source.old))
             (reads self.new.unread (S.remaining source.new) 0 (S.faults source.new)
-            (S.last_fault source.new) (S.is_honest source.new) (S.origin source.new))
-            (refusal_of kind)) }
+            (S.last_fault source.new) (S.is_honest source.new) (S.origin source.new)) result }
+        ensures end { IfOk result (λ got.
+            got ≡ 0 → 0 < n → IsTrue (S.is_honest source.old) →
+            IsAtEnd (S.remaining source.old)) }
+        ensures moved { self.new.moved + self.new.start ≤ self.old.moved + self.old.start }
+        ensures most { self.new.most ≡ max self.old.most (length self.new.unread) }
+    {
+        match self.few.receive(source, n) {
+            Ok(got) => {
+                self.most.sees(self.few.len());
+                Ok(got)
+            }
+            Err(kind) => Err(kind),
+        }
+    }
+
+    /// The same, where they go into the vector. Memory is asked for first.
+    #[inline(never)]
+    #[tactic(auto, unfolding(amqp_base::specs::Faults::refusal_of))]
+    fn receive_in_vector<S: Source>(&mut self, source: &mut S, n: usize) -> Result<usize, ErrorKind>
+        ensures asked { AskedOnce n
+            (reads self.old.unread (S.remaining source.old) 0 (S.faults source.old)
+            (S.last_fault source.old) (S.is_honest source.old) (S.origin source.old))
+            (reads self.new.unread (S.remaining source.new) 0 (S.faults source.new)
+            (S.last_fault source.new) (S.is_honest source.new) (S.origin source.new)) result }
+        ensures end { IfOk result (λ got.
+            got ≡ 0 → 0 < n → IsTrue (S.is_honest source.old) →
+            IsAtEnd (S.remaining source.old)) }
+        ensures moved { self.new.moved + self.new.start ≤ self.old.moved + self.old.start }
+        ensures most { self.new.most ≡ max self.old.most (length self.new.unread) }
     {
         let piece = n.min(PIECE);
         if !self.make_room(piece, n) {
@@ -364,24 +384,4 @@ impl Buffer {
             }
         }
     }
-}
-
-/// Reads some bytes behind the first `from`, which stay.
-fn read_behind<S: Source>(source: &mut S, bytes: &mut [u8], from: usize) -> Result<usize, ErrorKind>
-    requires { from ≤ length bytes.old }
-    ensures len { length bytes.new ≡ length bytes.old }
-    ensures front { take from bytes.new ≡ take from bytes.old }
-    ensures bound { IfOk result (λ n. n ≤ length bytes.old - from) }
-    ensures read { ReadConsumes (S.remaining source.old) (S.remaining source.new) result
-        (drop from bytes.new) }
-    ensures counts { Counts (S.grows source.old) (S.faults source.old) (S.faults source.new)
-        result }
-    ensures kind { Remembers (S.faults source.old) (S.faults source.new)
-        (S.last_fault source.old) (S.last_fault source.new) result }
-    ensures end { IsTrue (S.is_honest source.old) → IfOk result (λ n.
-        n ≡ 0 → from < length bytes.old → IsAtEnd (S.remaining source.old)) }
-    ensures honest { S.is_honest source.new ≡ S.is_honest source.old }
-    ensures origin { S.origin source.new ≡ S.origin source.old }
-{
-    source.read_some(&mut bytes[from..])
 }

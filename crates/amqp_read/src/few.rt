@@ -1,8 +1,14 @@
 //! A few bytes, which take no memory.
 
-ghost use Rattle.std.specs.Prelude.{◌≡◌, ◌≤◌, ◌+◌, ◌++◌};
-ghost use Rattle.std.specs.Prelude.{[], length, drop, IsTrue};
+ghost use Rattle.std.specs.Prelude.{◌≡◌, ◌<◌, ◌≤◌, ◌+◌};
+ghost use Rattle.std.specs.Prelude.{[], length, drop, IsTrue, IfOk};
+ghost use Rattle.std.specs.Io.KnownBytes.{IsAtEnd};
+ghost use Rattle.amqp_read.specs.Asking.{AskedOnce};
+ghost use Rattle.amqp_read.specs.Streaming.{reads};
 
+use crate::behind::read_behind;
+use amqp_base::Source;
+use std::io::ErrorKind;
 use std::marker::Model;
 
 /// So many bytes are kept in place.
@@ -80,15 +86,31 @@ impl Few {
         n <= FEW - self.end
     }
 
-    /// These bytes behind them.
+    /// Asks a source once for some of `n` bytes, and keeps what it gives behind them: how many.
     #[inline(always)]
-    pub(crate) fn append(&mut self, received: &[u8])
-        requires { length received.now ≤ self.old.room }
-        ensures { self.new.bytes ≡ self.old.bytes ++ received.now }
+    pub(crate) fn receive<S: Source>(
+        &mut self,
+        source: &mut S,
+        n: usize,
+    ) -> Result<usize, ErrorKind>
+        requires { n ≤ self.old.room }
+        ensures asked { AskedOnce n
+            (reads self.old.bytes (S.remaining source.old) 0 (S.faults source.old)
+            (S.last_fault source.old) (S.is_honest source.old) (S.origin source.old))
+            (reads self.new.bytes (S.remaining source.new) 0 (S.faults source.new)
+            (S.last_fault source.new) (S.is_honest source.new) (S.origin source.new)) result }
+        ensures end { IfOk result (λ got.
+            got ≡ 0 → 0 < n → IsTrue (S.is_honest source.old) →
+            IsAtEnd (S.remaining source.old)) }
     {
-        let end = self.end + received.len();
-        self.bytes[self.end..end].copy_from_slice(received);
-        self.end = end;
+        let have = self.end;
+        match read_behind(source, &mut self.bytes[..have + n], have) {
+            Ok(got) => {
+                self.end = have + got;
+                Ok(got)
+            }
+            Err(kind) => Err(kind),
+        }
     }
 
     /// The first `n` are gone.

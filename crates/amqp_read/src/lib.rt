@@ -1,6 +1,7 @@
 //! Readers: a list of bytes to come, a position, and bytes that were received ahead.
 #![tactic(auto)]
 
+mod behind;
 mod buffer;
 mod few;
 mod greatest;

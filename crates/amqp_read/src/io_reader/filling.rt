@@ -10,7 +10,6 @@ ghost use Rattle.amqp_read.specs.Steps.{Ended, IsShort, Looked, Fails, NotTaken,
 ghost use Rattle.amqp_read.specs.Streaming.{InVector, NoneInVector, SawMore};
 
 use super::IoReader;
-use crate::few::FEW;
 use amqp_base::{Error, Source};
 use std::io::ErrorKind;
 
@@ -27,38 +26,8 @@ impl<S: Source> IoReader<S> {
         ensures most { SawMore self.old self.new }
     {
         let lacking = n - self.buffer.len();
-        if self.buffer.has_room_in_place(lacking) {
-            return self.more_in_place(n);
-        }
         match self.buffer.receive(&mut self.source, lacking) {
             Ok(got) => Ok(got != 0),
-            Err(kind) => Err(kind),
-        }
-    }
-
-    /// The same, where what they lack finds room in place in the buffer.
-    #[inline(always)]
-    #[tactic(auto, using(crate::proofs::Streams::received_stays))]
-    fn more_in_place(&mut self, n: usize) -> Result<bool, ErrorKind>
-        requires some { length self.old.reading.received < n }
-        requires none { NoneInVector self.old }
-        requires room { n ≤ length self.old.reading.received + self.old.buffer.room_in_place }
-        requires few { n ≤ 64 }
-        ensures looked { Looked n self.old.reading self.new.reading }
-        ensures some { IfOk result (λ some. IsTrue some →
-            length self.old.reading.received < length self.new.reading.received) }
-        ensures short { IfOk result (λ some. some ≡ false → IsShort n self.old.reading) }
-        ensures why { IfErr result (λ kind.
-            Fails true true self.old.reading self.new.reading (refusal_of kind)) }
-        ensures most { SawMore self.old self.new }
-    {
-        let mut block = [0; FEW];
-        let lacking = n - self.buffer.len();
-        match self.source.read_some(&mut block[..lacking]) {
-            Ok(got) => {
-                self.buffer.append_in_place(&block[..got]);
-                Ok(got != 0)
-            }
             Err(kind) => Err(kind),
         }
     }

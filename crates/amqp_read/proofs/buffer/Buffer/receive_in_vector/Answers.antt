@@ -1,11 +1,12 @@
-use Rattle.std.proofs.Common.{◌≡◌, ◌≤◌, ◌+◌, ◌++◌, List, ℕ, length, take, drop, arith, ap, ◌∙◌, refl, sym, append_assoc}
+use Rattle.std.proofs.Common.{◌≡◌, ◌≤◌, ◌+◌, ◌++◌, List, ℕ, length, take, drop, arith, ap, ◌∙◌, sym, append_assoc, length-append}
+use Rattle.std.proofs.lemmas.List.{length-take-le}
 use Rattle.std.proofs.lemmas.Grind.{common_steps}
 use Rattle.amqp_read.specs.Streaming.{Buffered}
-use Rattle.amqp_read.proofs.Streams.{cut_behind, received_stays, fault_fails}
-use Rattle.amqp_read.proofs.buffer.Buffer.receive.Goals as goal
+use Rattle.amqp_read.proofs.Streams.{cut_behind, received_stays}
+use Rattle.amqp_read.proofs.buffer.Buffer.receive_in_vector.Goals as goal
 
-pub returns-in-Ok-clause-stays : goal.returns-in-Ok-clause-stays
-returns-in-Ok-clause-stays g c =
+pub returns-in-Ok-clause-asked : goal.returns-in-Ok-clause-asked
+returns-in-Ok-clause-asked g c =
     let old = c.self.inside.bytes.items in
     let read = c.read_behind.new.bytes in
     let front : take c.len-have.result read ≡ old = grind (arith, common_steps) in
@@ -17,10 +18,11 @@ returns-in-Ok-clause-stays g c =
     let within : c.self.inside.start ≤ c.len-have.result = omega arith in
     let kept : few ++ drop c.self.inside.start c.truncate.new.self.items ≡ c.args.self.now.unread ++ given =
     rw cut (ap (λ (z : List ℕ). few ++ z) (cut_behind old read _ _ c.in-Ok.got front have within) ∙ sym (append_assoc few (drop c.self.inside.start old) given) ∙ ap (λ (z : List ℕ). z ++ given) unread) in
-    rw kept (received_stays _ _ _ _ _ _ _ _ _ _ _ _ _ c.in-Ok.ensures.read.0 c.in-Ok.ensures.counts c.in-Ok.ensures.honest c.in-Ok.ensures.origin)
-
-pub returns-in-Err-clause-why : goal.returns-in-Err-clause-why
-returns-in-Err-clause-why g c = fault_fails _ refl c.in-Err.ensures.counts c.in-Err.ensures.kind
-
-pub returns-then-not-make_room-clause-most : goal.returns-then-not-make_room-clause-most
-returns-then-not-make_room-clause-most g c = let same = c.make_room.ensures.front.most in let seen = c.make_room.ensures.seen in omega arith
+    let got : c.in-Ok.got ≤ length (drop c.len-have.result read) = grind (arith, common_steps) in
+    rw kept (record {
+      stays = received_stays _ _ _ _ _ _ _ _ _ _ _ _ _ c.in-Ok.ensures.read.0 c.in-Ok.ensures.counts c.in-Ok.ensures.honest c.in-Ok.ensures.origin;
+      few = grind (arith, common_steps);
+      len = omega (arith, length-append c.args.self.now.unread given, length-take-le c.in-Ok.got (drop c.len-have.result read) got);
+      kept = tt;
+      why = tt;
+    })
