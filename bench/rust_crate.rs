@@ -106,6 +106,7 @@ fn some_record(n: &mut Numbers) -> Record {
 struct Pieces<'a>(&'a [u8]);
 
 impl Read for Pieces<'_> {
+    #[inline(never)]
     fn read(&mut self, out: &mut [u8]) -> io::Result<usize> {
         let most = out.len().min(PIECE);
         self.0.read(&mut out[..most])
