@@ -97,7 +97,7 @@ impl<R: Read> Deserializer<R> {
     /// `SequenceLengthMismatch` where it has more elements than there are fields, then the refusals
     /// of the fields. A refusal ends the deserializer.
     #[inline(always)]
-    pub fn deserialize_described_fields<S: Fields<R>>(
+    pub fn deserialize_described_fields<S: Fields<R> + Drop>(
         &mut self,
         alloc: Global,
         descriptor: &Descriptor,
@@ -125,7 +125,7 @@ impl<R: Read> Deserializer<R> {
             }
             Err(e) => return Err(e),
         }
-        match slots.into_values() {
+        match slots.take_values() {
             Some(values) => return Ok(values),
             None => {
                 self.stop();
@@ -135,11 +135,13 @@ impl<R: Read> Deserializer<R> {
     }
 
     /// The fields behind a descriptor, out of a map.
-    fn read_map_behind<S: Fields<R>>(
+    fn read_map_behind<S: Fields<R> + Drop>(
         &mut self,
         alloc: Global,
         fields: S,
     ) -> Result<S::Values, Error>
+    where
+        S::Values: Drop,
         ensures ok { IfOk result (λ vs. NamedRead (S.slots fields) vs self.old self.new) }
         ensures err { IfErr result (λ e.
             NamedRefused (S.slots fields) R.buffers self.old self.new e) }
@@ -170,12 +172,14 @@ impl<R: Read> Deserializer<R> {
     /// it is no code, `Message` where it is no map's code, the refusals of `deserialize_map`, then
     /// those of `deserialize_fields` for the pairs of a map. A refusal ends the deserializer.
     #[inline(always)]
-    pub fn deserialize_described_map<S: Fields<R>>(
+    pub fn deserialize_described_map<S: Fields<R> + Drop>(
         &mut self,
         alloc: Global,
         descriptor: &Descriptor,
         fields: S,
     ) -> Result<S::Values, Error>
+    where
+        S::Values: Drop,
         ensures ok { IfOk result (λ vs. NamesBehind (descriptor_of descriptor.now)
             (S.slots fields) vs self.old self.new) }
         ensures err { IfErr result (λ e. NamesBehindRefused (descriptor_of descriptor.now)

@@ -21,7 +21,9 @@ use std::alloc::Global;
 
 /// The fields of a struct while it is read: a `Field` and the fields behind it, and `()` behind the
 /// last.
-pub trait Fields<R: Read>: Drop {
+// Neither it nor its values are bound to be let go: the proof of a call would name, field by field,
+// how all that follows is.
+pub trait Fields<R: Read> {
     ghost use Rattle.std.specs.Prelude.{Bool, List};
     ghost use Rattle.amqp_base.specs.Item.{Item};
     ghost use Rattle.amqp_base.specs.Refusing.{Refusing};
@@ -29,7 +31,7 @@ pub trait Fields<R: Read>: Drop {
 
     /// Their values: that of the first field and those of the fields behind it, and `()` behind the
     /// last.
-    type Values: Drop;
+    type Values;
 
     /// The fields that have no value yet.
     ghost slots: { Self → Slots Self.Values };
@@ -110,10 +112,10 @@ pub trait Fields<R: Read>: Drop {
         ensures named { IfErr result (λ e. LeadingNamed (slots self.old).awaited takes refuses
             (grows || R.buffers) R.buffers (open_list list.old) list.new.de.now e) };
 
-    /// The values, where every field has one.
-    fn into_values(self) -> Option<Self::Values>
-        ensures some { (vs : Self.Values) → result ≡ Some vs → HaveValues (slots self) vs }
-        ensures none { result ≡ None → all_read (slots self) ≡ false };
+    /// Takes the values, where every field has one.
+    fn take_values(&mut self) -> Option<Self::Values>
+        ensures some { (vs : Self.Values) → result ≡ Some vs → HaveValues (slots self.old) vs }
+        ensures none { result ≡ None → all_read (slots self.old) ≡ false };
 }
 
 impl<R: Read> Fields<R> for () {
@@ -163,7 +165,7 @@ impl<R: Read> Fields<R> for () {
     }
 
     #[inline(always)]
-    fn into_values(self) -> Option<()> {
+    fn take_values(&mut self) -> Option<()> {
         Some(())
     }
 }
@@ -180,7 +182,7 @@ pub struct Field<'n, T, Rest> {
     pub rest: Rest,
 }
 
-impl<'n, T: Drop, Rest: Drop> Field<'n, T, Rest> {
+impl<'n, T: Drop, Rest> Field<'n, T, Rest> {
     /// A field under its name, without a value, and the fields behind it.
     pub fn new(name: &'n str, rest: Rest) -> Field<'n, T, Rest>
         ensures named { result.name.now ≡ name.now }
@@ -304,14 +306,9 @@ impl<'n, R: Read, T: Deserialize<R>, Rest: Fields<R>> Fields<R> for Field<'n, T,
     }
 
     #[inline(always)]
-    fn into_values(self) -> Option<(T, Rest::Values)> {
-        let Field {
-            name: _,
-            value,
-            rest,
-        } = self;
-        match value {
-            Some(value) => match rest.into_values() {
+    fn take_values(&mut self) -> Option<(T, Rest::Values)> {
+        match self.value.take() {
+            Some(value) => match self.rest.take_values() {
                 Some(others) => return Some((value, others)),
                 None => return None,
             },

@@ -23,11 +23,13 @@ impl<R: Read> Deserializer<R> {
     /// the field; behind the last pair `Message` where a field is missing. A refusal ends the
     /// deserializer.
     #[inline(always)]
-    pub fn deserialize_fields<S: Fields<R>>(
+    pub fn deserialize_fields<S: Fields<R> + Drop>(
         &mut self,
         alloc: Global,
         fields: S,
     ) -> Result<S::Values, Error>
+    where
+        S::Values: Drop,
         ensures ok { IfOk result (λ vs. FieldsRead (S.slots fields) vs self.old self.new) }
         ensures err { IfErr result (λ e.
             FieldsRefused (S.slots fields) R.buffers self.old self.new e) }
@@ -54,11 +56,13 @@ impl<R: Read> Deserializer<R> {
     }
 
     /// The fields out of a map.
-    pub(crate) fn read_map<S: Fields<R>>(
+    pub(crate) fn read_map<S: Fields<R> + Drop>(
         &mut self,
         alloc: Global,
         fields: S,
     ) -> Result<S::Values, Error>
+    where
+        S::Values: Drop,
         ensures ok { IfOk result (λ vs. NamedRead (S.slots fields) vs self.old self.new) }
         ensures err { IfErr result (λ e.
             NamedRefused (S.slots fields) R.buffers self.old self.new e) }
@@ -77,7 +81,7 @@ impl<R: Read> Deserializer<R> {
                 Err(e) => return Err(e),
             }
         }
-        let Some(values) = slots.into_values() else {
+        let Some(values) = slots.take_values() else {
             return Err(Error::custom(alloc, "missing field"));
         };
         map.end()?;
@@ -90,11 +94,13 @@ impl<R: Read> Deserializer<R> {
     /// The refusals of `deserialize_tuple`, then those of the fields. A refusal ends the
     /// deserializer.
     #[inline(always)]
-    pub fn deserialize_row<S: Fields<R>>(
+    pub fn deserialize_row<S: Fields<R> + Drop>(
         &mut self,
         alloc: Global,
         fields: S,
     ) -> Result<S::Values, Error>
+    where
+        S::Values: Drop,
         ensures ok { IfOk result (λ vs. RowRead (S.slots fields) vs self.old self.new) }
         ensures err { IfErr result (λ e.
             RowRefused (S.slots fields) S.grows R.buffers self.old self.new e) }
@@ -108,7 +114,7 @@ impl<R: Read> Deserializer<R> {
             return Err(Error::SequenceLengthMismatch);
         }
         slots.read_elements(alloc, &mut list)?;
-        let Some(values) = slots.into_values() else {
+        let Some(values) = slots.take_values() else {
             return Err(Error::SequenceLengthMismatch);
         };
         list.end()?;

@@ -24,7 +24,7 @@ returns-in-Err-read_list_behind-clause-named g c =
 
 pub returns-in-Some-clause-ok : goal.returns-in-Some-clause-ok
 returns-in-Some-clause-ok g c =
-    let values = c.into_values.ensures.some _ c.in-Some.is in
+    let values = c.take_values.ensures.some _ c.in-Some.is in
     behind_found _ _ _ (descriptor_of c.in-Ok.found) _ _ _ (sym c.is_wanted.ensures ∙ c.if-not-is_wanted.false) c.in-Ok.ensures.ok (c.in-Ok-read_list_behind.ensures.ok.values _ values.holds)
 
 -- no descriptor

@@ -28,7 +28,7 @@ returns-in_err-read_elements-clause-err g c =
 pub returns-in_default-clause-err : goal.returns-in_default-clause-err
 returns-in_default-clause-err g c =
     let row = c.in_ok-read_elements.ensures.read _ _ _ _ (row_opened _ _ c.in_ok-list.ensures.opened (g.S.Fields.slots c.args.fields).kinds) in
-    absurd (unread _ (c.into_values.ensures.none c.in_default.is) row.full)
+    absurd (unread _ (c.take_values.ensures.none c.in_default.is) row.full)
 
 -- the end was refused
 pub returns-in_err-end-clause-err : goal.returns-in_err-end-clause-err
@@ -39,7 +39,7 @@ returns-in_err-end-clause-err g c =
 pub returns-clause-ok : goal.returns-clause-ok
 returns-clause-ok g c =
     let row = c.in_ok-read_elements.ensures.read _ _ _ _ (row_opened _ _ c.in_ok-list.ensures.opened (g.S.Fields.slots c.args.fields).kinds) in
-    let values = c.into_values.ensures.some _ c.in-Some.is in
+    let values = c.take_values.ensures.some _ c.in-Some.is in
     found_at _ _ (search rules) (found_meant _ _ _ _ _ (end_answered _ row.progress c.in_ok-end.ensures.ends) (row.meant _ values.holds).1)
 
 -- ---- refusals by name
@@ -65,7 +65,7 @@ returns-in_err-read_elements-clause-named g c =
 pub returns-in_default-clause-named : goal.returns-in_default-clause-named
 returns-in_default-clause-named g c =
     let row = c.in_ok-read_elements.ensures.read _ _ _ _ (row_opened _ _ c.in_ok-list.ensures.opened (g.S.Fields.slots c.args.fields).kinds) in
-    absurd (unread _ (c.into_values.ensures.none c.in_default.is) row.full)
+    absurd (unread _ (c.take_values.ensures.none c.in_default.is) row.full)
 
 pub returns-in_err-end-clause-named : goal.returns-in_err-end-clause-named
 unfolding open_list

@@ -51,16 +51,16 @@ pairs-preserved g c =
     }
 
 -- a field is missing
-pub returns-in_default-into_values-clause-err : goal.returns-in_default-into_values-clause-err
+pub returns-in_default-take_values-clause-err : goal.returns-in_default-take_values-clause-err
 unfolding open_list
-returns-in_default-into_values-clause-err g c =
+returns-in_default-take_values-clause-err g c =
     let n = rw c.in_default.is at c.in-Ok.ensures.next in
-    missing _ _ _ _ c.pairs.invariant.sofar n.0 (c.into_values.ensures.none c.in_default-into_values.is) g.R.Read.buffers _ _ (custom_device _ _ c.custom.ensures) (search rules)
+    missing _ _ _ _ c.pairs.invariant.sofar n.0 (c.take_values.ensures.none c.in_default-take_values.is) g.R.Read.buffers _ _ (custom_device _ _ c.custom.ensures) (search rules)
 
 pub returns-clause-ok : goal.returns-clause-ok
 unfolding open_list
 returns-clause-ok g c =
-    let values = c.into_values.ensures.some _ c.in-Some-into_values.is in
+    let values = c.take_values.ensures.some _ c.in-Some-take_values.is in
     let n = rw c.in_default.is at c.in-Ok.ensures.next in
     found_at _ _ (search rules) (struct_found _ _ _ _ c.pairs.invariant.sofar _ values _ n.0 (c.in_ok-end.ensures.ends.is ∙ ap (λ (l : Listing). behind_end l) n.1))
 
@@ -87,13 +87,13 @@ returns-in-Err-read_field-clause-named g c =
     let s = name_read _ _ _ _ v.sofar c.in-Some.name _ n.0 in
     value_named _ _ _ g.R.Read.buffers _ _ _ c.in_ok-map.ensures.exact _ _ _ _ _ v.names (taken_since s.opened s.reads) (reaches_name _ _ _ _ _ c.in-Some.name _ _ _ v.reaches n.0) s.reads.not_ended s.turn (search rules) refused
 
-pub returns-in_default-into_values-clause-named : goal.returns-in_default-into_values-clause-named
+pub returns-in_default-take_values-clause-named : goal.returns-in_default-take_values-clause-named
 unfolding open_list
-returns-in_default-into_values-clause-named g c =
+returns-in_default-take_values-clause-named g c =
     let n = rw c.in_default.is at c.in-Ok.ensures.next in
     let v = c.pairs.invariant in
     let s = v.sofar in
-    missing_named _ _ _ g.R.Read.buffers _ _ _ _ c.in_ok-map.ensures.exact _ (g.S.Fields.slots c.pairs.slots) _ (taken_since s.opened s.reads) v.reaches n.0 (c.into_values.ensures.none c.in_default-into_values.is) c.custom.ensures
+    missing_named _ _ _ g.R.Read.buffers _ _ _ _ c.in_ok-map.ensures.exact _ (g.S.Fields.slots c.pairs.slots) _ (taken_since s.opened s.reads) v.reaches n.0 (c.take_values.ensures.none c.in_default-take_values.is) c.custom.ensures
 
 pub returns-in_err-end-clause-named : goal.returns-in_err-end-clause-named
 unfolding open_list
