@@ -23,11 +23,12 @@ use std::marker::PhantomData;
 
 /// The variants of an enum that is told by descriptor: a `DescribedVariant` and the variants behind
 /// it, and `()` behind the last.
-pub trait DescribedVariants<R: Read>: Drop {
+// Neither it nor its values are bound to be let go, as those of `Fields` aren't.
+pub trait DescribedVariants<R: Read> {
     ghost use Rattle.amqp_de.specs.DescribedEnums.{VariantsBehind};
 
     /// Which of them it is, with what it holds: the first or one of those behind it.
-    type Value: Drop;
+    type Value;
 
     /// What is read of them.
     ghost variants: { Self → VariantsBehind Self.Value };
@@ -158,7 +159,7 @@ impl<R: Read> Deserializer<R> {
     /// it; then the refusals of what its variant holds. `OutOfMemory`: there is no memory for a
     /// symbol. A refusal ends the deserializer.
     #[inline(always)]
-    pub fn deserialize_described_enum<S: DescribedVariants<R>>(
+    pub fn deserialize_described_enum<S: DescribedVariants<R> + Drop>(
         &mut self,
         alloc: Global,
         variants: S,
@@ -185,11 +186,10 @@ impl<R: Read> Deserializer<R> {
     /// Reads an enum whose variants are told by descriptor, as `deserialize_described_enum` does,
     /// and answers the value that is the variant which was read.
     #[inline(always)]
-    pub fn deserialize_described_enum_as<T: FromVariant, S: DescribedVariants<R, Value = T::Found>>(
-        &mut self,
-        alloc: Global,
-        variants: S,
-    ) -> Result<T, Error>
+    pub fn deserialize_described_enum_as<
+        T: FromVariant,
+        S: DescribedVariants<R, Value = T::Found> + Drop,
+    >(&mut self, alloc: Global, variants: S) -> Result<T, Error>
         ensures ok { IfOk result (λ v. DescribedRead (S.variants variants) (T.which v)
             self.old self.new) }
         ensures err { IfErr result (λ e. DescribedRefused (S.variants variants) R.buffers

@@ -48,11 +48,13 @@ impl<R: Read> Deserializer<R> {
     /// stands behind that of a variant that holds nothing, else the refusals of what it holds. A
     /// refusal ends the deserializer.
     #[inline(always)]
-    pub fn deserialize_variants<S: Variants<R>>(
+    pub fn deserialize_variants<S: Variants<R> + Drop>(
         &mut self,
         alloc: Global,
         variants: S,
     ) -> Result<S::Value, Error>
+    where
+        S::Value: Drop,
         ensures ok { IfOk result (λ v. VariantRead (S.variants variants) v self.old self.new) }
         ensures err { IfErr result (λ e. VariantRefused (S.variants variants) R.buffers
             self.old self.new e) }
@@ -91,7 +93,7 @@ impl<R: Read> Deserializer<R> {
     /// Reads an enum by its variants, as `deserialize_variants` does, and answers the value that is
     /// the variant which was read.
     #[inline(always)]
-    pub fn deserialize_variants_as<T: FromVariant, S: Variants<R, Value = T::Found>>(
+    pub fn deserialize_variants_as<T: FromVariant, S: Variants<R, Value = T::Found> + Drop>(
         &mut self,
         alloc: Global,
         variants: S,
@@ -141,6 +143,8 @@ impl<R: Read> Deserializer<R> {
         alloc: Global,
         variants: &S,
     ) -> Result<S::Value, Error>
+    where
+        S::Value: Drop,
         ensures ok { IfOk result (λ v. MapRead (S.variants variants.now) v self.old self.new) }
         ensures err { IfErr result (λ e. Missed (takes_in_map (S.variants variants.now).takes) true
             R.buffers self.old self.new e) }
@@ -170,6 +174,8 @@ impl<R: Read> Deserializer<R> {
         code: EncodingCodes,
         variants: &S,
     ) -> Result<S::Value, Error>
+    where
+        S::Value: Drop,
         ensures ok { IfOk result (λ v. ListRead (S.variants variants.now) v self.old self.new) }
         ensures err { IfErr result (λ e.
             Missed (takes_in_list (S.variants variants.now).takes) true R.buffers
@@ -200,6 +206,8 @@ impl<R: Read> Deserializer<R> {
         inner: Open,
         variants: &S,
     ) -> Result<S::Value, Error>
+    where
+        S::Value: Drop,
         requires two { inner.left ≡ 2 }
         requires plain { Plain (at_open self.old inner) }
         ensures ok { IfOk result (λ v. PairRead (S.variants variants.now) v

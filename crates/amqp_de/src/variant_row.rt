@@ -15,11 +15,11 @@ use std::alloc::Global;
 use std::marker::PhantomData;
 
 /// What a variant of an enum holds: nothing (`Unit`), or a value (`Newtype`).
-pub trait Payload<R: Read>: Drop {
+pub trait Payload<R: Read> {
     ghost use Rattle.amqp_base.specs.Enums.{Payload};
 
     /// What is held.
-    type Value: Drop;
+    type Value;
 
     /// What it means.
     ghost payload: { Payload Self.Value };
@@ -87,11 +87,12 @@ impl<R: Read, T: Deserialize<R>> Payload<R> for Newtype<T> {
 
 /// The variants of an enum, in order: an `EnumVariant` and the variants behind it, and `()` behind
 /// the last.
-pub trait Variants<R: Read>: Drop {
+// Neither it nor its values are bound to be let go, as those of `Fields` aren't.
+pub trait Variants<R: Read> {
     ghost use Rattle.amqp_base.specs.Enums.{Variants};
 
     /// Which of them it is, with what it holds: the first or one of those behind it.
-    type Value: Drop;
+    type Value;
 
     /// What they mean.
     ghost variants: { Self → Variants Self.Value };
