@@ -101,6 +101,12 @@ TYPES = PRIMITIVES | {
     "array-celsius": Array(I32),
     "open": OPEN,
     "array-open": Array(OPEN),
+    "properties": behind(0x73, Leading(
+        message_id=Maybe(U64), user_id=Maybe(BINARY), to=Maybe(STRING), subject=Maybe(STRING), reply_to=Maybe(STRING),
+        correlation_id=Maybe(U64), content_type=Maybe(SYMBOL), content_encoding=Maybe(SYMBOL),
+        absolute_expiry_time=Maybe(TIMESTAMP), creation_time=Maybe(TIMESTAMP), group_id=Maybe(STRING),
+        group_sequence=Maybe(U32), reply_to_group_id=Maybe(STRING),
+    )),
     "sasl-init": behind(0x41, Leading(mechanism=TEXT, initial_response=Maybe(BINARY), hostname=Maybe(STRING))),
     "shipment": behind(0x74, Named(order=U64, carrier=STRING, fragile=BOOL, note=Maybe(STRING))),
     "data": DATA,

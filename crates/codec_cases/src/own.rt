@@ -5,7 +5,7 @@ use crate::kind::Own;
 use crate::text::text;
 use own_types::{
     Celsius, Colour, Data, Delivery, Enumeration, Foo, Measurement, Note, Offer, Open, Pair,
-    Priority, Reply, Sensor, Shipment, Station, Switch, Tags,
+    Priority, Properties, Reply, Sensor, Shipment, Station, Switch, Tags,
 };
 use serde_amqp::{Array, Deserialize, Deserializer, Read};
 use std::alloc::Global;
@@ -77,6 +77,7 @@ fn described<R: Read>(de: &mut Deserializer<R>, alloc: Global, of: Own) -> Resul
     match of {
         Own::Open => text(alloc, Open::deserialize(alloc, de)),
         Own::ArrayOpen => text(alloc, <Array<Open>>::deserialize(alloc, de)),
+        Own::Properties => text(alloc, Properties::deserialize(alloc, de)),
         Own::Data => text(alloc, Data::deserialize(alloc, de)),
         Own::ArrayData => text(alloc, <Array<Data>>::deserialize(alloc, de)),
         Own::Shipment => text(alloc, Shipment::deserialize(alloc, de)),

@@ -4,7 +4,7 @@ ghost use Rattle.serde_amqp.specs.Headline.{KeptAs};
 
 use crate::{
     Celsius, Colour, Data, Delivery, Enumeration, Foo, Measurement, Note, Offer, Open, Pair,
-    Priority, Reply, SaslInit, Section, Sensor, Shipment, Station, Switch, Tags,
+    Priority, Properties, Reply, SaslInit, Section, Sensor, Shipment, Station, Switch, Tags,
 };
 use serde_amqp::{Error, Typed, from_slice, laws};
 use std::alloc::Global;
@@ -167,5 +167,13 @@ pub fn switch_is_kept(alloc: Global, bytes: &[u8]) -> Result<Switch, Error>
     ensures { KeptAs ⟦<Switch as Typed>⟧.meaning bytes.now result }
 {
     laws::kept::<Switch>();
+    from_slice(alloc, bytes)
+}
+
+/// What `to_vec` wrote for a message's properties is read as the same, or memory was wanting.
+pub fn properties_are_kept(alloc: Global, bytes: &[u8]) -> Result<Properties, Error>
+    ensures { KeptAs ⟦<Properties as Typed>⟧.meaning bytes.now result }
+{
+    laws::kept::<Properties>();
     from_slice(alloc, bytes)
 }

@@ -3,9 +3,9 @@
 //! runs.
 
 use super::bytes::is_made_as;
-use super::made::{array, both, list, string};
-use own_types::{Data, Shipment};
-use serde_amqp::primitives::Binary;
+use super::made::{array, both, list, string, symbol};
+use own_types::{Data, Properties, Shipment};
+use serde_amqp::primitives::{Binary, Symbol, Timestamp};
 
 const DATA: &[u8] = b"\x00\x53\x75\xa0\x02\x0a\xbc";
 
@@ -54,4 +54,34 @@ fn shipment(carrier: Option<String>) -> Option<Shipment> {
 fn properties_are_a_map_of_names_behind_their_descriptor(rt: HostRuntime) {
     let alloc = rt.alloc();
     assert!(rt; is_made_as(alloc, shipment(string(alloc, "a")), SHIPMENT));
+}
+
+const PROPERTIES: &[u8] = b"\x00\x53\x73\xc0\x1c\x0d\
+    \x53\x01\x40\xa1\x01a\x40\x40\x40\xa3\x01t\x40\x40\
+    \x83\x00\x00\x00\x00\x00\x00\x00\x00\x40\x52\xff\x40";
+
+/// Those of the first message to a node, of a group.
+fn properties(to: Option<String>, content_type: Option<Symbol>) -> Properties {
+    Properties {
+        message_id: Some(1),
+        user_id: None,
+        to,
+        subject: None,
+        reply_to: None,
+        correlation_id: None,
+        content_type,
+        content_encoding: None,
+        absolute_expiry_time: None,
+        creation_time: Some(Timestamp::from_milliseconds(0)),
+        group_id: None,
+        group_sequence: Some(255),
+        reply_to_group_id: None,
+    }
+}
+
+#[test]
+fn properties_of_a_message_are_a_list_of_thirteen(rt: HostRuntime) {
+    let alloc = rt.alloc();
+    let made = properties(string(alloc, "a"), symbol(alloc, "t"));
+    assert!(rt; is_made_as(alloc, Some(made), PROPERTIES));
 }
