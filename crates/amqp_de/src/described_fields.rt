@@ -19,6 +19,7 @@ use amqp_base::{EncodingCodes, Error};
 use amqp_read::Read;
 use amqp_types::Descriptor;
 use std::alloc::Global;
+use std::mem;
 
 /// Whether two descriptors are the same.
 #[inline(always)]
@@ -126,7 +127,11 @@ impl<R: Read> Deserializer<R> {
             Err(e) => return Err(e),
         }
         match slots.take_values() {
-            Some(values) => return Ok(values),
+            Some(values) => {
+                // None of them has a value any more.
+                mem::forget(slots);
+                return Ok(values);
+            }
             None => {
                 self.stop();
                 return Err(Error::SequenceLengthMismatch);

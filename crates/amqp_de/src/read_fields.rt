@@ -10,6 +10,7 @@ use crate::{Deserializer, Fields};
 use amqp_base::Error;
 use amqp_read::Read;
 use std::alloc::Global;
+use std::mem;
 
 impl<R: Read> Deserializer<R> {
     /// Reads the fields of a struct: out of a list of just so many elements (part 1, section
@@ -84,6 +85,8 @@ impl<R: Read> Deserializer<R> {
         let Some(values) = slots.take_values() else {
             return Err(Error::custom(alloc, "missing field"));
         };
+        // None of them has a value any more.
+        mem::forget(slots);
         map.end()?;
         Ok(values)
     }
@@ -117,6 +120,8 @@ impl<R: Read> Deserializer<R> {
         let Some(values) = slots.take_values() else {
             return Err(Error::SequenceLengthMismatch);
         };
+        // None of them has a value any more.
+        mem::forget(slots);
         list.end()?;
         Ok(values)
     }
