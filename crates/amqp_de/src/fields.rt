@@ -114,7 +114,8 @@ pub trait Fields<R: Read> {
 
     /// Takes the values, where every field has one.
     fn take_values(&mut self) -> Option<Self::Values>
-        ensures some { (vs : Self.Values) → result ≡ Some vs → HaveValues (slots self.old) vs }
+        ensures some { (vs : Self.Values) → result ≡ Some vs →
+            HaveValues (slots self.old) vs }
         ensures none { result ≡ None → all_read (slots self.old) ≡ false };
 }
 
