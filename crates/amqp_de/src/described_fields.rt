@@ -211,16 +211,17 @@ impl<R: Read> Deserializer<R> {
 
 /// Reads a struct under a descriptor, as a list of its fields:
 /// `read_described!(de, alloc, &descriptor, Sensor { id, unit })` calls
-/// `Deserializer::deserialize_described_fields`, and answers the struct of what was read.
+/// `Deserializer::deserialize_described_fields`, and answers the struct of what was read. A struct
+/// may have none: `Accepted {}`.
 #[macro_export]
 macro_rules! read_described {
-    ($de:expr, $alloc:expr, $descriptor:expr, $name:ident { $($field:ident),+ $(,)? }) => {
+    ($de:expr, $alloc:expr, $descriptor:expr, $name:ident { $($field:ident),* $(,)? }) => {
         match $de.deserialize_described_fields(
             $alloc,
             $descriptor,
-            $crate::read_fields!(@row $($field),+),
+            $crate::read_fields!(@row $($field),*),
         ) {
-            Ok(values) => $crate::read_fields!(@take values; $name; []; $($field),+),
+            Ok(values) => $crate::read_fields!(@take values; $name; []; $($field),*),
             Err(e) => Err(e),
         }
     };
@@ -231,13 +232,13 @@ macro_rules! read_described {
 /// `Deserializer::deserialize_described_map`, and answers the struct of what was read.
 #[macro_export]
 macro_rules! read_described_map {
-    ($de:expr, $alloc:expr, $descriptor:expr, $name:ident { $($field:ident),+ $(,)? }) => {
+    ($de:expr, $alloc:expr, $descriptor:expr, $name:ident { $($field:ident),* $(,)? }) => {
         match $de.deserialize_described_map(
             $alloc,
             $descriptor,
-            $crate::read_fields!(@row $($field),+),
+            $crate::read_fields!(@row $($field),*),
         ) {
-            Ok(values) => $crate::read_fields!(@take values; $name; []; $($field),+),
+            Ok(values) => $crate::read_fields!(@take values; $name; []; $($field),*),
             Err(e) => Err(e),
         }
     };

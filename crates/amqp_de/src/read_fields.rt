@@ -131,9 +131,9 @@ impl<R: Read> Deserializer<R> {
 /// `Deserializer::deserialize_fields` with these names, and answers the struct of what was read.
 #[macro_export]
 macro_rules! read_fields {
-    ($de:expr, $alloc:expr, $name:ident { $($field:ident),+ $(,)? }) => {
-        match $de.deserialize_fields($alloc, $crate::read_fields!(@row $($field),+)) {
-            Ok(values) => $crate::read_fields!(@take values; $name; []; $($field),+),
+    ($de:expr, $alloc:expr, $name:ident { $($field:ident),* $(,)? }) => {
+        match $de.deserialize_fields($alloc, $crate::read_fields!(@row $($field),*)) {
+            Ok(values) => $crate::read_fields!(@take values; $name; []; $($field),*),
             Err(e) => Err(e),
         }
     };
@@ -145,6 +145,10 @@ macro_rules! read_fields {
             rest: $crate::read_fields!(@row $($rest),*),
         }
     };
+    (@take $values:expr; $name:ident; [];) => {{
+        let () = $values;
+        Ok($name {})
+    }};
     (@take $values:expr; $name:ident; [$($done:ident)*]; $field:ident) => {{
         let ($field, ()) = $values;
         Ok($name { $($done,)* $field })
@@ -159,9 +163,9 @@ macro_rules! read_fields {
 /// `Deserializer::deserialize_row`, and answers the struct of what was read.
 #[macro_export]
 macro_rules! read_parts {
-    ($de:expr, $alloc:expr, $name:ident { $($field:ident),+ $(,)? }) => {
-        match $de.deserialize_row($alloc, $crate::read_fields!(@row $($field),+)) {
-            Ok(values) => $crate::read_fields!(@take values; $name; []; $($field),+),
+    ($de:expr, $alloc:expr, $name:ident { $($field:ident),* $(,)? }) => {
+        match $de.deserialize_row($alloc, $crate::read_fields!(@row $($field),*)) {
+            Ok(values) => $crate::read_fields!(@take values; $name; []; $($field),*),
             Err(e) => Err(e),
         }
     };

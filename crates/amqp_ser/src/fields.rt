@@ -247,10 +247,10 @@ impl<W: Sink> Serializer<W> {
 /// `Serializer::serialize_fields` with the fields of `self` under their own names.
 #[macro_export]
 macro_rules! write_fields {
-    ($ser:expr, $alloc:expr, $of:expr, $name:ident { $($field:ident),+ $(,)? }) => {
+    ($ser:expr, $alloc:expr, $of:expr, $name:ident { $($field:ident),* $(,)? }) => {
         $ser.serialize_fields($alloc, &$crate::Struct {
             name: stringify!($name),
-            fields: $crate::write_fields!(@fields $of; $($field),+),
+            fields: $crate::write_fields!(@fields $of; $($field),*),
         })
     };
     (@fields $of:expr;) => { () };

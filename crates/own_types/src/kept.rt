@@ -3,8 +3,9 @@
 ghost use Rattle.serde_amqp.specs.Headline.{KeptAs};
 
 use crate::{
-    Celsius, Colour, Data, Delivery, Enumeration, Foo, Measurement, Note, Offer, Open, Pair,
-    Priority, Properties, Reply, SaslInit, Section, Sensor, Shipment, Station, Switch, Tags,
+    Celsius, Colour, Data, Delivery, DeliveryState, Enumeration, Foo, Measurement, Note, Offer,
+    Open, Pair, Priority, Properties, Reply, SaslInit, Section, Sensor, Shipment, Station, Switch,
+    Tags,
 };
 use serde_amqp::{Error, Typed, from_slice, laws};
 use std::alloc::Global;
@@ -151,6 +152,14 @@ pub fn section_is_kept(alloc: Global, bytes: &[u8]) -> Result<Section, Error>
     ensures { KeptAs ⟦<Section as Typed>⟧.meaning bytes.now result }
 {
     laws::kept::<Section>();
+    from_slice(alloc, bytes)
+}
+
+/// What `to_vec` wrote for the state of a delivery is read as the same one, or memory was wanting.
+pub fn delivery_state_is_kept(alloc: Global, bytes: &[u8]) -> Result<DeliveryState, Error>
+    ensures { KeptAs ⟦<DeliveryState as Typed>⟧.meaning bytes.now result }
+{
+    laws::kept::<DeliveryState>();
     from_slice(alloc, bytes)
 }
 
