@@ -1,5 +1,5 @@
 """The types that a line of `crates/codec_cases` can name."""
-from reading import Array, Chosen, Described, Enum, Leading, Lent, List, Map, Maybe, Named, Primitive, Struct, Tuple
+from reading import Array, Chosen, Described, Enum, Leading, Lent, List, Map, Maybe, Named, Primitive, Struct, Told, Tuple
 
 PRIMITIVES = {
     name: Primitive(kind)
@@ -21,6 +21,7 @@ MEASUREMENT = Tuple(U32, STRING)
 SENSOR = Struct(id=U32, readings=List(I32), unit=Maybe(SYMBOL))
 OPEN = behind(0x10, Leading(container_id=STRING, hostname=Maybe(STRING), max_frame_size=Maybe(U32), channel_max=Maybe(U16)))
 DATA = behind(0x75, BINARY)
+RECEIVED, ACCEPTED = behind(0x23, Leading(section_number=U32, section_offset=U64)), behind(0x24, Leading())
 ENUMERATION = Enum(UnitVariant=None, NewTypeVariant=U32, TupleVariant=Tuple(BOOL, U64, STRING), StructVariant=Tuple(U32, BOOL))
 SWITCH = Enum(Off=None, On=None)
 
@@ -107,6 +108,9 @@ TYPES = PRIMITIVES | {
         absolute_expiry_time=Maybe(TIMESTAMP), creation_time=Maybe(TIMESTAMP), group_id=Maybe(STRING),
         group_sequence=Maybe(U32), reply_to_group_id=Maybe(STRING),
     )),
+    "accepted": ACCEPTED,
+    "array-accepted": Array(ACCEPTED),
+    "delivery-state": Told(RECEIVED, ACCEPTED),
     "sasl-init": behind(0x41, Leading(mechanism=TEXT, initial_response=Maybe(BINARY), hostname=Maybe(STRING))),
     "shipment": behind(0x74, Named(order=U64, carrier=STRING, fragile=BOOL, note=Maybe(STRING))),
     "data": DATA,

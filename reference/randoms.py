@@ -1,7 +1,7 @@
 """Random bytes for a type: a text of some value in some form, short or wide, mostly as it should be, and then changed or not."""
 from reading import (
     KIND, KINDS, PAYLOADS, TEXTS, UNSIGNED, WIDTH, Array, Chosen, Described, Enum, Leading, Lent, List, Map, Maybe, Named,
-    Primitive, Struct, Tuple,
+    Primitive, Struct, Told, Tuple,
 )
 
 WORDS = [b"", b"a", b"b", b"ab", b"amqp", b"bar", b"is_fool", b"id", b"order", "é".encode(), b"UnitVariant", b"On"]
@@ -111,6 +111,8 @@ class Maker:
             return item[:1], item[1:]
         if isinstance(wanted, Chosen):
             return self.text(wanted.inner, code)
+        if isinstance(wanted, Told):
+            return self.text(self.one(wanted.variants), code)
         if isinstance(wanted, Maybe):
             return (b"\x40", b"") if code is None and self.chance(0.3) else self.text(wanted.inner, code)
         return getattr(self, f"text_of_{type(wanted).__name__.lower()}")(wanted, code)

@@ -354,6 +354,22 @@ class Described:
         return ("described", (descriptor, value))
 
 
+class Told:
+    """An enum that is told by descriptor: of each variant a value behind a descriptor of its own."""
+
+    def __init__(self, *variants):
+        self.variants = variants
+
+    def read(self, reader):
+        if reader.kind() != "described":
+            raise Refused(CODE)
+        descriptor = look_descriptor(reader)
+        for it in self.variants:
+            if it.wanted == descriptor:
+                return it.read(reader)
+        raise Refused(MESSAGE)
+
+
 class Fields:
     """Fields by their names, in order."""
 

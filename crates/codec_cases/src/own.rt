@@ -4,8 +4,8 @@ use crate::answer::Answer;
 use crate::kind::Own;
 use crate::text::text;
 use own_types::{
-    Celsius, Colour, Data, Delivery, Enumeration, Foo, Measurement, Note, Offer, Open, Pair,
-    Priority, Properties, Reply, Sensor, Shipment, Station, Switch, Tags,
+    Accepted, Celsius, Colour, Data, Delivery, DeliveryState, Enumeration, Foo, Measurement, Note,
+    Offer, Open, Pair, Priority, Properties, Reply, Sensor, Shipment, Station, Switch, Tags,
 };
 use serde_amqp::{Array, Deserialize, Deserializer, Read};
 use std::alloc::Global;
@@ -81,6 +81,20 @@ fn described<R: Read>(de: &mut Deserializer<R>, alloc: Global, of: Own) -> Resul
         Own::Data => text(alloc, Data::deserialize(alloc, de)),
         Own::ArrayData => text(alloc, <Array<Data>>::deserialize(alloc, de)),
         Own::Shipment => text(alloc, Shipment::deserialize(alloc, de)),
+        _ => delivery_state(de, alloc, of),
+    }
+}
+
+/// The state of a delivery.
+fn delivery_state<R: Read>(
+    de: &mut Deserializer<R>,
+    alloc: Global,
+    of: Own,
+) -> Result<Vec<u8>, Answer> {
+    match of {
+        Own::Accepted => text(alloc, Accepted::deserialize(alloc, de)),
+        Own::ArrayAccepted => text(alloc, <Array<Accepted>>::deserialize(alloc, de)),
+        Own::DeliveryState => text(alloc, DeliveryState::deserialize(alloc, de)),
         _ => enumeration(de, alloc, of),
     }
 }
