@@ -89,7 +89,7 @@ TYPES = PRIMITIVES | {
     "reply": Struct(question=U64, found=Maybe(SENSOR)),
     "station": Struct(
         heights=List(I32), names=List(STRING), region=Maybe(SYMBOL), counts=Map(STRING, U32),
-        visits=Map(U32, U64, is_sorted=True), main_sensor=SENSOR, sensors=List(SENSOR),
+        visits=Map(U32, U64, is_sorted=True), **{"main-sensor": SENSOR}, sensors=List(SENSOR),
     ),
     "delivery": Struct(
         delivery_number=U32, delivery_tag=BINARY, message_format=U32, message_number=Maybe(U64), is_settled=BOOL,
@@ -112,7 +112,7 @@ TYPES = PRIMITIVES | {
     "array-accepted": Array(ACCEPTED),
     "delivery-state": Told(RECEIVED, ACCEPTED),
     "sasl-init": behind(0x41, Leading(mechanism=TEXT, initial_response=Maybe(BINARY), hostname=Maybe(STRING))),
-    "shipment": behind(0x74, Named(order=U64, carrier=STRING, fragile=BOOL, note=Maybe(STRING))),
+    "shipment": behind(0x74, Named(**{"order-number": U64}, carrier=STRING, fragile=BOOL, note=Maybe(STRING))),
     "data": DATA,
     "array-data": Array(DATA),
     "enumeration": ENUMERATION,

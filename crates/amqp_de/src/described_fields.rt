@@ -211,15 +211,17 @@ impl<R: Read> Deserializer<R> {
 
 /// Reads a struct under a descriptor, as a list of its fields:
 /// `read_described!(de, alloc, &descriptor, Sensor { id, unit })` calls
-/// `Deserializer::deserialize_described_fields`, and answers the struct of what was read. A struct
-/// may have none: `Accepted {}`.
+/// `Deserializer::deserialize_described_fields` with the names that `read_fields!` gives them, and
+/// answers the struct of what was read. A struct may have none: `Accepted {}`.
 #[macro_export]
 macro_rules! read_described {
-    ($de:expr, $alloc:expr, $descriptor:expr, $name:ident { $($field:ident),* $(,)? }) => {
+    ($de:expr, $alloc:expr, $descriptor:expr, $name:ident {
+        $($field:ident $(: $key:literal)?),* $(,)?
+    }) => {
         match $de.deserialize_described_fields(
             $alloc,
             $descriptor,
-            $crate::read_fields!(@row $($field),*),
+            $crate::read_fields!(@row $($field $(: $key)?),*),
         ) {
             Ok(values) => $crate::read_fields!(@take values; $name; []; $($field),*),
             Err(e) => Err(e),
@@ -229,14 +231,17 @@ macro_rules! read_described {
 
 /// Reads a struct under a descriptor, as a map from the names of its fields:
 /// `read_described_map!(de, alloc, &descriptor, Sensor { id, unit })` calls
-/// `Deserializer::deserialize_described_map`, and answers the struct of what was read.
+/// `Deserializer::deserialize_described_map` with these names, or with the name that follows a
+/// field, as in `Sensor { id: "sensor-id", unit }`, and answers the struct of what was read.
 #[macro_export]
 macro_rules! read_described_map {
-    ($de:expr, $alloc:expr, $descriptor:expr, $name:ident { $($field:ident),* $(,)? }) => {
+    ($de:expr, $alloc:expr, $descriptor:expr, $name:ident {
+        $($field:ident $(: $key:literal)?),* $(,)?
+    }) => {
         match $de.deserialize_described_map(
             $alloc,
             $descriptor,
-            $crate::read_fields!(@row $($field),*),
+            $crate::read_fields!(@row $($field $(: $key)?),*),
         ) {
             Ok(values) => $crate::read_fields!(@take values; $name; []; $($field),*),
             Err(e) => Err(e),

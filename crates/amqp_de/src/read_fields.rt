@@ -128,23 +128,26 @@ impl<R: Read> Deserializer<R> {
 }
 
 /// Reads a struct whose fields have names: `read_fields!(de, alloc, Sensor { id, unit })` calls
-/// `Deserializer::deserialize_fields` with these names, and answers the struct of what was read.
+/// `Deserializer::deserialize_fields` with these names, or with the name that follows a field, as in
+/// `Sensor { id: "sensor-id", unit }`, and answers the struct of what was read.
 #[macro_export]
 macro_rules! read_fields {
-    ($de:expr, $alloc:expr, $name:ident { $($field:ident),* $(,)? }) => {
-        match $de.deserialize_fields($alloc, $crate::read_fields!(@row $($field),*)) {
+    ($de:expr, $alloc:expr, $name:ident { $($field:ident $(: $key:literal)?),* $(,)? }) => {
+        match $de.deserialize_fields($alloc, $crate::read_fields!(@row $($field $(: $key)?),*)) {
             Ok(values) => $crate::read_fields!(@take values; $name; []; $($field),*),
             Err(e) => Err(e),
         }
     };
     (@row) => { () };
-    (@row $field:ident $(, $rest:ident)*) => {
+    (@row $field:ident $(: $key:literal)? $(, $($rest:tt)*)?) => {
         $crate::Field {
-            name: stringify!($field),
+            name: $crate::read_fields!(@name $field $($key)?),
             value: None,
-            rest: $crate::read_fields!(@row $($rest),*),
+            rest: $crate::read_fields!(@row $($($rest)*)?),
         }
     };
+    (@name $field:ident) => { stringify!($field) };
+    (@name $field:ident $key:literal) => { $key };
     (@take $values:expr; $name:ident; [];) => {{
         let () = $values;
         Ok($name {})

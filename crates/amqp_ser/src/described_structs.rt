@@ -103,16 +103,16 @@ impl<W: Sink> Serializer<W> {
 
 /// Writes a struct behind a descriptor by its fields, as a list: `write_described!(ser, alloc,
 /// self, &Descriptor::Code(0x10), Open { container_id, hostname })` calls
-/// `Serializer::serialize_described_fields` with the fields of `self` in this order. A struct may
-/// have none: `Accepted {}`.
+/// `Serializer::serialize_described_fields` with the fields of `self` in this order, named as
+/// `write_fields!` names them. A struct may have none: `Accepted {}`.
 #[macro_export]
 macro_rules! write_described {
     ($ser:expr, $alloc:expr, $of:expr, $descriptor:expr, $name:ident {
-        $($field:ident),* $(,)?
+        $($field:ident $(: $key:literal)?),* $(,)?
     }) => {
         $ser.serialize_described_fields($alloc, $descriptor, &$crate::Struct {
             name: $crate::DESCRIBED_LIST,
-            fields: $crate::write_fields!(@fields $of; $($field),*),
+            fields: $crate::write_fields!(@fields $of; $($field $(: $key)?),*),
         })
     };
 }

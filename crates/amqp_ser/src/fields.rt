@@ -244,21 +244,26 @@ impl<W: Sink> Serializer<W> {
 }
 
 /// Writes a struct by its fields: `write_fields!(ser, alloc, self, Sensor { id, unit })` calls
-/// `Serializer::serialize_fields` with the fields of `self` under their own names.
+/// `Serializer::serialize_fields` with the fields of `self` under their own names, or under the
+/// name that follows a field: `Sensor { id: "sensor-id", unit }`.
 #[macro_export]
 macro_rules! write_fields {
-    ($ser:expr, $alloc:expr, $of:expr, $name:ident { $($field:ident),* $(,)? }) => {
+    ($ser:expr, $alloc:expr, $of:expr, $name:ident {
+        $($field:ident $(: $key:literal)?),* $(,)?
+    }) => {
         $ser.serialize_fields($alloc, &$crate::Struct {
             name: stringify!($name),
-            fields: $crate::write_fields!(@fields $of; $($field),*),
+            fields: $crate::write_fields!(@fields $of; $($field $(: $key)?),*),
         })
     };
     (@fields $of:expr;) => { () };
-    (@fields $of:expr; $field:ident $(, $rest:ident)*) => {
+    (@fields $of:expr; $field:ident $(: $key:literal)? $(, $($rest:tt)*)?) => {
         $crate::Written {
-            name: stringify!($field),
+            name: $crate::write_fields!(@name $field $($key)?),
             value: &$of.$field,
-            rest: $crate::write_fields!(@fields $of; $($rest),*),
+            rest: $crate::write_fields!(@fields $of; $($($rest)*)?),
         }
     };
+    (@name $field:ident) => { stringify!($field) };
+    (@name $field:ident $key:literal) => { $key };
 }

@@ -27,7 +27,7 @@ pub struct Shipment {
 
 impl Typed for Shipment {
     ghost meaning = { described_map_of (code 0x74) (
-        entry (codes "order") ⟦<u64 as Typed>⟧.meaning (λ v. v.order) (as_ever refl) ∷
+        entry (codes "order-number") ⟦<u64 as Typed>⟧.meaning (λ v. v.order) (as_ever refl) ∷
         entry (codes "carrier") ⟦<String as Typed>⟧.meaning (λ v. v.carrier) (as_ever refl) ∷
         entry (codes "fragile") ⟦<bool as Typed>⟧.meaning (λ v. v.fragile) (as_ever refl) ∷
         entry (codes "note") ⟦<Option<String> as Typed>⟧.meaning (λ v. v.note)
@@ -50,7 +50,7 @@ impl Serialize for Shipment {
             self,
             &Descriptor::Code(0x74),
             Shipment {
-                order,
+                order: "order-number",
                 carrier,
                 fragile,
                 note
@@ -66,7 +66,7 @@ impl<R: Read> Deserialize<R> for Shipment {
             alloc,
             &Descriptor::Code(0x74),
             Shipment {
-                order,
+                order: "order-number",
                 carrier,
                 fragile,
                 note

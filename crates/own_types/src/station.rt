@@ -38,7 +38,7 @@ impl Typed for Station {
         at (codes "region") ⟦<Option<Symbol> as Typed>⟧.meaning (λ v. v.region) ∷
         at (codes "counts") ⟦<OrderedMap<String, u32> as Typed>⟧.meaning (λ v. v.counts) ∷
         at (codes "visits") ⟦<BTreeMap<u32, u64> as Typed>⟧.meaning (λ v. v.visits) ∷
-        at (codes "main_sensor") ⟦<Sensor as Typed>⟧.meaning (λ v. v.main_sensor) ∷
+        at (codes "main-sensor") ⟦<Sensor as Typed>⟧.meaning (λ v. v.main_sensor) ∷
         at (codes "sensors") ⟦<Vec<Sensor> as Typed>⟧.meaning (λ v. v.sensors) ∷ [])) };
 }
 
@@ -62,7 +62,7 @@ impl Serialize for Station {
                 region,
                 counts,
                 visits,
-                main_sensor,
+                main_sensor: "main-sensor",
                 sensors
             }
         )
@@ -80,7 +80,7 @@ impl<R: Read> Deserialize<R> for Station {
                 region,
                 counts,
                 visits,
-                main_sensor,
+                main_sensor: "main-sensor",
                 sensors
             }
         )

@@ -45,7 +45,13 @@ fn what_was_written_is_read_again(rt: HostRuntime) {
     assert!(rt; are_newtypes_kept(alloc));
     assert!(rt; are_described_kept(alloc));
     assert!(rt; are_enums_kept(alloc));
-    let shipment = b"\x00\x53\x74\xc1\x27\x08\
-        \xa1\x05order\x53\x07\xa1\x07carrier\xa1\x01a\xa1\x07fragile\x41\xa1\x04note\x40";
+    let shipment = b"\x00\x53\x74\xc1\x2e\x08\
+        \xa1\x0corder-number\x53\x07\xa1\x07carrier\xa1\x01a\
+        \xa1\x07fragile\x41\xa1\x04note\x40";
     assert!(rt; told(kept::shipment_is_kept(alloc, shipment)) == Taken);
+    let state = b"\x00\x53\x23\xc0\x04\x02\x43\x53\x07";
+    assert!(rt; told(kept::delivery_state_is_kept(alloc, state)) == Taken);
+    let properties = b"\x00\x53\x73\xc0\x0f\x0d\
+        \x53\x07\x40\x40\x40\x40\x40\x40\x40\x40\x40\x40\x40\x40";
+    assert!(rt; told(kept::properties_are_kept(alloc, properties)) == Taken);
 }

@@ -34,8 +34,9 @@ fn sections_are_elements_of_an_array(rt: HostRuntime) {
     assert!(rt; is_made_as(alloc, array(both(alloc, a, b)), DATAS));
 }
 
-const SHIPMENT: &[u8] = b"\x00\x53\x74\xc1\x27\x08\
-    \xa1\x05order\x53\x07\xa1\x07carrier\xa1\x01a\xa1\x07fragile\x41\xa1\x04note\x40";
+const SHIPMENT: &[u8] = b"\x00\x53\x74\xc1\x2e\x08\
+    \xa1\x0corder-number\x53\x07\xa1\x07carrier\xa1\x01a\
+    \xa1\x07fragile\x41\xa1\x04note\x40";
 
 /// The seventh order, which can break.
 fn shipment(carrier: Option<String>) -> Option<Shipment> {
