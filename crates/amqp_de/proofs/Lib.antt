@@ -12,6 +12,7 @@ pub mod Naming
 pub mod NamedParts
 pub mod NamedElements
 pub mod Many
+pub mod ReadSome
 pub mod ReadParts
 pub mod Turns
 pub mod Pairs

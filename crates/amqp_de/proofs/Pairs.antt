@@ -155,15 +155,15 @@ module _ {K V : Type 0} (key : Item → K → Type 0) (value : Item → V → Ty
   }
 
   -- Since `old` a map was opened, and the pairs that were read of it give these entries, put one after the other.
-  pub record EntriesRead (old : Decoding) (key_taken value_taken : Item → Bool) (entries : List (K × V)) (now : Listing) : Type 0 where
+  pub record EntriesSoFar (old : Decoding) (key_taken value_taken : Item → Bool) (entries : List (K × V)) (now : Listing) : Type 0 where
     pub pairs : Pairs
     pub reads : PairsRead old key_taken value_taken pairs now
     pub meant : MeansPairs key value put pairs entries
 
-  pub entries_start : (old : Decoding) (kt vt : Item → Bool) (entries : List (K × V)) (now : Listing) → PairsRead old kt vt no_pairs now → entries ≡ [] → EntriesRead old kt vt entries now
+  pub entries_start : (old : Decoding) (kt vt : Item → Bool) (entries : List (K × V)) (now : Listing) → PairsRead old kt vt no_pairs now → entries ≡ [] → EntriesSoFar old kt vt entries now
   entries_start old kt vt entries now s e = rw e record { pairs = no_pairs; reads = s; meant = means_none }
 
-  pub entries_step : (old : Decoding) (kt vt : Item → Bool) (entries after : List (K × V)) (now next : Listing) (x : K) (y : V) (s : EntriesRead old kt vt entries now) → MorePair old kt vt s.pairs (λ i. key i x) (λ i. value i y) next → after ≡ put entries x y → EntriesRead old kt vt after next
+  pub entries_step : (old : Decoding) (kt vt : Item → Bool) (entries after : List (K × V)) (now next : Listing) (x : K) (y : V) (s : EntriesSoFar old kt vt entries now) → MorePair old kt vt s.pairs (λ i. key i x) (λ i. value i y) next → after ≡ put entries x y → EntriesSoFar old kt vt after next
   entries_step old kt vt entries after now next x y s m e = rw e record {
     pairs = and_pair s.pairs m.key_item m.value_item;
     reads = m.more;

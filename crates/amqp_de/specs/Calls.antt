@@ -1,7 +1,9 @@
 -- What calls answer, by the meaning of the type that is read.
 use Rattle.std.specs.Prelude.{Bool, true, ◌||◌, List, Option, Result}
 use Rattle.amqp_base.specs.Item.{Item}
-use Rattle.amqp_base.specs.Refusing.{Refusing, opened_refusal, row_refusal, fields_refusal, struct_refusal}
+use Rattle.amqp_base.specs.Refusing.{Refusing, opened_refusal, row_refusal, fields_refusal, struct_refusal, map_refusal}
+use Rattle.amqp_base.specs.Maps as maps
+use Rattle.amqp_base.specs.Maps.{is_map_of}
 use Rattle.amqp_base.specs.Parse.{map_data}
 use Rattle.amqp_base.specs.declared.error.Error.{Error}
 use Rattle.amqp_base.specs.Meaning.{Meaning}
@@ -49,6 +51,16 @@ ValueAnswer m buffers old r new = NextValue m.takes m.means (m.grows || buffers)
 
 abbrev pub EntryAnswer : {K V : Type 0} → Meaning K → Meaning V → Bool → Listing → Result (Option (K × V)) Error → Listing → Type 0
 EntryAnswer k v buffers old r new = NextEntry k.takes v.takes k.means v.means (k.grows || buffers) (v.grows || buffers) buffers old r new
+
+-- the item at the front was read as a map of such keys and values, whose pairs, put one after the other, are these entries
+abbrev pub EntriesRead : {K V : Type 0} → Meaning K → Meaning V → (List (K × V) → K → V → List (K × V)) → List (K × V) → Decoding → Decoding → Type 0
+EntriesRead k v put entries old new = Found (is_map_of k.takes v.takes) (λ i. maps.means_map k.means v.means put i entries) old new
+
+abbrev pub EntriesRefused : {K V : Type 0} → Meaning K → Meaning V → Bool → Decoding → Decoding → Error → Type 0
+EntriesRefused k v buffers old new e = Missed (is_map_of k.takes v.takes) true buffers old new e
+
+abbrev pub EntriesNamed : {K V : Type 0} → Meaning K → Meaning V → Bool → Decoding → Decoding → Error → Type 0
+EntriesNamed k v buffers old new e = Named (map_refusal k.takes k.refuses v.takes v.refuses) true buffers old new e
 
 -- the item at the front was read as these fields of a struct; out of a map; out of a list
 abbrev pub FieldsRead : {V : Type 0} → Slots V → V → Decoding → Decoding → Type 0

@@ -1,28 +1,19 @@
-use Rattle.std.proofs.Common.{rules, ◌≡◌, ◌++◌, ◌∷◌, ◌||◌, Bool, List, [], true, false, Ok, refl, sym, subst, ◌∙◌, arith}
-use Rattle.std.proofs.lemmas.List.{append-nil}
+use Rattle.std.proofs.Common.{rules, ◌||◌, [], true, refl, sym, subst, ◌∙◌, arith}
 use Rattle.std.proofs.lemmas.Result.{err_from_is_err_and}
-use Rattle.amqp_base.specs.Meaning.{Meaning}
 use Rattle.amqp_de.specs.Access.{Listing}
 use Rattle.amqp_de.specs.Ahead.{Ahead}
-use Rattle.amqp_de.specs.Many.{AreRead, ReadsMany}
 use Rattle.amqp_de.specs.Decoding.{as_ended}
 use Rattle.amqp_de.specs.Seq.{listing}
 use Rattle.amqp_de.specs.ReadParts.{open_list}
 use Rattle.amqp_de.proofs.Sequence.{Sofar, sofar_start, sofar_step, part_missed, push_missed, seq_found}
-use Rattle.amqp_de.proofs.Many.{sofar_many, reach_many}
+use Rattle.amqp_de.proofs.ReadSome.{read_some}
 use Rattle.amqp_de.proofs.Naming.{named_on}
 use Rattle.amqp_de.proofs.NamedParts.{no_room_as, no_end}
 use Rattle.amqp_de.proofs.NamedElements.{seq_unopened, reach_start, reach_step, reach_named}
 use Rattle.amqp_de.proofs.ReadParts.{missed_on, missed_at, missed_dropped}
-use Rattle.amqp_de.proofs.ReceivedAhead.{ahead_start, ahead_more, ahead_part, ahead_many, ahead_refused, ahead_named, ahead_failed, ahead_failed_named, ahead_no_room, ahead_left, many_left, sofar_settled, ended_on}
+use Rattle.amqp_de.proofs.ReceivedAhead.{ahead_start, ahead_more, ahead_part, ahead_refused, ahead_named, ahead_failed, ahead_failed_named, ahead_no_room, ahead_left, sofar_settled, ended_on}
 use Rattle.amqp_de.proofs.deserialize.VecDeserialize.deserialize.Goals.{then-some, else-some+in-Ok-Some+in_ok-push-in-Ok-Some, else-some+in-Ok-None}
 use Rattle.amqp_de.proofs.deserialize.VecDeserialize.deserialize.Goals as goal
-
--- the elements that were read at once, if there were such
-some_read : {T : Type 0} (m : Meaning T) (old new : Listing) (before after : List T) (some : Bool) → ReadsMany m old before (Ok some) new after →
-    (vs : List T) × AreRead m old vs new × (after ≡ before ++ vs)
-some_read m old new before after true h = (h.0, h.1, h.2)
-some_read m old new before after false h = ([], h.0, h.1 ∙ sym (append-nil before))
 
 pub returns-in_err-access-clause-err : goal.returns-in_err-access-clause-err
 returns-in_err-access-clause-err g c =
@@ -84,33 +75,27 @@ unfolding open_list
 returns-in-Err-next_element-clause-err g c =
     let m = g.T.Typed.meaning in
     let v = c.items.invariant in
-    let a = ahead_more v.now _ _ v.ahead c.in-Ok.ensures.ahead in
-    let r = some_read m _ _ _ _ c.in-Ok-next_elements.some c.in-Ok-next_elements.ensures.read in
-    let now = listing c.next_elements.new.list in
-    let k = ahead_many m v.now _ now r.0 a r.1 in
-    let s = sofar_many m v.from v.now k.0 c.items.items.items r.0 v.sofar k.1 in
+    let k = read_some m v.from v.now _ _ (listing c.next_elements.new.list) c.items.items.items _ c.in-Ok-next_elements.some v.ahead c.in-Ok.ensures.ahead v.sofar v.reaches c.in-Ok-next_elements.ensures.read in
     let next = listing c.next_element.new.self in
-    let n = ahead_refused k.0 now next k.2 s.reads.not_ended c.in-Err-next_element.ensures.next in
-    missed_at _ _ (search rules) (missed_dropped (part_missed m.takes m.means g.R.Read.buffers c.args.de.now v.from k.0 _ v.opened.1.opens s (m.grows || g.R.Read.buffers) next _ n))
+    let n = ahead_refused k.now (listing c.next_elements.new.list) next k.ahead k.sofar.reads.not_ended c.in-Err-next_element.ensures.next in
+    missed_at _ _ (search rules) (missed_dropped (part_missed m.takes m.means g.R.Read.buffers c.args.de.now v.from k.now _ v.opened.1.opens k.sofar (m.grows || g.R.Read.buffers) next _ n))
 
 pub items-smaller : goal.items-smaller
 unfolding open_list
 items-smaller g c =
     let m = g.T.Typed.meaning in
     let v = c.items.invariant in
-    let a = ahead_more v.now _ _ v.ahead c.in-Ok.ensures.ahead in
-    let r = some_read m _ _ _ _ c.in-Ok-next_elements.some c.in-Ok-next_elements.ensures.read in
-    let now = listing c.next_elements.new.list in
-    let k = ahead_many m v.now _ now r.0 a r.1 in
-    let s = sofar_many m v.from v.now k.0 c.items.items.items r.0 v.sofar k.1 in
-    let same = ahead_left _ _ c.in-Ok.ensures.ahead in
+    let k = read_some m v.from v.now _ _ (listing c.next_elements.new.list) c.items.items.items _ c.in-Ok-next_elements.some v.ahead c.in-Ok.ensures.ahead v.sofar v.reaches c.in-Ok-next_elements.ensures.read in
     elim c.if-some.branch [
-      | then-some w ↦ let q = rw w.if-some.true at c.in-Ok-next_elements.ensures.read in rw w.access-is (omega (arith, q.3, same))
+      | then-some w ↦
+          let same = ahead_left _ _ c.in-Ok.ensures.ahead in
+          let q = rw w.if-some.true at c.in-Ok-next_elements.ensures.read in
+          rw w.access-is (omega (arith, q.3, same))
       | else-some+in-Ok-Some+in_ok-push-in-Ok-Some w ↦
           let f = rw w.in-Ok-Some.field-0-is at w.in-Ok-Some.ensures.next in
-          let fewer = many_left m _ _ _ r.1 in
+          let fewer = k.left in
           let one = f.0.left in
-          rw w.access-is (omega (arith, fewer, same, one))
+          rw w.access-is (omega (arith, fewer, one))
       | else-some+in-Ok-None w ↦ let yes = c.if-this.true in let no = w.value-is in absurd cc
     ]
 
@@ -119,26 +104,21 @@ unfolding open_list
 items-preserved g c =
     let m = g.T.Typed.meaning in
     let v = c.items.invariant in
-    let a = ahead_more v.now _ _ v.ahead c.in-Ok.ensures.ahead in
-    let r = some_read m _ _ _ _ c.in-Ok-next_elements.some c.in-Ok-next_elements.ensures.read in
-    let now = listing c.next_elements.new.list in
-    let k = ahead_many m v.now _ now r.0 a r.1 in
-    let s = sofar_many m v.from v.now k.0 c.items.items.items r.0 v.sofar k.1 in
+    let k = read_some m v.from v.now _ _ (listing c.next_elements.new.list) c.items.items.items _ c.in-Ok-next_elements.some v.ahead c.in-Ok.ensures.ahead v.sofar v.reaches c.in-Ok-next_elements.ensures.read in
     let same = c.in-Ok-next_elements.ensures.same_reference ∙ (c.in-Ok.ensures.same_reference ∙ v.same) in
-    let reaches = reach_many m v.from v.now k.0 c.items.items.items r.0 v.sofar v.reaches k.1 in
     elim c.if-some.branch [
-      | then-some w ↦ rw (w.access-is, w.items-is) (record { same = same; from = v.from; now = k.0; opened = v.opened; ahead = k.2; sofar = subst (λ (xs : List g.row.T.Denot). Sofar m.takes m.means v.from k.0 xs) (sym r.2) s; reaches = reaches })
+      | then-some w ↦ rw (w.access-is, w.items-is) (record { same = same; from = v.from; now = k.now; opened = v.opened; ahead = k.ahead; sofar = k.sofar; reaches = k.reaches })
       | else-some+in-Ok-Some+in_ok-push-in-Ok-Some w ↦
           let f = rw w.in-Ok-Some.field-0-is at w.in-Ok-Some.ensures.next in
-          let p = ahead_part k.0 now (listing w.next_element.new.self) k.2 f.0 in
+          let p = ahead_part k.now (listing c.next_elements.new.list) (listing w.next_element.new.self) k.ahead f.0 in
           rw (w.access-is, w.items-is) (record {
             same = w.in-Ok-Some.ensures.same_reference ∙ same;
             from = v.from;
             now = p.0;
             opened = v.opened;
             ahead = p.2;
-            sofar = rw w.in_ok-push-in-Ok-Some.ensures.items (subst (λ (xs : List g.row.T.Denot). Sofar m.takes m.means v.from p.0 (xs ++ w.in-Ok-Some.item ∷ [])) (sym r.2) (sofar_step m.takes m.means v.from k.0 p.0 _ w.in-Ok-Some.item s p.1));
-            reaches = reach_step m.takes m.refuses v.from k.0 p.0 s.reads reaches p.1;
+            sofar = rw w.in_ok-push-in-Ok-Some.ensures.items (sofar_step m.takes m.means v.from k.now p.0 _ w.in-Ok-Some.item k.sofar p.1);
+            reaches = reach_step m.takes m.refuses v.from k.now p.0 k.sofar.reads k.reaches p.1;
           })
       | else-some+in-Ok-None w ↦ let yes = c.if-this.true in let no = w.value-is in absurd cc
     ]
@@ -148,19 +128,14 @@ unfolding open_list
 returns-clause-ok g c =
     let m = g.T.Typed.meaning in
     let v = c.items.invariant in
-    let a = ahead_more v.now _ _ v.ahead c.in-Ok.ensures.ahead in
-    let r = some_read m _ _ _ _ c.in-Ok-next_elements.some c.in-Ok-next_elements.ensures.read in
-    let now = listing c.next_elements.new.list in
-    let k = ahead_many m v.now _ now r.0 a r.1 in
-    let s = sofar_many m v.from v.now k.0 c.items.items.items r.0 v.sofar k.1 in
+    let k = read_some m v.from v.now _ _ (listing c.next_elements.new.list) c.items.items.items _ c.in-Ok-next_elements.some v.ahead c.in-Ok.ensures.ahead v.sofar v.reaches c.in-Ok-next_elements.ensures.read in
     elim c.if-some.branch [
       | then-some w ↦ let no = c.if-this.false in let yes = w.value-is in absurd cc
       | else-some+in-Ok-Some+in_ok-push-in-Ok-Some w ↦ let no = c.if-this.false in let yes = w.value-is in absurd cc
       | else-some+in-Ok-None w ↦
           let f = rw w.in-Ok-None.field-0-is at w.in-Ok-None.ensures.next in
           let items = c.next_elements.new.items.items in
-          let there = subst (λ (xs : List g.row.T.Denot). Sofar m.takes m.means v.from k.0 xs) (sym r.2) s in
-          let here = sofar_settled m.takes m.means v.from k.0 now items there k.2 f.0 in
+          let here = sofar_settled m.takes m.means v.from k.now (listing c.next_elements.new.list) items k.sofar k.ahead f.0 in
           let end = subst (λ (l : Listing). Sofar m.takes m.means v.from l items) (sym f.1) here in
           let ends = rw w.access-is at c.in_ok-end.ensures.ends in
           rw w.items-is (seq_found m.takes m.means g.R.Read.buffers c.args.de.now v.from (listing w.next_element.new.self) items v.opened.1.opens end items _ refl ends.left (search rules))
@@ -172,15 +147,11 @@ unfolding open_list
 returns-in_err-push-in-Ok-Some-clause-err g c =
     let m = g.T.Typed.meaning in
     let v = c.items.invariant in
-    let a = ahead_more v.now _ _ v.ahead c.in-Ok.ensures.ahead in
-    let r = some_read m _ _ _ _ c.in-Ok-next_elements.some c.in-Ok-next_elements.ensures.read in
-    let now = listing c.next_elements.new.list in
-    let k = ahead_many m v.now _ now r.0 a r.1 in
-    let s = sofar_many m v.from v.now k.0 c.items.items.items r.0 v.sofar k.1 in
+    let k = read_some m v.from v.now _ _ (listing c.next_elements.new.list) c.items.items.items _ c.in-Ok-next_elements.some v.ahead c.in-Ok.ensures.ahead v.sofar v.reaches c.in-Ok-next_elements.ensures.read in
     let f = rw c.in-Ok-Some.field-0-is at c.in-Ok-Some.ensures.next in
     let next = listing c.next_element.new.self in
-    let p = ahead_part k.0 now next k.2 f.0 in
-    let last = sofar_step m.takes m.means v.from k.0 p.0 _ c.in-Ok-Some.item s p.1 in
+    let p = ahead_part k.now (listing c.next_elements.new.list) next k.ahead f.0 in
+    let last = sofar_step m.takes m.means v.from k.now p.0 _ c.in-Ok-Some.item k.sofar p.1 in
     missed_on _ _ _ c.from_residual-in_err-push-in-Ok-Some.ensures.1 (search rules) (ahead_no_room p.0 next p.2 (push_missed m.takes m.means g.R.Read.buffers c.args.de.now v.from p.0 _ v.opened.1.opens last (as_ended p.0.state) refl))
 
 -- ---- refusals by name
@@ -222,15 +193,11 @@ unfolding open_list
 returns-in-Err-next_element-clause-named g c =
     let m = g.T.Typed.meaning in
     let v = c.items.invariant in
-    let a = ahead_more v.now _ _ v.ahead c.in-Ok.ensures.ahead in
-    let r = some_read m _ _ _ _ c.in-Ok-next_elements.some c.in-Ok-next_elements.ensures.read in
-    let now = listing c.next_elements.new.list in
-    let k = ahead_many m v.now _ now r.0 a r.1 in
-    let s = sofar_many m v.from v.now k.0 c.items.items.items r.0 v.sofar k.1 in
+    let k = read_some m v.from v.now _ _ (listing c.next_elements.new.list) c.items.items.items _ c.in-Ok-next_elements.some v.ahead c.in-Ok.ensures.ahead v.sofar v.reaches c.in-Ok-next_elements.ensures.read in
     let next = listing c.next_element.new.self in
-    let n = ahead_refused k.0 now next k.2 s.reads.not_ended c.in-Err-next_element.ensures.next in
-    let reaches = reach_many m v.from v.now k.0 c.items.items.items r.0 v.sofar v.reaches k.1 in
-    reach_named m.takes m.refuses g.R.Read.buffers c.args.de.now _ _ v.from k.0 next v.opened s.reads reaches (n.some_left s.reads.not_ended) (ahead_named k.0 now next k.2 c.in-Err-next_element.ensures.named) (search rules)
+    let here = listing c.next_elements.new.list in
+    let n = ahead_refused k.now here next k.ahead k.sofar.reads.not_ended c.in-Err-next_element.ensures.next in
+    reach_named m.takes m.refuses g.R.Read.buffers c.args.de.now _ _ v.from k.now next v.opened k.sofar.reads k.reaches (n.some_left k.sofar.reads.not_ended) (ahead_named k.now here next k.ahead c.in-Err-next_element.ensures.named) (search rules)
 
 pub returns-in_err-push-in-Ok-Some-clause-named : goal.returns-in_err-push-in-Ok-Some-clause-named
 returns-in_err-push-in-Ok-Some-clause-named g c = named_on _ _ _ c.from_residual-in_err-push-in-Ok-Some.ensures.1 refl (no_room_as _ g.R.Read.buffers _ _)
@@ -240,19 +207,14 @@ unfolding open_list
 returns-in_err-end-clause-named g c =
     let m = g.T.Typed.meaning in
     let v = c.items.invariant in
-    let a = ahead_more v.now _ _ v.ahead c.in-Ok.ensures.ahead in
-    let r = some_read m _ _ _ _ c.in-Ok-next_elements.some c.in-Ok-next_elements.ensures.read in
-    let now = listing c.next_elements.new.list in
-    let k = ahead_many m v.now _ now r.0 a r.1 in
-    let s = sofar_many m v.from v.now k.0 c.items.items.items r.0 v.sofar k.1 in
+    let k = read_some m v.from v.now _ _ (listing c.next_elements.new.list) c.items.items.items _ c.in-Ok-next_elements.some v.ahead c.in-Ok.ensures.ahead v.sofar v.reaches c.in-Ok-next_elements.ensures.read in
     elim c.if-some.branch [
       | then-some w ↦ let no = c.if-this.false in let yes = w.value-is in absurd cc
       | else-some+in-Ok-Some+in_ok-push-in-Ok-Some w ↦ let no = c.if-this.false in let yes = w.value-is in absurd cc
       | else-some+in-Ok-None w ↦
           let f = rw w.in-Ok-None.field-0-is at w.in-Ok-None.ensures.next in
           let items = c.next_elements.new.items.items in
-          let there = subst (λ (xs : List g.row.T.Denot). Sofar m.takes m.means v.from k.0 xs) (sym r.2) s in
-          let here = sofar_settled m.takes m.means v.from k.0 now items there k.2 f.0 in
+          let here = sofar_settled m.takes m.means v.from k.now (listing c.next_elements.new.list) items k.sofar k.ahead f.0 in
           let end = subst (λ (l : Listing). Sofar m.takes m.means v.from l items) (sym f.1) here in
           let ends = rw w.access-is at c.in_err-end.ensures.ends in
           named_on _ _ _ c.from_residual-in_err-end.ensures.1 (search rules) (no_end _ true g.R.Read.buffers c.args.de.now _ _ _ _ v.opened.1.opens end.reads (search rules) ends)

@@ -1,15 +1,14 @@
 use Rattle.std.proofs.Common.{◌≡◌}
-use Rattle.indexmap.specs.IndexMap.{insert_entry}
 use Rattle.amqp_de.specs.ReadParts.{open_list}
 use Rattle.amqp_base.specs.Refusing.{turn_refusal}
 use Rattle.amqp_de.proofs.NamedParts.{Reaches}
-use Rattle.amqp_de.proofs.Pairs.{EntriesRead}
-use Rattle.amqp_de.proofs.maps.OrderedMapDeserialize.deserialize.Given as goal
+use Rattle.amqp_de.proofs.Pairs.{EntriesSoFar}
+use Rattle.amqp_de.proofs.deserializer.Deserializer.read_entries.Given as goal
 
 abbrev pub invariant-pairs : goal.invariant-pairs
 invariant-pairs g l = record {
   same : l.access.de.ghost_name ≡ l.initial.access.de.ghost_name;
-  sofar : EntriesRead g.K.Typed.meaning.means g.V.Typed.meaning.means (insert_entry g.K.PartialEq.eq) l.fn.de g.K.Typed.meaning.takes g.V.Typed.meaning.takes l.entries (open_list l.access);
+  sofar : EntriesSoFar g.K.Typed.meaning.means g.V.Typed.meaning.means g.M.Entries.placed l.fn.self g.K.Typed.meaning.takes g.V.Typed.meaning.takes (g.M.Entries.entries l.map) (open_list l.access);
   reaches : Reaches (turn_refusal g.K.Typed.meaning.takes g.K.Typed.meaning.refuses g.V.Typed.meaning.takes g.V.Typed.meaning.refuses) (turn_refusal g.K.Typed.meaning.takes g.K.Typed.meaning.refuses g.V.Typed.meaning.takes g.V.Typed.meaning.refuses) (open_list l.initial.access) (open_list l.access);
 }
 
