@@ -40,6 +40,16 @@ HoldsAs (Opened.Written size from) s index len xs o p f = OnItself s index len x
 abbrev pub HoldsPair : State → ℕ → ℕ → List Item → State → Paired → Type 0
 HoldsPair s index len xs o v = HoldsAs v.pair.opened s index len xs o v.pair v.fields
 
+-- one more field was written behind those of a pair p, or refused as any variant that begins with all of them
+pub record PutsField {A : Type 0} (item : Item) (o : State) (p : Paired) (r : Result A Error) (t : State) (q : Paired) : Type 0 where
+  pub ok : OnOk r ((s : State) (index len : ℕ) (xs : List Item) → HoldsPair s index len xs o p → HoldsPair s index len (xs ++ item ∷ []) t q)
+  pub err : IfErr r (λ e. (s : State) (index len : ℕ) (xs all : List Item) → HoldsPair s index len xs o p → BeginsWith all (xs ++ item ∷ []) → Refused s (fields_item index len all) e t)
+
+-- the variant whose parts stand so was written, or refused; then its serializer is in the state t
+pub record EndsAs {A : Type 0} (stands : State → ℕ → ℕ → List Item → Type 0) (r : Result A Error) (t : State) : Type 0 where
+  pub ok : OnOk r ((s : State) (index len : ℕ) (xs : List Item) → stands s index len xs → Wrote s (fields_item index len xs) t)
+  pub err : IfErr r (λ e. (s : State) (index len : ℕ) (xs : List Item) → stands s index len xs → length xs ≡ len → Refused s (fields_item index len xs) e t)
+
 -- the serializer that holds the list of its fields
 abbrev pub beneath : Opened → State → Paired → State
 beneath Opened.Buffered o v = v.pair.buffer.state

@@ -1,16 +1,16 @@
 //! The pair of a variant's index and its fields, which are written one by one.
 
-ghost use Rattle.std.specs.Prelude.{ℕ, ◌≡◌, ◌≢◌, ◌++◌, ◌∷◌, [], List};
+ghost use Rattle.std.specs.Prelude.{ℕ, ◌≡◌, ◌≢◌, [], List};
 ghost use Rattle.std.specs.Prelude.{length, true, Err, IfOk, IfErr, OnOk};
 ghost use Rattle.amqp_base.specs.Item.{Item};
 ghost use Rattle.amqp_base.specs.Shapes.{whole};
 ghost use Rattle.amqp_ser.specs.State.{State};
 ghost use Rattle.amqp_ser.specs.Law.{Wrote, Refused, Kept};
-ghost use Rattle.amqp_ser.specs.Compound.{open_parts, is_map, Holds, BeginsWith, EndsCompound};
+ghost use Rattle.amqp_ser.specs.Compound.{open_parts, is_map, Holds, EndsCompound};
 ghost use Rattle.amqp_ser.specs.Compound.{outside_in, turned, Complete};
 ghost use Rattle.amqp_ser.specs.Staged.{KeepsHeld, EndsHeld};
 ghost use Rattle.amqp_ser.specs.Variants.{HoldsPair, RefusesVariant, fields_item, open_fields};
-ghost use Rattle.amqp_ser.specs.Variants.{InBuffer, OnItself};
+ghost use Rattle.amqp_ser.specs.Variants.{InBuffer, OnItself, PutsField, EndsAs};
 ghost use Rattle.amqp_write.specs.declared.pass.Opened.TheVariants.{Buffered as IsBuffered};
 
 use crate::answer::answer;
@@ -142,14 +142,8 @@ pub(crate) fn write_paired<W: Sink, T: Serialize>(
     alloc: Global,
     value: &T,
 ) -> Result<(), Error>
-    ensures ok { OnOk result ((s : State) (index len : ℕ) (xs : List Item) →
-        HoldsPair s index len xs ser.old.state of.old →
-        HoldsPair s index len (xs ++ T.meaning.item value.now Setting.Plain ∷ [])
-        ser.new.state of.new) }
-    ensures err { IfErr result (λ e. (s : State) (index len : ℕ) (xs all : List Item) →
-        HoldsPair s index len xs ser.old.state of.old →
-        BeginsWith all (xs ++ T.meaning.item value.now Setting.Plain ∷ []) →
-        Refused s (fields_item index len all) e ser.new.state) }
+    ensures field { PutsField (T.meaning.item value.now Setting.Plain)
+        ser.old.state of.old result ser.new.state of.new }
     ensures kept { KeepsHeld ser.old.state ser.new.state }
     ensures stops { EndsCompound (open_fields ser.old.state of.old) result
         (open_fields ser.new.state of.new) }
@@ -170,12 +164,8 @@ pub(crate) fn write_paired<W: Sink, T: Serialize>(
 
 /// Ends a variant: writes the pair of its index and the list of its fields.
 pub(crate) fn end_paired<W: Sink>(ser: &mut Serializer<W>, of: Paired) -> Result<(), Error>
-    ensures ok { OnOk result ((s : State) (index len : ℕ) (xs : List Item) →
-        HoldsPair s index len xs ser.old.state of →
-        Wrote s (fields_item index len xs) ser.new.state) }
-    ensures err { IfErr result (λ e. (s : State) (index len : ℕ) (xs : List Item) →
-        HoldsPair s index len xs ser.old.state of → length xs ≡ len →
-        Refused s (fields_item index len xs) e ser.new.state) }
+    ensures whole { EndsAs (λ s index len xs. HoldsPair s index len xs ser.old.state of)
+        result ser.new.state }
     ensures lacking { (s : State) (index len : ℕ) (xs : List Item) →
         HoldsPair s index len xs ser.old.state of → length xs ≢ len →
         result ≡ Err Error.SequenceLengthMismatch }
@@ -199,12 +189,8 @@ pub(crate) fn end_paired<W: Sink>(ser: &mut Serializer<W>, of: Paired) -> Result
 /// Ends a variant whose fields went to the buffer of its pair.
 fn end_in_buffer<W: Sink>(ser: &mut Serializer<W>, pair: Parts, fields: Parts) -> Result<(), Error>
     requires buffered { pair.opened ≡ IsBuffered }
-    ensures ok { OnOk result ((s : State) (index len : ℕ) (xs : List Item) →
-        InBuffer s index len xs ser.old.state pair fields →
-        Wrote s (fields_item index len xs) ser.new.state) }
-    ensures err { IfErr result (λ e. (s : State) (index len : ℕ) (xs : List Item) →
-        InBuffer s index len xs ser.old.state pair fields →
-        Refused s (fields_item index len xs) e ser.new.state) }
+    ensures whole { EndsAs (λ s index len xs. InBuffer s index len xs ser.old.state pair fields)
+        result ser.new.state }
     ensures kept { EndsHeld ser.old.state result ser.new.state }
 {
     let mut pair = pair;
@@ -224,12 +210,8 @@ fn end_in_buffer<W: Sink>(ser: &mut Serializer<W>, pair: Parts, fields: Parts) -
 /// Ends a variant whose fields went to the serializer itself.
 fn end_on_itself<W: Sink>(ser: &mut Serializer<W>, pair: Parts, fields: Parts) -> Result<(), Error>
     requires direct { pair.opened ≢ IsBuffered }
-    ensures ok { OnOk result ((s : State) (index len : ℕ) (xs : List Item) →
-        OnItself s index len xs ser.old.state pair fields →
-        Wrote s (fields_item index len xs) ser.new.state) }
-    ensures err { IfErr result (λ e. (s : State) (index len : ℕ) (xs : List Item) →
-        OnItself s index len xs ser.old.state pair fields →
-        Refused s (fields_item index len xs) e ser.new.state) }
+    ensures whole { EndsAs (λ s index len xs. OnItself s index len xs ser.old.state pair fields)
+        result ser.new.state }
     ensures kept { EndsHeld ser.old.state result ser.new.state }
 {
     let mut pair = pair;
