@@ -38,7 +38,9 @@ where
 
 impl<R: Read, T: Deserialize<R>> Deserialize<R> for Array<T> {
     /// The elements of an array (part 1, section 1.6.24), or any other item as the only element.
-    /// The refusals are those of `Vec` where an array's code stands, else those of `T`.
+    /// The refusals are those of `Vec` where an array's code stands, else those of `T`, and
+    /// `OutOfMemory` where the only element finds no memory; then the deserializer isn't ended, and
+    /// stands behind it.
     #[inline(always)]
     fn deserialize(alloc: Global, de: &mut Deserializer<R>) -> Result<Array<T>, Error> {
         match de.deserialize_any() {

@@ -14,7 +14,8 @@ use std::marker::Model;
 ///
 /// After a refusal by one of its calls, and after an access that was dropped without its `end`, the
 /// deserializer is ended: every call is refused as `InvalidValue` and changes nothing, and
-/// `into_reader` still gives the reader.
+/// `into_reader` still gives the reader. `deserialize_chosen` alone leaves it answering where it
+/// refuses a value that was read.
 ///
 /// Bytes are looked at from left to right, and the first rule broken names the refusal. Over a
 /// reader that buffers, every call that reads may also answer `OutOfMemory`, `Io` of the source's

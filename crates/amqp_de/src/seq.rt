@@ -129,8 +129,10 @@ impl<R: Read> Deserializer<R> {
     /// In this order: `Io(UnexpectedEof)` where there is no byte, `InvalidFormatCode` where it is
     /// no list's or array's code, `Io(UnexpectedEof)` where size or count are missing,
     /// `InvalidValue` where the count is above 65,536 or above an array's size, `InvalidLength`
-    /// where the size doesn't cover the count's own bytes and, in an array with elements, a byte
-    /// more. Then the element constructor: `Io(UnexpectedEof)` where bytes are missing,
+    /// where the size of a list doesn't cover the count's own bytes, or that of an array with
+    /// elements these and a byte more. Of an array without elements `Io(UnexpectedEof)` where bytes
+    /// that its size counts are missing. Then the element constructor: `Io(UnexpectedEof)` where
+    /// bytes are missing,
     /// `InvalidFormatCode` where a byte is no code, `Message` where a descriptor is neither a
     /// symbol nor an ulong, `InvalidUtf8Encoding` where a symbol isn't UTF-8, `OutOfMemory` where
     /// it finds no memory, `InvalidLength` where the size doesn't cover the constructor. A refusal

@@ -165,7 +165,13 @@ pub struct Struct<'n, F> {
 }
 
 impl<W: Sink> Serializer<W> {
-    /// Writes a struct, all its fields at once.
+    /// Writes a struct, all its fields at once: a list of them, or under the described map setting
+    /// a map from their names.
+    ///
+    /// The refusals are those of the fields. `InvalidValue`: the struct's name is that of a
+    /// described one, a field's name is `DESCRIPTOR`, or the array that the whole is to stand in
+    /// has other elements. `Io(Other)`: the fields have more than 4,294,967,291 bytes.
+    /// `OutOfMemory`: there is no memory for a buffer.
     #[inline(always)]
     pub fn serialize_fields<F: StructFields>(
         &mut self,

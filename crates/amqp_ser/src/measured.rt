@@ -64,7 +64,8 @@ pub fn measured_size<T: Serialize>(alloc: Global, value: &T) -> Result<usize, Er
 /// measured first, so the heap is asked once for the text, and otherwise for the sizes of the
 /// lists, maps and arrays in it alone, where there are more than four.
 ///
-/// It is refused as `measured_size` is, and as `OutOfMemory` where there is no room.
+/// It is refused as `measured_size` is, and as `OutOfMemory` where there is no room, also for a
+/// text too long to be counted.
 pub fn measured_vec<T: Serialize>(alloc: Global, value: &T) -> Result<Vec<u8>, Error>
     ensures ok { IfOk result (λ v.
         canon (T.meaning.item value.now Setting.Plain) ≡ Some v.items) }

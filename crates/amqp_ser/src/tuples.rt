@@ -20,8 +20,8 @@ use amqp_write::no_memory;
 use std::alloc::Global;
 
 /// A tuple that is being written, part by part: a list of just so many elements as were announced.
-/// Nothing of it reaches the writer before `end`. Until `end` succeeded its serializer answers
-/// nothing but `InvalidValue`, also where it is dropped.
+/// Over a caller's writer nothing of it reaches that before `end`. Until `end` succeeded its
+/// serializer answers nothing but `InvalidValue`, also where it is dropped.
 pub type TupleSerializer<'a, W> = Compound<'a, W, Announced>;
 
 impl<W: Sink> Serializer<W> {
@@ -180,7 +180,9 @@ impl<T: Serialize, Rest: TupleParts> TupleParts for Part<'_, T, Rest> {
 impl<W: Sink> Serializer<W> {
     /// Writes a tuple, all its parts at once: a list of just so many as are announced.
     ///
-    /// `SequenceLengthMismatch`: they are another number.
+    /// The refusals are those of the parts. `SequenceLengthMismatch`: they are another number.
+    /// `Io(Other)`: they have more than 4,294,967,291 bytes. `InvalidValue`: the array that the
+    /// whole is to stand in has other elements. `OutOfMemory`: there is no memory for a buffer.
     #[inline(always)]
     pub fn serialize_parts<P: TupleParts>(
         &mut self,

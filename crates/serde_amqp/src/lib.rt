@@ -63,7 +63,9 @@ pub use streams::{from_reader, to_writer};
 
 /// The canonical text of a value. Where its item has none, the first part that has none is refused:
 /// as `Io(Other)`, where a payload or a body is above 4,294,967,291 bytes, else as `InvalidValue`,
-/// an element that can't stand in its array. `OutOfMemory`: there is no room for the text.
+/// an element that can't stand in its array. `OutOfMemory`: there is no room for the text, for the
+/// sizes of the lists, maps and arrays in it where there are more than four, or for the symbolic
+/// descriptor that the elements of an array share.
 pub fn to_vec<T: Serialize>(alloc: Global, value: &T) -> Result<Vec<u8>, Error>
     ensures ok { IfOk result (λ v.
         canon (T.meaning.item value.now Setting.Plain) ≡ Some v.items) }
@@ -73,8 +75,9 @@ pub fn to_vec<T: Serialize>(alloc: Global, value: &T) -> Result<Vec<u8>, Error>
     measured_vec(alloc, value)
 }
 
-/// The number of bytes that `to_vec` writes of a value. Refused as `to_vec` is, and as `Io(Other)`
-/// where the text has 18,446,744,073,709,551,615 bytes or more.
+/// The number of bytes that `to_vec` writes of a value. No text is made. Refused as `to_vec` is but
+/// for want of room for the text, and as `Io(Other)` where the text has 18,446,744,073,709,551,615
+/// bytes or more.
 pub fn serialized_size<T: Serialize>(alloc: Global, value: &T) -> Result<usize, Error>
     ensures ok { IfOk result (λ n. HasLength (canon (T.meaning.item value.now Setting.Plain)) n) }
     ensures err { IfErr result (λ e.
