@@ -15,7 +15,10 @@ use std::string::FromUtf8Error;
 /// Why a call was refused.
 #[derive(Debug, Drop, thiserror::Error)]
 pub enum Error {
-    /// A descriptor, a header behind one, or a decimal of another kind; or what `custom` was given.
+    /// A descriptor that is neither a symbol nor an ulong, or another one than the type's; another
+    /// item behind it than a struct's or an enum's; a decimal of another width; a name that is no
+    /// field's or that came before, or a field that is missing; a variant that there isn't; or what
+    /// `custom` was given.
     #[error("Message {0}")]
     Message(String),
     /// `UnexpectedEof`: bytes are missing. `Other`: too long to write, or too many bytes read to be
@@ -26,8 +29,9 @@ pub enum Error {
     #[error("Invalid format code")]
     InvalidFormatCode,
     /// A count above the cap, an array whose count or elements are above its size, a boolean or a
-    /// character that is none, an array element that can't be written, a call out of order, or a
-    /// call after a refusal.
+    /// character that is none, a value that is none of its type's, an item that is nested too deep
+    /// to be passed over, an array element that can't be written, a name that a struct or field
+    /// can't have, a call out of order, or a call after a refusal.
     #[error("Invalid value")]
     InvalidValue,
     /// A text that isn't UTF-8.
@@ -36,7 +40,8 @@ pub enum Error {
     /// Another number of elements than asked for or announced, or elements that were left unread.
     #[error("Sequence length mismatch")]
     SequenceLengthMismatch,
-    /// A size below its header, an odd count of a map, or a length that doesn't fit.
+    /// A size below its header, an odd count of a map, a pair of another number of items, a key
+    /// without its value, or a length that doesn't fit.
     #[error("Invalid length")]
     InvalidLength,
     /// A growth was refused, or a source or writer answered a fault of that kind.

@@ -211,7 +211,7 @@ impl<R: Read> Deserializer<R> {
 /// its descriptor and the type that it holds, which is read behind this descriptor.
 #[macro_export]
 macro_rules! read_described_enum {
-    ($de:expr, $alloc:expr, { $($descriptor:expr => $held:ty),+ $(,)? }) => {
+    ($de:expr, $alloc:expr, { $($descriptor:expr => $held:ty),+ $(,)? } $(,)?) => {
         $de.deserialize_described_enum_as(
             $alloc,
             $crate::read_described_enum!(@row $($descriptor => $held,)+),

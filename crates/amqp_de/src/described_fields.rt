@@ -217,7 +217,7 @@ impl<R: Read> Deserializer<R> {
 macro_rules! read_described {
     ($de:expr, $alloc:expr, $descriptor:expr, $name:ident {
         $($field:ident $(: $key:literal)?),* $(,)?
-    }) => {
+    } $(,)?) => {
         match $de.deserialize_described_fields(
             $alloc,
             $descriptor,
@@ -237,7 +237,7 @@ macro_rules! read_described {
 macro_rules! read_described_map {
     ($de:expr, $alloc:expr, $descriptor:expr, $name:ident {
         $($field:ident $(: $key:literal)?),* $(,)?
-    }) => {
+    } $(,)?) => {
         match $de.deserialize_described_map(
             $alloc,
             $descriptor,

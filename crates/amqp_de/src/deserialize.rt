@@ -219,6 +219,8 @@ impl<R: Read> Deserializer<R> {
 }
 
 impl<R: Read, T: Deserialize<R>> Deserialize<R> for Vec<T> {
+    /// The elements of a list or an array. The refusals are those of `deserialize_seq` and of the
+    /// elements, and `OutOfMemory` where there is no memory for these.
     #[inline(always)]
     fn deserialize(alloc: Global, de: &mut Deserializer<R>) -> Result<Vec<T>, Error> {
         let mut access = de.deserialize_elements(alloc)?;

@@ -197,6 +197,7 @@ impl<'n, T: Drop, Rest> Field<'n, T, Rest> {
         }
     }
 
+    /// Gives it its value.
     #[inline(always)]
     fn put(&mut self, value: T)
         ensures named { self.new.name ≡ self.old.name }

@@ -70,6 +70,7 @@ pub struct Open {
     pub(crate) limit: Option<Limit>,
 }
 
+/// Whether elements that end there have kept to the size of their array.
 #[inline(always)]
 pub(crate) fn is_within(consumed: usize, limit: &Option<Limit>) -> bool
     ensures yes { IsTrue result → Within (limit_of limit.now) consumed }
@@ -125,6 +126,7 @@ impl<R: Read> Deserializer<R> {
         }
     }
 
+    /// Opens a list.
     #[inline(always)]
     #[tactic(auto, unfolding(crate::specs::ReadParts::open_list))]
     pub(crate) fn deserialize_list(&mut self) -> Result<ListAccess<'_, R>, Error>
@@ -237,8 +239,8 @@ impl<'a, R: Read> Access<'a, R, Choice> {
     }
 }
 
-/// What `SeqAccess::end` answers: the deserializer behind an access, which reads on once this is
-/// dropped.
+/// What `end` of a `SeqAccess` and of a `StructAccess` answers: the deserializer behind an access,
+/// which reads on once this is dropped.
 #[derive(Drop)]
 pub struct Ended<'a, R: Read> {
     de: &'a mut Deserializer<R>,
@@ -257,6 +259,7 @@ impl<'a, R: Read, F: Copy> Access<'a, R, F> {
         Error::InvalidValue
     }
 
+    /// The access's end, as a `SeqAccess` and a `StructAccess` answer it.
     #[inline(always)]
     pub(crate) fn closed(self) -> Result<Ended<'a, R>, Error>
         ensures* refused { sem 𝓛 (RestsIfErr (the_row R.row R.Read) self.entry.de (λ d.
@@ -272,6 +275,7 @@ impl<'a, R: Read, F: Copy> Access<'a, R, F> {
 }
 
 impl<R: Read> Deserializer<R> {
+    /// Ends the access that has these parts.
     fn end_access(&mut self, inner: Open) -> Result<Ended<'_, R>, Error>
         ensures* refused { sem 𝓛 (RestsIfErr (the_row R.row R.Read) self.entry (λ d.
             d.de.ghost_name) result (λ last. last ≡ as_ended self.old)) }

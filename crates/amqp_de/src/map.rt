@@ -23,6 +23,7 @@ use std::alloc::Global;
 use std::mem;
 
 impl<R: Read> Deserializer<R> {
+    /// Begins a map: its header is consumed.
     #[inline(always)]
     fn begin_map(&mut self) -> Result<Open, Error>
         ensures ok { IfOk result (λ o. Opens HasPairs self.old (at_open self.new o)) }
@@ -107,8 +108,7 @@ impl<'a, R: Read> Access<'a, R, Entries> {
             (open_list self.new) e) }
     {
         if self.inner.left % 2 == 1 {
-            self.de.stop();
-            return Err(Error::InvalidValue);
+            return Err(self.refuse());
         }
         match self.de.next_part(alloc, &mut self.inner) {
             Ok(key) => Ok(key),
@@ -130,8 +130,7 @@ impl<'a, R: Read> Access<'a, R, Entries> {
             (open_list self.new) e) }
     {
         if self.inner.left % 2 == 0 {
-            self.de.stop();
-            return Err(Error::InvalidValue);
+            return Err(self.refuse());
         }
         match self.de.next_part(alloc, &mut self.inner) {
             Ok(Some(value)) => Ok(value),

@@ -91,12 +91,16 @@ impl<R: Read> Deserializer<R> {
 
 impl<R: Read, K: Deserialize<R> + Eq + Hash, V: Deserialize<R>> Deserialize<R>
     for OrderedMap<K, V> {
+    /// The refusals are those of `deserialize_map`, of the keys and of the values, and
+    /// `OutOfMemory` where there is no memory for a pair.
     fn deserialize(alloc: Global, de: &mut Deserializer<R>) -> Result<OrderedMap<K, V>, Error> {
         de.read_entries::<K, V, OrderedMap<K, V>>(alloc, OrderedMap::new(alloc))
     }
 }
 
 impl<R: Read, K: Deserialize<R> + Ord, V: Deserialize<R>> Deserialize<R> for BTreeMap<K, V> {
+    /// The refusals are those of `deserialize_map`, of the keys and of the values, and
+    /// `OutOfMemory` where there is no memory for a pair.
     fn deserialize(alloc: Global, de: &mut Deserializer<R>) -> Result<BTreeMap<K, V>, Error> {
         de.read_entries::<K, V, BTreeMap<K, V>>(alloc, BTreeMap::new(alloc))
     }

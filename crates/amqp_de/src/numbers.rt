@@ -10,11 +10,10 @@ ghost use Rattle.amqp_base.specs.Wire.{bare, under};
 ghost use Rattle.amqp_data.specs.Parts.{Within};
 ghost use Rattle.amqp_de.specs.Many.{ReadsMany, IsElement, PutBehind};
 ghost use Rattle.amqp_data.specs.Places.{limit_of};
-ghost use Rattle.amqp_de.specs.ReadParts.{open_list};
 ghost use Rattle.amqp_de.specs.Seq.{at_open};
 
-use crate::list::{Access, Elements, Open};
-use crate::{Deserialize, Deserializer};
+use crate::Deserializer;
+use crate::list::Open;
 use amqp_base::{EncodingCodes, Error, Typed, codes};
 use amqp_data::{Constructor, Limit};
 use amqp_read::Read;

@@ -132,7 +132,7 @@ impl<R: Read> Deserializer<R> {
 /// `Sensor { id: "sensor-id", unit }`, and answers the struct of what was read.
 #[macro_export]
 macro_rules! read_fields {
-    ($de:expr, $alloc:expr, $name:ident { $($field:ident $(: $key:literal)?),* $(,)? }) => {
+    ($de:expr, $alloc:expr, $name:ident { $($field:ident $(: $key:literal)?),* $(,)? } $(,)?) => {
         match $de.deserialize_fields($alloc, $crate::read_fields!(@row $($field $(: $key)?),*)) {
             Ok(values) => $crate::read_fields!(@take values; $name; []; $($field),*),
             Err(e) => Err(e),
@@ -163,10 +163,11 @@ macro_rules! read_fields {
 }
 
 /// Reads a struct that is a list alone: `read_parts!(de, alloc, Pair { first, second })` calls
-/// `Deserializer::deserialize_row`, and answers the struct of what was read.
+/// `Deserializer::deserialize_row`, and answers the struct of what was read. A tuple struct is read
+/// as a tuple.
 #[macro_export]
 macro_rules! read_parts {
-    ($de:expr, $alloc:expr, $name:ident { $($field:ident),* $(,)? }) => {
+    ($de:expr, $alloc:expr, $name:ident { $($field:ident),* $(,)? } $(,)?) => {
         match $de.deserialize_row($alloc, $crate::read_fields!(@row $($field),*)) {
             Ok(values) => $crate::read_fields!(@take values; $name; []; $($field),*),
             Err(e) => Err(e),

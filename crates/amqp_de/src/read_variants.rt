@@ -242,10 +242,10 @@ impl<R: Read> Deserializer<R> {
 /// calls `Deserializer::deserialize_variants_as` with all its variants in their order, which gives
 /// their indexes, each with the types of its fields. A variant without fields is its key alone; a
 /// single field in parentheses stands behind the key; any others, of which there are four at most,
-/// stand there as a list.
+/// stand there as a list. The enum's name may stand before them.
 #[macro_export]
 macro_rules! read_variants {
-    ($de:expr, $alloc:expr, { $($variants:tt)+ }) => {
+    ($de:expr, $alloc:expr, $($name:ident)? { $($variants:tt)+ } $(,)?) => {
         $de.deserialize_variants_as($alloc, $crate::read_variants!(@row $($variants)+,))
     };
     (@row $(,)?) => { () };
@@ -256,7 +256,7 @@ macro_rules! read_variants {
             rest: $crate::read_variants!(@row $($rest)*),
         }
     };
-    (@row $variant:ident($held:ty), $($rest:tt)*) => {
+    (@row $variant:ident($held:ty $(,)?), $($rest:tt)*) => {
         $crate::EnumVariant {
             name: stringify!($variant),
             payload: $crate::Newtype(std::marker::PhantomData::<$held>),

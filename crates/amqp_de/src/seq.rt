@@ -132,11 +132,10 @@ impl<R: Read> Deserializer<R> {
     /// where the size of a list doesn't cover the count's own bytes, or that of an array with
     /// elements these and a byte more. Of an array without elements `Io(UnexpectedEof)` where bytes
     /// that its size counts are missing. Then the element constructor: `Io(UnexpectedEof)` where
-    /// bytes are missing,
-    /// `InvalidFormatCode` where a byte is no code, `Message` where a descriptor is neither a
-    /// symbol nor an ulong, `InvalidUtf8Encoding` where a symbol isn't UTF-8, `OutOfMemory` where
-    /// it finds no memory, `InvalidLength` where the size doesn't cover the constructor. A refusal
-    /// ends the deserializer.
+    /// bytes are missing, `InvalidFormatCode` where a byte is no code, `Message` where a descriptor
+    /// is neither a symbol nor an ulong, `InvalidUtf8Encoding` where a symbol isn't UTF-8,
+    /// `OutOfMemory` where it finds no memory, `InvalidLength` where the size doesn't cover the
+    /// constructor. A refusal ends the deserializer.
     #[inline(always)]
     pub fn deserialize_seq(&mut self, alloc: Global) -> Result<SeqAccess<'_, R>, Error>
         ensures* refused { sem 𝓛 (RestsIfErr (the_row R.row R.Read) self.entry (λ a.

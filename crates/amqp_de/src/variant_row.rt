@@ -222,7 +222,7 @@ pub trait FromVariant: Drop + Sized {
 /// order, with the values that they hold.
 #[macro_export]
 macro_rules! variant_of {
-    ($found:expr, $name:ident { $($variants:tt)+ }) => {
+    ($found:expr, $name:ident { $($variants:tt)+ } $(,)?) => {
         $crate::variant_of!(@of $found; $name; $($variants)+,)
     };
     (@of $found:expr; $name:ident; $(,)?) => { match $found {} };
@@ -232,7 +232,7 @@ macro_rules! variant_of {
             $crate::OneOf::Other(other) => $crate::variant_of!(@of other; $name; $($rest)*),
         }
     };
-    (@of $found:expr; $name:ident; $variant:ident($value:ident), $($rest:tt)*) => {
+    (@of $found:expr; $name:ident; $variant:ident($value:ident $(,)?), $($rest:tt)*) => {
         match $found {
             $crate::OneOf::This($value) => $name::$variant($value),
             $crate::OneOf::Other(other) => $crate::variant_of!(@of other; $name; $($rest)*),

@@ -14,7 +14,7 @@ use std::marker::Model;
 /// So many bytes are kept in place.
 pub(crate) const FEW: usize = 64;
 
-/// At most 64 bytes, in place. None of them is ever moved.
+/// At most 64 bytes, in place. None of them is moved here; into the buffer's vector they go once.
 #[derive(Drop)]
 pub(crate) struct Few {
     bytes: [u8; FEW],

@@ -109,7 +109,7 @@ impl<W: Sink> Serializer<W> {
 macro_rules! write_described {
     ($ser:expr, $alloc:expr, $of:expr, $descriptor:expr, $name:ident {
         $($field:ident $(: $key:literal)?),* $(,)?
-    }) => {
+    } $(,)?) => {
         $ser.serialize_described_fields($alloc, $descriptor, &$crate::Struct {
             name: $crate::DESCRIBED_LIST,
             fields: $crate::write_fields!(@fields $of; $($field $(: $key)?),*),

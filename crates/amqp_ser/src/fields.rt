@@ -52,6 +52,7 @@ pub trait StructFields: Copy {
             out.new.ser.now.state) };
 
     /// Writes them, in order.
+    #[doc(hidden)]
     fn write<W: Sink>(&self, alloc: Global, out: &mut WholeStruct<'_, W>) -> Result<(), Error>
         ensures same_reference { out.new.ser.ghost_name ≡ out.old.ser.ghost_name }
         ensures ok { OnOk result ((s : State) (fs : List FieldItem) →
@@ -251,12 +252,13 @@ impl<W: Sink> Serializer<W> {
 
 /// Writes a struct by its fields: `write_fields!(ser, alloc, self, Sensor { id, unit })` calls
 /// `Serializer::serialize_fields` with the fields of `self` under their own names, or under the
-/// name that follows a field: `Sensor { id: "sensor-id", unit }`.
+/// name that follows a field: `Sensor { id: "sensor-id", unit }`. What stands for `self` is
+/// written out once a field.
 #[macro_export]
 macro_rules! write_fields {
     ($ser:expr, $alloc:expr, $of:expr, $name:ident {
         $($field:ident $(: $key:literal)?),* $(,)?
-    }) => {
+    } $(,)?) => {
         $ser.serialize_fields($alloc, &$crate::Struct {
             name: stringify!($name),
             fields: $crate::write_fields!(@fields $of; $($field $(: $key)?),*),

@@ -2,7 +2,7 @@
 
 ghost use Rattle.std.specs.Prelude.{IfErr, OnOk};
 ghost use Rattle.amqp_base.specs.Item.{scalar, null};
-ghost use Rattle.amqp_ser.specs.Law.{Wrote, Refused, Stops, Spares};
+ghost use Rattle.amqp_ser.specs.Law.{Writes, Wrote, Refused, Stops};
 
 use crate::answer::answer;
 use crate::{Serialize, Serializer};
@@ -16,10 +16,7 @@ impl<W: Sink> Serializer<W> {
     /// `InvalidValue`: it is to stand in an array, whose elements can't be null.
     #[inline(always)]
     pub fn serialize_none(&mut self, alloc: Global) -> Result<(), Error>
-        ensures ok { OnOk result (Wrote self.old.state (scalar null) self.new.state) }
-        ensures err { IfErr result (λ e. Refused self.old.state (scalar null) e self.new.state) }
-        ensures stops { Stops self.old.state result self.new.state }
-        ensures spares { Spares self.old.state result self.new.state }
+        ensures { Writes self.old.state (scalar null) result self.new.state }
     {
         answer!(self.serialize_unit(alloc))
     }

@@ -17,7 +17,7 @@ use crate::answer::answer;
 use crate::compound::{Parts, write_part};
 use crate::{Serialize, Serializer};
 use amqp_base::{Error, Setting, Shape, Sink};
-use amqp_write::{Mark, Opened, Refusal, refused};
+use amqp_write::{Opened, Refusal, refused};
 use std::alloc::Global;
 
 /// The parts so far of a variant with fields: of its pair, and of the list of fields in it.

@@ -229,7 +229,7 @@ fn out_of_order() -> Error
 }
 
 /// Writes the descriptor of a struct that awaits it.
-pub(crate) fn write_descriptor<W: Sink>(
+fn write_descriptor<W: Sink>(
     ser: &mut Serializer<W>,
     of: &mut Staged,
     alloc: Global,

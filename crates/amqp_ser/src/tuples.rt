@@ -216,7 +216,7 @@ impl<W: Sink> Serializer<W> {
 /// })` calls `Serializer::serialize_parts` with these parts of `self`, in this order.
 #[macro_export]
 macro_rules! write_parts {
-    ($ser:expr, $alloc:expr, $of:expr, $name:ident { $($part:tt),* $(,)? }) => {
+    ($ser:expr, $alloc:expr, $of:expr, $name:ident { $($part:tt),* $(,)? } $(,)?) => {
         $ser.serialize_parts(
             $alloc,
             $crate::write_parts!(@count $($part),*),

@@ -185,7 +185,7 @@ impl<W: Sink> Serializer<W> {
 /// `serialize_newtype_variant`, any other by `serialize_variant_parts`.
 #[macro_export]
 macro_rules! write_variants {
-    ($ser:expr, $alloc:expr, $of:expr, $name:ident { $($variants:tt)+ }) => {
+    ($ser:expr, $alloc:expr, $of:expr, $name:ident { $($variants:tt)+ } $(,)?) => {
         $crate::write_variants!(@arms $ser; $alloc; $of; $name; 0; []; $($variants)+,)
     };
     (@arms $ser:expr; $alloc:expr; $of:expr; $name:ident; $index:expr; [$($arms:tt)*]; $(,)?) => {
@@ -203,7 +203,7 @@ macro_rules! write_variants {
         ]; $($rest)*)
     };
     (@arms $ser:expr; $alloc:expr; $of:expr; $name:ident; $index:expr; [$($arms:tt)*];
-        $variant:ident($value:ident), $($rest:tt)*) => {
+        $variant:ident($value:ident $(,)?), $($rest:tt)*) => {
         $crate::write_variants!(@arms $ser; $alloc; $of; $name; $index + 1; [$($arms)*
             $name::$variant($value) => $ser.serialize_newtype_variant(
                 $alloc,

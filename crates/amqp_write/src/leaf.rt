@@ -11,7 +11,7 @@ ghost use Rattle.amqp_write.specs.Appending.{PaysWhole, as_error};
 
 use crate::place::Place;
 use crate::refusal::Refusal;
-use amqp_base::{Error, Sink};
+use amqp_base::Sink;
 use amqp_types::{Dec32, Dec64, Dec128, Double, Float, SymbolRef, Timestamp, Uuid};
 
 /// A value without parts, and how its text is written where it stands.

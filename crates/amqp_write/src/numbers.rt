@@ -1,6 +1,6 @@
 //! The texts of single numbers, outside arrays and as elements.
 
-ghost use Rattle.std.specs.Prelude.{◌≡◌, ◌≢◌, ◌+◌, ◌≤◌, ◌∷◌, length};
+ghost use Rattle.std.specs.Prelude.{◌≢◌, ◌+◌, ◌≤◌, ◌∷◌, length};
 ghost use Rattle.std.specs.Int.{bytes_high_first};
 ghost use Rattle.amqp_base.specs.Item.{scalar, uint, ulong, int};
 ghost use Rattle.amqp_base.specs.Wire.{under};

@@ -317,7 +317,7 @@ pub(crate) enum Kind {
     Whole(Whole),
 }
 
-/// The type of this name, where its values are not owned.
+/// The type of this name, where it is lent or read by the whole calls.
 fn other_named(name: &[u8]) -> Option<Kind> {
     match named(LENT, name) {
         Some(lent) => Some(Kind::Lent(lent)),

@@ -20,7 +20,7 @@ pub enum Section {
     /// How the message is to be delivered, behind 0x70.
     Header(Header),
     /// What it says of a shipment, behind 0x74.
-    Properties(Shipment),
+    ApplicationProperties(Shipment),
     /// The bytes that it carries, behind 0x75.
     Data(Data),
 }
@@ -45,7 +45,7 @@ impl FromVariant for Section {
     ] };
 
     fn from_variant(found: Self::Found) -> Section {
-        variant_of!(found, Section { Header(value), Properties(value), Data(value) })
+        variant_of!(found, Section { Header(value), ApplicationProperties(value), Data(value) })
     }
 }
 
@@ -61,7 +61,7 @@ impl Serialize for Section {
     fn serialize<W: Sink>(&self, alloc: Global, ser: &mut Serializer<W>) -> Result<(), Error> {
         match self {
             Section::Header(header) => header.serialize(alloc, ser),
-            Section::Properties(properties) => properties.serialize(alloc, ser),
+            Section::ApplicationProperties(shipment) => shipment.serialize(alloc, ser),
             Section::Data(data) => data.serialize(alloc, ser),
         }
     }

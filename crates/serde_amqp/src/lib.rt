@@ -40,15 +40,15 @@ mod streams;
 pub use amqp_base::{
     Category, Counted, DECIMAL32_WIDTH, DECIMAL64_WIDTH, DECIMAL128_WIDTH, DESCRIBED_BASIC,
     DESCRIBED_LIST, DESCRIBED_MAP, DESCRIPTOR, EncodingCodes, EnumType, Error, FaultCount,
-    IsArrayElement, IsDescribed, MAX_ARRAY_COUNT, NeverNull, OFFSET_ARRAY8, OFFSET_ARRAY32,
-    OFFSET_LIST8, OFFSET_LIST32, OFFSET_MAP8, OFFSET_MAP32, RoundTrip, Sink, Source,
-    StructEncoding, Typed, UNTAGGED_ENUM, UUID_WIDTH, VALUE,
+    IsArrayElement, IsDescribed, MAX_ARRAY_COUNT, NeverNull, NoVariant, OFFSET_ARRAY8,
+    OFFSET_ARRAY32, OFFSET_LIST8, OFFSET_LIST32, OFFSET_MAP8, OFFSET_MAP32, OneOf, RoundTrip, Sink,
+    Source, StructEncoding, Typed, UNTAGGED_ENUM, UUID_WIDTH, VALUE,
 };
 pub use amqp_de::{
     ArrayAccess, Chosen, DescribedAccess, Deserialize, Deserializer, Ended, Field, Fields,
-    Identifier, Ignored, ListAccess, MAX_NESTED, MapAccess, SeqAccess, StructAccess, VariantAccess,
-    read_described, read_described_enum, read_described_map, read_fields, read_parts,
-    read_variants, variant_of,
+    FromVariant, Identifier, Ignored, ListAccess, MAX_NESTED, MapAccess, SeqAccess, StructAccess,
+    VariantAccess, read_described, read_described_enum, read_described_map, read_fields,
+    read_parts, read_variants, variant_of,
 };
 pub use amqp_read::{IoReader, Read, SliceReader, read_const_bytes};
 use amqp_ser::{measured_size, measured_vec};

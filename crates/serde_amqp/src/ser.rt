@@ -14,7 +14,7 @@ pub use amqp_ser::{
 macro_rules! write_described_map {
     ($ser:expr, $alloc:expr, $of:expr, $descriptor:expr, $name:ident {
         $($field:ident $(: $key:literal)?),* $(,)?
-    }) => {
+    } $(,)?) => {
         $ser.serialize_described_fields($alloc, $descriptor, &$crate::Struct {
             name: $crate::DESCRIBED_MAP,
             fields: $crate::write_fields!(@fields $of; $($field $(: $key)?),*),

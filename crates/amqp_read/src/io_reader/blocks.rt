@@ -4,7 +4,6 @@ ghost use Rattle.std.specs.Prelude.{◌≡◌, ◌⊎◌, ◌<◌, ◌≤◌, �
 ghost use Rattle.std.specs.Prelude.{true, false, [], ◌∷◌, length};
 ghost use Rattle.std.specs.Prelude.{IfOk, IfErr, IfSome, OnOk, OnErr, IsTrue, MatchOption};
 ghost use Rattle.std.specs.Prelude.{Some, None};
-ghost use Rattle.amqp_base.specs.declared.error.Error.TheVariants.{Io};
 ghost use Rattle.amqp_read.specs.Reading.{Stays, Takes};
 ghost use Rattle.amqp_base.specs.Faults.{refusal_of};
 ghost use Rattle.amqp_read.specs.Steps.{Ended, Looked, Fails, NotTaken};

@@ -7,7 +7,7 @@ ghost use Rattle.std.specs.declared.io.ErrorKind.TheVariants.{UnexpectedEof};
 ghost use Rattle.amqp_base.specs.declared.error.Error.TheVariants.{Io};
 ghost use Rattle.amqp_base.specs.Faults.{refusal_of};
 ghost use Rattle.amqp_read.specs.Steps.{Ended, IsShort, Looked, Fails, NotTaken, Shows};
-ghost use Rattle.amqp_read.specs.Streaming.{InVector, NoneInVector, SawMore};
+ghost use Rattle.amqp_read.specs.Streaming.{InVector, SawMore};
 
 use super::IoReader;
 use amqp_base::{Error, Source};

@@ -35,7 +35,7 @@ fn header() -> Option<Section> {
 /// The seventh order, which can break.
 fn properties(carrier: Option<String>) -> Option<Section> {
     match carrier {
-        Some(carrier) => Some(Section::Properties(Shipment {
+        Some(carrier) => Some(Section::ApplicationProperties(Shipment {
             order: 7,
             carrier,
             fragile: true,
@@ -74,7 +74,7 @@ enum Found {
 fn section_of(section: Section) -> Found {
     match section {
         Section::Header(header) => Found::Header(header.priority),
-        Section::Properties(shipment) => Found::Properties(shipment.order),
+        Section::ApplicationProperties(shipment) => Found::Properties(shipment.order),
         Section::Data(data) => Found::Data(data.0.as_slice().len()),
     }
 }
@@ -245,16 +245,37 @@ impl Asked for Seen {
     }
 }
 
+/// Behind a descriptor of no variant the answer is a `Message`.
+struct Unknown(u64);
+
+impl Asked for Unknown {
+    fn is_answered<R: Read>(&self, alloc: Global, de: &mut Deserializer<R>) -> bool {
+        let wanted = Descriptor::Code(0x75);
+        let seen = Descriptor::Code(self.0);
+        told(only_data(&wanted).behind(alloc, &seen, de)) == Answer::Message
+    }
+}
+
 #[test]
 fn a_variant_is_read_behind_the_descriptor_that_was_seen(rt: HostRuntime) {
     let alloc = rt.alloc();
     assert!(rt; taken(alloc, DATA, &Seen(0x75)) == Some(7));
-    assert!(rt; taken(alloc, DATA, &Seen(0x70)).is_none());
+    assert!(rt; taken(alloc, DATA, &Unknown(0x70)) == Some(0));
+}
+
+/// Another section is a `Message`.
+struct NoData;
+
+impl Asked for NoData {
+    fn is_answered<R: Read>(&self, alloc: Global, de: &mut Deserializer<R>) -> bool {
+        let wanted = Descriptor::Code(0x75);
+        told(de.deserialize_described_enum(alloc, only_data(&wanted))) == Answer::Message
+    }
 }
 
 #[test]
 fn one_section_alone_is_told_by_its_descriptor(rt: HostRuntime) {
     let alloc = rt.alloc();
     assert!(rt; taken(alloc, DATA, &OnlyData) == Some(7));
-    assert!(rt; taken(alloc, HEADER, &OnlyData).is_none());
+    assert!(rt; taken(alloc, HEADER, &NoData) == Some(0));
 }

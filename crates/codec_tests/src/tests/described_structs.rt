@@ -307,7 +307,7 @@ fn open(id: Option<String>, channel_max: Option<u16>) -> Option<Open> {
 const OPEN: &[u8] = b"\x00\x53\x10\xc0\x07\x04\xa1\x01\x61\x40\x40\x40";
 
 #[test]
-fn a_performative_is_a_list_whose_last_fields_may_be_left_out(rt: HostRuntime) {
+fn a_performative_is_written_with_all_its_fields(rt: HostRuntime) {
     let alloc = rt.alloc();
     assert!(rt; is_made_as(alloc, open(string(alloc, "a"), None), OPEN));
     let channels = b"\x00\x53\x10\xc0\x09\x04\xa1\x01\x61\x40\x40\x60\x00\xff";

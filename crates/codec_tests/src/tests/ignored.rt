@@ -179,7 +179,7 @@ fn what_is_inside_is_refused_by_its_name(rt: HostRuntime) {
     assert!(rt; are_passed(rt.alloc(), &REFUSED));
 }
 
-/// So many layers, one inside the other, and null in the last of them.
+/// So many layers, one inside the other, and these bytes in the last of them.
 fn nest(alloc: Global, layer: &[u8], count: u32, last: &[u8]) -> Option<Vec<u8>> {
     let mut bytes = Vec::new(alloc);
     let mut are_in = true;
@@ -197,7 +197,7 @@ fn is_answered(alloc: Global, bytes: &[u8], want: Answer) -> bool {
         && told(from_reader::<_, Ignored>(alloc, &mut source)) == want
 }
 
-/// So many layers are passed over, and one more is refused.
+/// So many layers are passed over.
 fn is_the_limit(alloc: Global, layer: &[u8], count: u32, last: &[u8]) -> bool {
     match nest(alloc, layer, count, last) {
         Some(bytes) => is_answered(alloc, bytes.as_slice(), Answer::Taken),
@@ -205,6 +205,7 @@ fn is_the_limit(alloc: Global, layer: &[u8], count: u32, last: &[u8]) -> bool {
     }
 }
 
+/// So many layers are refused.
 fn is_past_the_limit(alloc: Global, layer: &[u8], count: u32, last: &[u8]) -> bool {
     match nest(alloc, layer, count, last) {
         Some(bytes) => is_answered(alloc, bytes.as_slice(), Answer::InvalidValue),

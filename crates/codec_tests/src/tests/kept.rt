@@ -2,6 +2,7 @@
 
 use super::answer::{Answer, told};
 use Answer::Taken;
+use own_types::alike::foo_is_read_alike;
 use own_types::kept;
 use std::alloc::Global;
 
@@ -38,13 +39,22 @@ fn are_enums_kept(alloc: Global) -> bool {
     [priority, switch, enumeration] == [Taken; 3]
 }
 
+/// From a slice and from a source.
+fn is_read_alike(alloc: Global) -> bool {
+    let (of_slice, of_source) = foo_is_read_alike(alloc, b"\xc0\x04\x02\x52\x0d\x41");
+    let of_slice = told(of_slice);
+    let of_source = told(of_source);
+    [of_slice, of_source] == [Taken; 2]
+}
+
 #[test]
-fn what_was_written_is_read_again(rt: HostRuntime) {
+fn each_text_is_taken_by_the_call_that_keeps_its_value(rt: HostRuntime) {
     let alloc = rt.alloc();
     assert!(rt; are_records_kept(alloc));
     assert!(rt; are_newtypes_kept(alloc));
     assert!(rt; are_described_kept(alloc));
     assert!(rt; are_enums_kept(alloc));
+    assert!(rt; is_read_alike(alloc));
     let shipment = b"\x00\x53\x74\xc1\x2e\x08\
         \xa1\x0corder-number\x53\x07\xa1\x07carrier\xa1\x01a\
         \xa1\x07fragile\x41\xa1\x04note\x40";

@@ -2,7 +2,7 @@
 
 use super::answer::{Answer, name_of};
 use super::pieces::cut;
-use serde_amqp::{Counted, from_reader, to_vec};
+use serde_amqp::{Counted, from_reader};
 use std::alloc::Global;
 
 /// An array of 65,536 units, and a byte behind it.
@@ -41,15 +41,25 @@ fn are_read(alloc: Global, text: &[u8], numbers: &Vec<i32>, most: usize) -> bool
     source.into_inner().rest.is_empty() && is_so
 }
 
-/// The text of the numbers from 0 to `n` is so long, and they are read from it.
-fn are_read_again(alloc: Global, n: i32, len: usize) -> bool {
-    let Some(numbers) = numbers(alloc, n) else {
+/// This front, and behind it the numbers from 0 to `n`, without `n`, each of a byte.
+fn text_of(alloc: Global, front: &[u8], n: u8) -> Option<Vec<u8>> {
+    let mut text = Vec::new(alloc);
+    let mut is_so = text.extend_from_slice(front).is_ok();
+    for number in 0..n {
+        is_so = text.extend_from_slice(&[0x54, number]).is_ok() && is_so;
+    }
+    if is_so { Some(text) } else { None }
+}
+
+/// The numbers from 0 to `n` are read behind this front.
+fn are_read_behind(alloc: Global, front: &[u8], n: u8) -> bool {
+    let Some(numbers) = numbers(alloc, i32::from(n)) else {
         return false;
     };
-    let Ok(text) = to_vec(alloc, &numbers) else {
+    let Some(text) = text_of(alloc, front, n) else {
         return false;
     };
-    let mut are_so = text.len() == len;
+    let mut are_so = true;
     for most in [1, 2, 7] {
         are_so = are_read(alloc, text.as_slice(), &numbers, most) && are_so;
     }
@@ -65,7 +75,8 @@ fn as_many_units_as_may_be_are_read_however_a_source_cuts_them(rt: HostRuntime) 
 }
 
 #[test]
-fn the_shortest_list32_is_read_however_a_source_cuts_it(rt: HostRuntime) {
-    assert!(rt; are_read_again(rt.alloc(), 127, 257));
-    assert!(rt; are_read_again(rt.alloc(), 128, 265));
+fn lists_of_either_size_are_read_however_a_source_cuts_them(rt: HostRuntime) {
+    let list32 = b"\xd0\x00\x00\x01\x04\x00\x00\x00\x80";
+    assert!(rt; are_read_behind(rt.alloc(), b"\xc0\xff\x7f", 127));
+    assert!(rt; are_read_behind(rt.alloc(), list32, 128));
 }

@@ -52,7 +52,7 @@ fn shipment(carrier: Option<String>) -> Option<Shipment> {
 }
 
 #[test]
-fn properties_are_a_map_of_names_behind_their_descriptor(rt: HostRuntime) {
+fn application_properties_are_a_map_of_names_behind_their_descriptor(rt: HostRuntime) {
     let alloc = rt.alloc();
     assert!(rt; is_made_as(alloc, shipment(string(alloc, "a")), SHIPMENT));
 }

@@ -174,7 +174,7 @@ fn a_deserializer_says_where_it_was_refused(rt: HostRuntime) {
         b"\xc0\x07\x03\x54\x01\x54\x02\x41\x41",
         Answer::InvalidFormatCode,
     );
-    assert!(rt; third == Some(7) || third == Some(8));
+    assert!(rt; third == Some(8));
     let end = place(alloc, b"\xc0\x05\x02\x54\x01\x54", UNEXPECTED_EOF);
     assert!(rt; end == Some(6));
 }

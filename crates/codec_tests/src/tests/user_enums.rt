@@ -17,7 +17,7 @@ const STRUCT: &[u8] = b"\xc1\x09\x02\x52\x03\xc0\x04\x02\x52\x07\x42";
 /// An array of the number 13 alone.
 const NUMBERS: &[u8] = b"\xe0\x0e\x01\xd1\0\0\0\x08\0\0\0\x02\x52\x01\x52\x0d";
 
-/// Two switches that are on, and a list of one that is off.
+/// Two switches that are on.
 const BOTH_ON: &[u8] = b"\xe0\x0a\x02\x70\0\0\0\x01\0\0\0\x01";
 
 /// Three values.
