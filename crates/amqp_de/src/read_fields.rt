@@ -128,8 +128,8 @@ impl<R: Read> Deserializer<R> {
 }
 
 /// Reads a struct whose fields have names: `read_fields!(de, alloc, Sensor { id, unit })` calls
-/// `Deserializer::deserialize_fields` with these names, or with the name that follows a field, as in
-/// `Sensor { id: "sensor-id", unit }`, and answers the struct of what was read.
+/// `Deserializer::deserialize_fields` with these names, or with the name that follows a field, as
+/// in `Sensor { id: "sensor-id", unit }`, and answers the struct of what was read.
 #[macro_export]
 macro_rules! read_fields {
     ($de:expr, $alloc:expr, $name:ident { $($field:ident $(: $key:literal)?),* $(,)? } $(,)?) => {
