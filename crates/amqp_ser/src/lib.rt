@@ -42,16 +42,13 @@ mod variants;
 
 pub use amqp_base::DESCRIBED_LIST;
 pub use amqp_write::Measure;
-pub use compound::{Announced, Compound, Elements, Entries, Named, Parts, Unnamed};
 pub use fields::{Struct, StructFields, Written};
 pub use map::MapSerializer;
 pub use measured::{measure, measured_size, measured_vec, write_measured};
-pub use paired::Paired;
 pub use seq::SeqSerializer;
 pub use serialize::{AtOnce, Serialize};
 pub use serializer::Serializer;
-pub use staged::Staged;
 pub use structs::{StructSerializer, WholeStruct};
 pub use tuple_structs::TupleStructSerializer;
 pub use tuples::{Part, TupleParts, TupleSerializer};
-pub use variants::{Variant, VariantSerializer};
+pub use variants::VariantSerializer;
