@@ -48,7 +48,7 @@ impl<R: Read, F: Drop, O: Drop> Drop for Access<'_, R, F, O> {
     }
 }
 
-/// The parts of an access are the elements of a list.
+/// The parts of an access are the elements of a list or an array.
 #[derive(Clone, Copy)]
 pub struct Elements;
 
@@ -169,7 +169,8 @@ impl<'a, R: Read, F: Copy> Access<'a, R, F> {
     /// Ends the access: its deserializer reads on behind it. Nothing is consumed.
     ///
     /// `SequenceLengthMismatch` where elements were left unread, `InvalidValue` after a refusal;
-    /// the deserializer is ended then.
+    /// the deserializer is ended then. So a `VariantAccess` isn't ended by it: what its variant
+    /// holds is read by a call that takes the access.
     #[inline(always)]
     pub fn end(self) -> Result<(), Error>
         ensures ends { Ends (open_list self.entry) result self.exit.0.now }
