@@ -40,7 +40,7 @@ impl FromVariant for Section {
 
     ghost which = { elim [
       | variant.Header v ↦ This v
-      | variant.Properties v ↦ Other (This v)
+      | variant.ApplicationProperties v ↦ Other (This v)
       | variant.Data v ↦ Other (Other (This v))
     ] };
 
