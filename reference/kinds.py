@@ -13,15 +13,17 @@ TIMESTAMP, UUID = PRIMITIVES["timestamp"], PRIMITIVES["uuid"]
 TEXT = Lent()
 
 
-def behind(code, value):
-    return Described(value, ("ulong", code))
+def behind(code, value, name=None):
+    """A value behind a code, or behind the name that may stand in its place."""
+    return Described(value, [("ulong", code)] + ([("symbol", name.encode())] if name else []))
 
 
 MEASUREMENT = Tuple(U32, STRING)
 SENSOR = Struct(id=U32, readings=List(I32), unit=Maybe(SYMBOL))
-OPEN = behind(0x10, Leading(container_id=STRING, hostname=Maybe(STRING), max_frame_size=Maybe(U32), channel_max=Maybe(U16)))
-DATA = behind(0x75, BINARY)
-RECEIVED, ACCEPTED = behind(0x23, Leading(section_number=U32, section_offset=U64)), behind(0x24, Leading())
+OPEN = behind(0x10, Leading(container_id=STRING, hostname=Maybe(STRING), max_frame_size=Maybe(U32), channel_max=Maybe(U16)), "amqp:open:list")
+DATA = behind(0x75, BINARY, "amqp:data:binary")
+RECEIVED = behind(0x23, Leading(section_number=U32, section_offset=U64), "amqp:received:list")
+ACCEPTED = behind(0x24, Leading(), "amqp:accepted:list")
 ENUMERATION = Enum(UnitVariant=None, NewTypeVariant=U32, TupleVariant=Tuple(BOOL, U64, STRING), StructVariant=Tuple(U32, BOOL))
 SWITCH = Enum(Off=None, On=None)
 
@@ -112,7 +114,7 @@ TYPES = PRIMITIVES | {
     "array-accepted": Array(ACCEPTED),
     "delivery-state": Told(RECEIVED, ACCEPTED),
     "sasl-init": behind(0x41, Leading(mechanism=TEXT, initial_response=Maybe(BINARY), hostname=Maybe(STRING))),
-    "shipment": behind(0x74, Named(**{"order-number": U64}, carrier=STRING, fragile=BOOL, note=Maybe(STRING))),
+    "shipment": behind(0x74, Named(**{"order-number": U64}, carrier=STRING, fragile=BOOL, note=Maybe(STRING)), "amqp:application-properties:map"),
     "data": DATA,
     "array-data": Array(DATA),
     "enumeration": ENUMERATION,

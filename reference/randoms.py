@@ -89,8 +89,11 @@ class Maker:
 
     def descriptor(self, wanted):
         """A descriptor with its own constructor, mostly the wanted one."""
-        if wanted is not None and self.chance(0.9):
-            return self.one([b"\x53" + bytes([wanted[1]]), b"\x80" + wanted[1].to_bytes(8, "big")])
+        if wanted and self.chance(0.9):
+            kind, content = self.one(wanted)
+            if kind == "symbol":
+                return self.one([b"\xa3" + bytes([len(content)]), b"\xb3" + len(content).to_bytes(4, "big")]) + content
+            return self.one([b"\x53" + bytes([content]), b"\x80" + content.to_bytes(8, "big")])
         odd = [b"\x40", b"\xa1\x01a", b"\x00", b"\xa3\x01\xff"] if self.chance(0.2) else []
         return self.one([b"\x53\x13", b"\x44", b"\xa3\x01a", b"\x80" + bytes(7) + b"\x10", b"\xb3\0\0\0\x01a"] + odd)
 

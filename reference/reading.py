@@ -340,18 +340,18 @@ class Map:
 
 
 class Described:
-    """A value behind a descriptor: any one, or only this."""
+    """A value behind a descriptor: any one, or one of these, of which the first is written."""
 
-    def __init__(self, value, wanted=None):
+    def __init__(self, value, wanted=()):
         self.value, self.wanted = value, wanted
 
     def read(self, reader):
         descriptor, outer = begin_described(reader)
-        if self.wanted not in (None, descriptor):
+        if self.wanted and descriptor not in self.wanted:
             raise Refused(MESSAGE)
         value = self.value.read(reader)
         reader.inherited = outer
-        return ("described", (descriptor, value))
+        return ("described", (self.wanted[0] if self.wanted else descriptor, value))
 
 
 class Told:
@@ -365,7 +365,7 @@ class Told:
             raise Refused(CODE)
         descriptor = look_descriptor(reader)
         for it in self.variants:
-            if it.wanted == descriptor:
+            if descriptor in it.wanted:
                 return it.read(reader)
         raise Refused(MESSAGE)
 

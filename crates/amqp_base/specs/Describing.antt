@@ -1,5 +1,5 @@
 -- Described values: a descriptor, and the value behind it (1.1.2, 1.2).
-use Rattle.std.specs.Prelude.{if◌then◌else◌, ◌≡◌, ℕ, zero, suc, ◌⊎◌, Bool, true, false, ◌&&◌, IsTrue, List, [], ◌∷◌, bytes_eq, Ok, Err}
+use Rattle.std.specs.Prelude.{if◌then◌else◌, ◌≡◌, ℕ, zero, suc, ◌⊎◌, Bool, true, false, ◌&&◌, ◌==◌, IsTrue, List, [], ◌∷◌, bytes_eq, Ok, Err}
 use Rattle.std.proofs.Common.{refl, sym, subst, ◌∙◌}
 use Rattle.std.proofs.lemmas.Bool.{eq-eqb}
 use Rattle.amqp_base.specs.declared.error.Error.{Error}
@@ -121,7 +121,7 @@ described_of m descriptor value = record {
   not_null = λ _ _. refl;
 }
 
--- ---- a type of values behind one descriptor
+-- ---- a type of values behind its descriptor
 
 bytes_same : (a : List ℕ) → bytes_eq a a ≡ true
 bytes_same [] = refl
@@ -131,13 +131,31 @@ pub same_as_itself : (d : Descriptor) → same_descriptor d d ≡ true
 same_as_itself (name a) = bytes_same a
 same_as_itself (code n) = eq-eqb n n refl
 
--- a value behind just this descriptor is taken
-abbrev pub is_behind : Descriptor → (Item → Bool) → Item → Bool
-is_behind d takes (described e v) = same_descriptor d e && takes v
-is_behind d takes (scalar v) = false
-is_behind d takes (list is) = false
-is_behind d takes (map ps) = false
-is_behind d takes (array is) = false
+-- Which descriptor stands in front of what is written, and which ones are taken in front of what is read.
+pub record Descriptors : Type 0 where
+  pub written : Descriptor
+  pub among : Descriptor → Bool
+  pub own : among written ≡ true
+
+-- just this one
+abbrev pub just : Descriptor → Descriptors
+just d = record { written = d; among = same_descriptor d; own = same_as_itself d }
+
+abbrev pub is_code_or_name : ℕ → List ℕ → Descriptor → Bool
+is_code_or_name n a (code m) = n == m
+is_code_or_name n a (name b) = bytes_eq a b
+
+-- this code, in whose place the name of the same type may be read
+abbrev pub code_or_name : ℕ → List ℕ → Descriptors
+code_or_name n a = record { written = code n; among = is_code_or_name n a; own = eq-eqb n n refl }
+
+-- a value behind one of these descriptors is taken
+abbrev pub is_behind : (Descriptor → Bool) → (Item → Bool) → Item → Bool
+is_behind among takes (described d v) = among d && takes v
+is_behind among takes (scalar v) = false
+is_behind among takes (list is) = false
+is_behind among takes (map ps) = false
+is_behind among takes (array is) = false
 
 abbrev pub means_behind : (Item → Type 0) → Item → Type 0
 means_behind means (described e v) = means v
@@ -154,20 +172,20 @@ one_behind means same one (list is) v w p q = absurd p
 one_behind means same one (map ps) v w p q = absurd p
 one_behind means same one (array is) v w p q = absurd p
 
--- another descriptor is a message; behind this one the value is refused so
-unfoldable pub behind_refusal : Descriptor → Refusing → Refusing
-behind_refusal d behind c s e =
+-- another descriptor is a message; behind one of these the value is refused so
+unfoldable pub behind_refusal : (Descriptor → Bool) → Refusing → Refusing
+behind_refusal among behind c s e =
     ((custom : Error) → StandsFor custom e → describing_at custom c s ≡ Err e)
-    ⊎ DescribedThen (λ f rest. one_or_other (same_descriptor d f.descriptor) (behind f.stands rest e) (IsMessage e)) c s
+    ⊎ DescribedThen (λ f rest. one_or_other (among f.descriptor) (behind f.stands rest e) (IsMessage e)) c s
 
--- the same values, each written behind this descriptor and read behind it; what stands there is refused so
-abbrev pub under_descriptor : {V : Type 0} → Descriptor → Refusing → Meaning V → Meaning V
-under_descriptor d behind m = record {
-  item = λ v _. described d (m.item v Plain);
-  takes = is_behind d m.takes;
+-- the same values, each behind its descriptor; what stands there is refused so
+abbrev pub under_descriptor : {V : Type 0} → Descriptors → Refusing → Meaning V → Meaning V
+under_descriptor ds behind m = record {
+  item = λ v _. described ds.written (m.item v Plain);
+  takes = is_behind ds.among m.takes;
   means = λ i v. means_behind (λ j. m.means j v) i;
   same = m.same;
-  refuses = behind_refusal d behind;
+  refuses = behind_refusal ds.among behind;
   grows = true;
   in_described_list = λ _. refl;
   in_described_basic = λ _. refl;
@@ -176,7 +194,7 @@ under_descriptor d behind m = record {
   always_sound = m.always_sound;
   is_sound = m.is_sound;
   reads_back = m.reads_back;
-  taken_back = λ r v s. both (same_descriptor d d) (m.takes (m.item v Plain)) (same_as_itself d) (m.taken_back r v s);
+  taken_back = λ r v s. both (ds.among ds.written) (m.takes (m.item v Plain)) ds.own (m.taken_back r v s);
   read_back = λ r v s. m.read_back r v s;
   never_null = true;
   not_null = λ _ _. refl;
@@ -206,5 +224,5 @@ abbrev pub described_list_refusal : List Bool → List (Item → Bool) → List 
 described_list_refusal awaited takes refuses = header_refusal (kind_data Kind.list (leading_data (awaited_count awaited))) (leading_part_refusal awaited takes refuses)
 
 -- a struct of these fields under a descriptor, as a list; it is read where its last fields are left out, too
-abbrev pub described_list_of : {V : Type 0} → Descriptor → Row V → Meaning V
-described_list_of d row = under_descriptor d (described_list_refusal (all_awaited row.takes) row.takes row.refuses) (leading_of row)
+abbrev pub described_list_of : {V : Type 0} → Descriptors → Row V → Meaning V
+described_list_of ds row = under_descriptor ds (described_list_refusal (all_awaited row.takes) row.takes row.refuses) (leading_of row)

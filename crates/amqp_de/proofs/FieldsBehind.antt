@@ -4,7 +4,6 @@ use Rattle.amqp_base.specs.declared.error.Error.{Error}
 use Rattle.amqp_base.specs.declared.error.Error.TheVariants.{Message, OutOfMemory}
 use Rattle.amqp_base.specs.declared.format_code.EncodingCodes.{EncodingCodes}
 use Rattle.amqp_base.specs.declared.format_code.EncodingCodes.TheVariants.{List0, List8, List32}
-use Rattle.amqp_base.specs.Canon.{same_descriptor}
 use Rattle.amqp_base.specs.Codes.{Kind, row}
 use Rattle.amqp_base.specs.Describing.{is_described_of, means_described, describing_at, is_behind, means_behind, behind_refusal, kind_data, header_refusal}
 use Rattle.amqp_base.specs.Leading.{takes_leading}
@@ -19,14 +18,15 @@ use Rattle.amqp_data.proofs.FixedWidth.{custom_device}
 use Rattle.amqp_data.proofs.Readings.{excused_before, excused_more, onward, stayed}
 use Rattle.amqp_data.proofs.Received.{keeps_known, may_known}
 use Rattle.amqp_de.specs.Decoding.{Decoding, stands_under, as_ended}
-use Rattle.amqp_de.specs.Describes.{Describes, NoDescriptor}
+use Rattle.amqp_de.specs.Describes.{Describes, DescribesNone, none_among}
 use Rattle.amqp_de.specs.Law.{Found, Missed, Named}
 use Rattle.amqp_de.specs.Look.{item_kind, Looks, LooksNot}
-use Rattle.amqp_de.proofs.DescribedRead.{described_found, described_missed, undescribed, undescribed_for}
+use Rattle.amqp_de.proofs.DescribedRead.{described_found, described_missed}
 use Rattle.amqp_de.proofs.FormsOpened.{item_none}
 use Rattle.amqp_de.proofs.Naming.{by_code, named_behind}
 use Rattle.amqp_de.proofs.PartsRead.{both, left_of, right_of}
 use Rattle.amqp_de.proofs.StructsBehind.{kind_is, kind_not}
+use Rattle.amqp_de.proofs.VariantsRead.{missed_less, named_wider}
 use Rattle.amqp_de.proofs.Weaker.{found_as}
 
 -- ---- codes of lists
@@ -108,57 +108,36 @@ module _ (k : Kind) (parse : EncodingCodes → List ℕ → Parsed ℕ) (later :
 
 -- ---- behind the descriptor
 
-behind_is : (takes : Item → Bool) (means : Item → Type 0) (d e : Descriptor) → same_descriptor d e ≡ true → (i : Item) → IsTrue (is_described_of takes i) → means_described means e i → IsTrue (is_behind d takes i) × means_behind means i
-behind_is takes means d e s (described f v) t m = (both (same_descriptor d f) (takes v) (ap (same_descriptor d) m.0 ∙ s) t, m.1)
-behind_is takes means d e s (scalar v) t m = absurd m
-behind_is takes means d e s (list is) t m = absurd m
-behind_is takes means d e s (map ps) t m = absurd m
-behind_is takes means d e s (array is) t m = absurd m
+behind_is : (takes : Item → Bool) (means : Item → Type 0) (among : Descriptor → Bool) (e : Descriptor) → among e ≡ true → (i : Item) → IsTrue (is_described_of takes i) → means_described means e i → IsTrue (is_behind among takes i) × means_behind means i
+behind_is takes means among e s (described f v) t m = (both (among f) (takes v) (ap among m.0 ∙ s) t, m.1)
+behind_is takes means among e s (scalar v) t m = absurd m
+behind_is takes means among e s (list is) t m = absurd m
+behind_is takes means among e s (map ps) t m = absurd m
+behind_is takes means among e s (array is) t m = absurd m
 
-pub behind_found : (takes : Item → Bool) (means : Item → Type 0) (d e : Descriptor) (old mid new : Decoding) → same_descriptor d e ≡ true → Describes e old mid → Found takes means mid new → Found (is_behind d takes) (means_behind means) old new
-behind_found takes means d e old mid new s x f = found_as (is_described_of takes) (is_behind d takes) (means_described means e) (means_behind means) old new (behind_is takes means d e s) (described_found takes means e old mid new x f)
+pub behind_found : (takes : Item → Bool) (means : Item → Type 0) (among : Descriptor → Bool) (e : Descriptor) (old mid new : Decoding) → among e ≡ true → Describes e old mid → Found takes means mid new → Found (is_behind among takes) (means_behind means) old new
+behind_found takes means among e old mid new s x f = found_as (is_described_of takes) (is_behind among takes) (means_described means e) (means_behind means) old new (behind_is takes means among e s) (described_found takes means e old mid new x f)
 
-missed_fewer : {takes some : Item → Bool} {grows buffers : Bool} {old new : Decoding} {e : Error} → ((i : Item) → IsTrue (some i) → IsTrue (takes i)) → Missed takes grows buffers old new e → Missed some grows buffers old new e
-missed_fewer h m = record {
-  why = λ a i t rest w q at o. m.why a i t rest w (h i q) at o;
-  spent = m.spent;
-  steady = m.steady;
-  device = m.device;
-  memory = m.memory;
-}
+is_one : (among : Descriptor → Bool) (takes : Item → Bool) (i : Item) → IsTrue (is_behind among takes i) → IsTrue (is_described_of takes i)
+is_one among takes (described e v) t = right_of (among e) (takes v) t
+is_one among takes (scalar v) t = t
+is_one among takes (list is) t = t
+is_one among takes (map ps) t = t
+is_one among takes (array is) t = t
 
-is_one : (d : Descriptor) (takes : Item → Bool) (i : Item) → IsTrue (is_behind d takes i) → IsTrue (is_described_of takes i)
-is_one d takes (described e v) t = right_of (same_descriptor d e) (takes v) t
-is_one d takes (scalar v) t = t
-is_one d takes (list is) t = t
-is_one d takes (map ps) t = t
-is_one d takes (array is) t = t
+pub behind_missed : (takes : Item → Bool) (grows buffers : Bool) (among : Descriptor → Bool) (e : Descriptor) (old mid new : Decoding) (err : Error) → Describes e old mid → Missed takes grows buffers mid new err → Missed (is_behind among takes) true buffers old new err
+behind_missed takes grows buffers among e old mid new err x m = missed_less (is_one among takes) (described_missed takes grows buffers e old mid new err x m)
 
-pub behind_missed : (takes : Item → Bool) (grows buffers : Bool) (d e : Descriptor) (old mid new : Decoding) (err : Error) → Describes e old mid → Missed takes grows buffers mid new err → Missed (is_behind d takes) true buffers old new err
-behind_missed takes grows buffers d e old mid new err x m = missed_fewer (is_one d takes) (described_missed takes grows buffers e old mid new err x m)
+any_behind : (among : Descriptor → Bool) (takes : Item → Bool) (i : Item) → IsTrue (is_behind among takes i) → IsTrue (is_behind among (λ _. true) i)
+any_behind among takes (described e v) t = both (among e) true (left_of (among e) (takes v) t) refl
+any_behind among takes (scalar v) t = t
+any_behind among takes (list is) t = t
+any_behind among takes (map ps) t = t
+any_behind among takes (array is) t = t
 
-pub behind_none : (takes : Item → Bool) (buffers : Bool) (d : Descriptor) (old new : Decoding) (err : Error) → NoDescriptor buffers old new err → Missed (is_behind d takes) true buffers old new err
-behind_none takes buffers d old new err n = missed_fewer (is_one d takes) (undescribed takes buffers old new err n)
-
--- another descriptor stands there
-pub other_descriptor : (takes : Item → Bool) (buffers : Bool) (d e : Descriptor) (old mid : Decoding) (text : List ℕ) (err : Error) → same_descriptor d e ≡ false → Describes e old mid → IsCustom text err → Missed (is_behind d takes) true buffers old (as_ended mid) err
-other_descriptor takes buffers d e old mid text err s x c = record {
-  why = λ a. why;
-  spent = λ a. record { most = let b = x.refused_spent in omega (arith, b) };
-  steady = onward x.step;
-  device = λ q. absurd (custom_device text err c q);
-  memory = λ q. refl;
-}
-  where
-    why : (i : Item) (t rest : List ℕ) → Wire lenient (stands_under old) t i → IsTrue (is_behind d takes i) → old.reading.to_come ≡ Some (t ++ rest) → IsTrue old.reading.honest → Excused true buffers old.reading mid.reading err
-    why (described f v) t rest w q at h =
-        let o = x.only t rest f v w at in
-        let g : IsTrue (same_descriptor d f) = left_of (same_descriptor d f) (takes v) q in
-        absurd cc (sym (ap (same_descriptor d) o.0) ∙ g, s)
-    why (scalar v) t rest w q at h = absurd cc
-    why (list is) t rest w q at h = absurd cc
-    why (map ps) t rest w q at h = absurd cc
-    why (array is) t rest w q at h = absurd cc
+-- none of the descriptors stands there
+pub none_missed : (takes : Item → Bool) (buffers : Bool) (among : Descriptor → Bool) (old new : Decoding) (err : Error) → DescribesNone among buffers old new err → Missed (is_behind among takes) true buffers old new err
+none_missed takes buffers among old new err n = missed_less (any_behind among takes) n.missed
 
 the_one : (A B : Type 0) (b : Bool) → b ≡ true → A → one_or_other b A B
 the_one A B b h a = rw h a
@@ -166,33 +145,20 @@ the_one A B b h a = rw h a
 the_other : (A B : Type 0) (b : Bool) → b ≡ false → B → one_or_other b A B
 the_other A B b h a = rw h a
 
-module _ (d : Descriptor) (behind : Refusing) (buffers : Bool) (old : Decoding) where
-  pub none_named : (new : Decoding) (err : Error) → NoDescriptor buffers old new err → Named (behind_refusal d behind) true buffers old new err
-  unfolding behind_refusal
-  none_named new err n = record { why = λ a s at h. tell s (undescribed_for buffers old new err n a s at h) }
+module _ (among : Descriptor → Bool) (behind : Refusing) (buffers : Bool) (old : Decoding) where
+  pub none_named : (new : Decoding) (err : Error) → DescribesNone among buffers old new err → Named (behind_refusal among behind) true buffers old new err
+  unfolding behind_refusal none_among
+  none_named new err n = named_wider tell n.named
     where
-      tell : (s : List ℕ) → ((custom : Error) → StandsFor custom err → describing_at custom (stands_under old) s ≡ Err err) ⊎ Excused true buffers old.reading new.reading err → behind_refusal d behind (stands_under old) s err ⊎ Excused true buffers old.reading new.reading err
-      tell s (inl p) = inl (inl p)
-      tell s (inr y) = inr y
+      tell : (c : Constructor) (s : List ℕ) → none_among among c s err → behind_refusal among behind c s err
+      tell c s (inl p) = inl p
+      tell c s (inr d) = inr (record { found = d.found; rest = d.rest; header = d.header; behind = the_other _ _ _ d.behind.0 d.behind.1 })
 
-  pub another_named : (e : Descriptor) (mid : Decoding) (text : List ℕ) (err : Error) → same_descriptor d e ≡ false → Describes e old mid → IsCustom text err → Named (behind_refusal d behind) true buffers old (as_ended mid) err
-  unfolding behind_refusal
-  another_named e mid text err q x c = record { why = λ a s at h. let k = x.exact s at in tell s k.0 k.2 err refl c }
-    where
-      tell : (s rest : List ℕ) → ((custom : Error) → describing_at custom (stands_under old) s ≡ Ok (record { descriptor = e; stands = stands_under mid }, rest)) → (z : Error) → z ≡ err → IsCustom text z
-          → behind_refusal d behind (stands_under old) s err ⊎ Excused true buffers old.reading mid.reading err
-      tell s rest k (Message t) z i = inl (inr (record { found = record { descriptor = e; stands = stands_under mid }; rest = rest; header = k; behind = the_other _ _ _ q (of_message z) }))
-        where
-          of_message : Message t ≡ err → IsMessage err
-          of_message g = rw (← g) tt
-      tell s rest k OutOfMemory z i = inr (no_memory (sym z) refl)
-      tell s rest k _ z i = absurd i
-
-  pub behind_named : (grows : Bool) (e : Descriptor) (mid new : Decoding) (err : Error) → same_descriptor d e ≡ true → Describes e old mid → Named behind grows buffers mid new err → Named (behind_refusal d behind) true buffers old new err
+  pub behind_named : (grows : Bool) (e : Descriptor) (mid new : Decoding) (err : Error) → among e ≡ true → Describes e old mid → Named behind grows buffers mid new err → Named (behind_refusal among behind) true buffers old new err
   unfolding behind_refusal
   behind_named grows e mid new err q x n = record { why = λ a s at h. let k = x.exact s at in tell s k.0 k.2 (n.why x.not_ended k.0 k.1 (x.step.steady.honest ∙ h)) }
     where
       tell : (s rest : List ℕ) → ((custom : Error) → describing_at custom (stands_under old) s ≡ Ok (record { descriptor = e; stands = stands_under mid }, rest)) → behind (stands_under mid) rest err ⊎ Excused grows buffers mid.reading new.reading err
-          → behind_refusal d behind (stands_under old) s err ⊎ Excused true buffers old.reading new.reading err
+          → behind_refusal among behind (stands_under old) s err ⊎ Excused true buffers old.reading new.reading err
       tell s rest k (inl p) = inl (inr (record { found = record { descriptor = e; stands = stands_under mid }; rest = rest; header = k; behind = the_one _ _ _ q p }))
       tell s rest k (inr y) = inr (excused_before old.reading mid.reading new.reading x.text err x.step (excused_more mid.reading new.reading err (λ _. refl) y))

@@ -36,6 +36,7 @@ pub mod LeftOut
 pub mod NamedLeftOut
 pub mod BehindDescriptor
 pub mod DescribedRead
+pub mod WantedDescriptor
 pub mod FieldsBehind
 pub mod StructsBehind
 pub mod NullApart

@@ -6,8 +6,7 @@ use Rattle.amqp_base.specs.declared.one_of.OneOf.{OneOf}
 use Rattle.amqp_base.specs.declared.one_of.OneOf.TheVariants.{This, Other}
 use Rattle.amqp_base.specs.declared.one_of.NoVariant.{NoVariant}
 use Rattle.amqp_base.specs.declared.shape.Setting.TheVariants.{Plain}
-use Rattle.amqp_base.specs.Canon.{same_descriptor}
-use Rattle.amqp_base.specs.Describing.{same_as_itself, by_descriptor_refusal}
+use Rattle.amqp_base.specs.Describing.{Descriptors, by_descriptor_refusal}
 use Rattle.amqp_base.specs.Enums.{of_one, same_one, takes_one, means_one, one_in, sound_one}
 use Rattle.amqp_base.specs.Item.{Descriptor, Item, scalar, list, map, array, described}
 use Rattle.amqp_base.specs.Meaning.{Meaning, first_of, second_of}
@@ -30,12 +29,12 @@ pub record VariantsBehind (S : Type 0) : Type 1 where
 abbrev pub none_behind : VariantsBehind NoVariant
 none_behind = record { takes = λ d i. false; means = λ d i s. ⊥; refuses = λ d c s e. IsMessage e }
 
--- one behind this descriptor, and the others
-abbrev pub first_behind : {T S : Type 0} → Descriptor → Meaning T → VariantsBehind S → VariantsBehind (OneOf T S)
-first_behind d m others = record {
-  takes = λ e i. takes_one (same_descriptor d e) (m.takes i) (others.takes e i);
-  means = λ e i. means_one (same_descriptor d e) (m.means i) (others.means e i);
-  refuses = λ e c s x. one_or_other (same_descriptor d e) (m.refuses c s x) (others.refuses e c s x);
+-- one behind these descriptors, and the others
+abbrev pub first_behind : {T S : Type 0} → (Descriptor → Bool) → Meaning T → VariantsBehind S → VariantsBehind (OneOf T S)
+first_behind among m others = record {
+  takes = λ d i. takes_one (among d) (m.takes i) (others.takes d i);
+  means = λ d i. means_one (among d) (m.means i) (others.means d i);
+  refuses = λ d c s x. one_or_other (among d) (m.refuses c s x) (others.refuses d c s x);
 }
 
 -- an item that is taken behind its own descriptor
@@ -92,9 +91,9 @@ pub record DescribedVariants (S : Type 0) : Type 1 where
   pub item : S → Item
   pub at : S → Descriptor
   pub stands : (s : S) → descriptor_in (item s) ≡ Some (at s)
-  -- whether none of them has this descriptor
-  pub is_new : Descriptor → Bool
-  pub apart : (d : Descriptor) → IsTrue (is_new d) → (s : S) → same_descriptor d (at s) ≡ false
+  -- whether none of them is written behind one of these descriptors
+  pub outside : (Descriptor → Bool) → Bool
+  pub apart : (among : Descriptor → Bool) → IsTrue (outside among) → (s : S) → among (at s) ≡ false
   pub same : S → S → Type 0
   pub one_value : (d : Descriptor) → OneValue (read.means d) same
   pub sound : S → Type 0
@@ -110,8 +109,8 @@ no_variant = record {
   item = λ s. elim s [ ];
   at = λ s. elim s [ ];
   stands = λ s. elim s [ ];
-  is_new = λ d. true;
-  apart = λ d h s. elim s [ ];
+  outside = λ among. true;
+  apart = λ among h s. elim s [ ];
   same = λ s t. Unit {0};
   one_value = λ d i s t p q. tt;
   sound = λ s. Unit {0};
@@ -128,56 +127,56 @@ abbrev pub one_or_rest : {A T S : Type 0} → (T → A) → (S → A) → OneOf 
 one_or_rest first rest (This v) = first v
 one_or_rest first rest (Other s) = rest s
 
-abbrev pub differs : Descriptor → Descriptor → Bool
-differs d e = if same_descriptor d e then false else true
+abbrev pub is_outside : (Descriptor → Bool) → Descriptor → Bool
+is_outside among d = if among d then false else true
 
-differs_not : (b : Bool) → IsTrue (if b then false else true) → b ≡ false
-differs_not true h = absurd cc
-differs_not false h = refl
+outside_not : (b : Bool) → IsTrue (if b then false else true) → b ≡ false
+outside_not true h = absurd cc
+outside_not false h = refl
 
-module _ {T S : Type 0} (d : Descriptor) (m : Meaning T) (own : (v : T) → descriptor_in (m.item v Plain) ≡ Some d) (others : DescribedVariants S) where
-  pub first_stands : (s : OneOf T S) → descriptor_in (one_or_rest (λ v. m.item v Plain) others.item s) ≡ Some (one_or_rest (λ _. d) others.at s)
+module _ {T S : Type 0} (ds : Descriptors) (m : Meaning T) (own : (v : T) → descriptor_in (m.item v Plain) ≡ Some ds.written) (others : DescribedVariants S) where
+  pub first_stands : (s : OneOf T S) → descriptor_in (one_or_rest (λ v. m.item v Plain) others.item s) ≡ Some (one_or_rest (λ _. ds.written) others.at s)
   first_stands (This v) = own v
   first_stands (Other s) = others.stands s
 
-  pub first_apart : (e : Descriptor) → IsTrue (differs e d && others.is_new e) → (s : OneOf T S) → same_descriptor e (one_or_rest (λ _. d) others.at s) ≡ false
-  first_apart e h (This v) = differs_not (same_descriptor e d) (first_of (differs e d) (others.is_new e) h)
-  first_apart e h (Other s) = others.apart e (second_of (differs e d) (others.is_new e) h) s
+  pub first_apart : (among : Descriptor → Bool) → IsTrue (is_outside among ds.written && others.outside among) → (s : OneOf T S) → among (one_or_rest (λ _. ds.written) others.at s) ≡ false
+  first_apart among h (This v) = outside_not (among ds.written) (first_of (is_outside among ds.written) (others.outside among) h)
+  first_apart among h (Other s) = others.apart among (second_of (is_outside among ds.written) (others.outside among) h) s
 
   abbrev pub both_back : Bool
-  both_back = m.reads_back && (others.is_new d && others.reads_back)
+  both_back = m.reads_back && (others.outside ds.among && others.reads_back)
 
-  rest_apart : IsTrue both_back → (s : S) → same_descriptor d (others.at s) ≡ false
-  rest_apart r s = others.apart d (first_of (others.is_new d) others.reads_back (second_of m.reads_back (others.is_new d && others.reads_back) r)) s
+  rest_apart : IsTrue both_back → (s : S) → ds.among (others.at s) ≡ false
+  rest_apart r s = others.apart ds.among (first_of (others.outside ds.among) others.reads_back (second_of m.reads_back (others.outside ds.among && others.reads_back) r)) s
 
   rest_back : IsTrue both_back → IsTrue others.reads_back
-  rest_back r = second_of (others.is_new d) others.reads_back (second_of m.reads_back (others.is_new d && others.reads_back) r)
+  rest_back r = second_of (others.outside ds.among) others.reads_back (second_of m.reads_back (others.outside ds.among && others.reads_back) r)
 
-  pub first_taken : IsTrue both_back → (s : OneOf T S) → of_one m.sound others.sound s → IsTrue ((first_behind d m others.read).takes (one_or_rest (λ _. d) others.at s) (one_or_rest (λ v. m.item v Plain) others.item s))
-  first_taken r (This v) h = rw (same_as_itself d) (m.taken_back (first_of m.reads_back (others.is_new d && others.reads_back) r) v h)
+  pub first_taken : IsTrue both_back → (s : OneOf T S) → of_one m.sound others.sound s → IsTrue ((first_behind ds.among m others.read).takes (one_or_rest (λ _. ds.written) others.at s) (one_or_rest (λ v. m.item v Plain) others.item s))
+  first_taken r (This v) h = rw ds.own (m.taken_back (first_of m.reads_back (others.outside ds.among && others.reads_back) r) v h)
   first_taken r (Other s) h = rw (rest_apart r s) (others.taken_back (rest_back r) s h)
 
-  pub first_read : IsTrue both_back → (s : OneOf T S) → of_one m.sound others.sound s → (first_behind d m others.read).means (one_or_rest (λ _. d) others.at s) (one_or_rest (λ v. m.item v Plain) others.item s) s
-  first_read r (This v) h = (same_as_itself d, m.read_back (first_of m.reads_back (others.is_new d && others.reads_back) r) v h)
+  pub first_read : IsTrue both_back → (s : OneOf T S) → of_one m.sound others.sound s → (first_behind ds.among m others.read).means (one_or_rest (λ _. ds.written) others.at s) (one_or_rest (λ v. m.item v Plain) others.item s) s
+  first_read r (This v) h = (ds.own, m.read_back (first_of m.reads_back (others.outside ds.among && others.reads_back) r) v h)
   first_read r (Other s) h = (rest_apart r s, others.read_back (rest_back r) s h)
 
--- a variant that holds a value of this meaning, which is written behind this descriptor
-abbrev pub behind : {T S : Type 0} (d : Descriptor) (m : Meaning T) → ((v : T) → descriptor_in (m.item v Plain) ≡ Some d) → DescribedVariants S → DescribedVariants (OneOf T S)
-behind d m own others = record {
-  read = first_behind d m others.read;
+-- a variant that holds a value of this meaning, behind its descriptor
+abbrev pub behind : {T S : Type 0} (ds : Descriptors) (m : Meaning T) → ((v : T) → descriptor_in (m.item v Plain) ≡ Some ds.written) → DescribedVariants S → DescribedVariants (OneOf T S)
+behind ds m own others = record {
+  read = first_behind ds.among m others.read;
   item = one_or_rest (λ v. m.item v Plain) others.item;
-  at = one_or_rest (λ _. d) others.at;
-  stands = first_stands d m own others;
-  is_new = λ e. differs e d && others.is_new e;
-  apart = first_apart d m own others;
+  at = one_or_rest (λ _. ds.written) others.at;
+  stands = first_stands ds m own others;
+  outside = λ among. is_outside among ds.written && others.outside among;
+  apart = first_apart ds m own others;
   same = same_one m.same others.same;
-  one_value = λ e i. one_in (same_descriptor d e) (m.means i) (others.read.means e i) m.same others.same (m.one_value i) (others.one_value e i);
+  one_value = λ d i. one_in (ds.among d) (m.means i) (others.read.means d i) m.same others.same (m.one_value i) (others.one_value d i);
   sound = of_one m.sound others.sound;
   always_sound = m.always_sound && others.always_sound;
   is_sound = λ a. sound_one m.sound others.sound (m.is_sound (first_of m.always_sound others.always_sound a)) (others.is_sound (second_of m.always_sound others.always_sound a));
-  reads_back = both_back d m own others;
-  taken_back = first_taken d m own others;
-  read_back = first_read d m own others;
+  reads_back = both_back ds m own others;
+  taken_back = first_taken ds m own others;
+  read_back = first_read ds m own others;
 }
 
 -- one variant, or those behind it

@@ -30,16 +30,16 @@ ListMissed s buffers old new e = Missed (takes_leading s.kinds) true buffers old
 abbrev pub ListBehindNamed : {V : Type 0} → Slots V → List (Item → Bool) → List {1} Refusing → Bool → Decoding → Decoding → Error → Type 0
 ListBehindNamed s takes refuses buffers old new e = Named (described_list_refusal s.awaited takes refuses) true buffers old new e
 
--- the item at the front was read as these fields behind this descriptor
-abbrev pub FieldsBehind : {V : Type 0} → Descriptor → Slots V → V → Decoding → Decoding → Type 0
-FieldsBehind d s vs old new = Found (is_behind d (takes_leading s.kinds)) (λ i. means_behind (λ j. means_leading (length s.kinds) (s.meanings vs) j) i) old new
+-- the item at the front was read as these fields behind one of these descriptors
+abbrev pub FieldsBehind : {V : Type 0} → (Descriptor → Bool) → Slots V → V → Decoding → Decoding → Type 0
+FieldsBehind among s vs old new = Found (is_behind among (takes_leading s.kinds)) (λ i. means_behind (λ j. means_leading (length s.kinds) (s.meanings vs) j) i) old new
 
 -- it was refused; and by the name that the bytes call for
-abbrev pub FieldsBehindRefused : {V : Type 0} → Descriptor → Slots V → Bool → Decoding → Decoding → Error → Type 0
-FieldsBehindRefused d s buffers old new e = Missed (is_behind d (takes_leading s.kinds)) true buffers old new e
+abbrev pub FieldsBehindRefused : {V : Type 0} → (Descriptor → Bool) → Slots V → Bool → Decoding → Decoding → Error → Type 0
+FieldsBehindRefused among s buffers old new e = Missed (is_behind among (takes_leading s.kinds)) true buffers old new e
 
-abbrev pub FieldsBehindNamed : {V : Type 0} → Descriptor → Slots V → List (Item → Bool) → List {1} Refusing → Bool → Decoding → Decoding → Error → Type 0
-FieldsBehindNamed d s takes refuses buffers old new e = Named (behind_refusal d (described_list_refusal s.awaited takes refuses)) true buffers old new e
+abbrev pub FieldsBehindNamed : {V : Type 0} → (Descriptor → Bool) → Slots V → List (Item → Bool) → List {1} Refusing → Bool → Decoding → Decoding → Error → Type 0
+FieldsBehindNamed among s takes refuses buffers old new e = Named (behind_refusal among (described_list_refusal s.awaited takes refuses)) true buffers old new e
 
 -- ---- out of a map
 
@@ -50,11 +50,11 @@ described_map_refusal names takes refuses awaited = header_refusal (kind_data Ki
 abbrev pub MapBehindNamed : {V : Type 0} → Slots V → List (Item → Bool) → List {1} Refusing → Bool → Decoding → Decoding → Error → Type 0
 MapBehindNamed s takes refuses buffers old new e = Named (described_map_refusal s.all_names takes refuses s.awaited) true buffers old new e
 
-abbrev pub NamesBehind : {V : Type 0} → Descriptor → Slots V → V → Decoding → Decoding → Type 0
-NamesBehind d s vs old new = Found (is_behind d (takes_map s.names s.kinds)) (λ i. means_behind (λ j. means_map s.names (s.meanings vs) j) i) old new
+abbrev pub NamesBehind : {V : Type 0} → (Descriptor → Bool) → Slots V → V → Decoding → Decoding → Type 0
+NamesBehind among s vs old new = Found (is_behind among (takes_map s.names s.kinds)) (λ i. means_behind (λ j. means_map s.names (s.meanings vs) j) i) old new
 
-abbrev pub NamesBehindRefused : {V : Type 0} → Descriptor → Slots V → Bool → Decoding → Decoding → Error → Type 0
-NamesBehindRefused d s buffers old new e = Missed (is_behind d (takes_map s.names s.kinds)) true buffers old new e
+abbrev pub NamesBehindRefused : {V : Type 0} → (Descriptor → Bool) → Slots V → Bool → Decoding → Decoding → Error → Type 0
+NamesBehindRefused among s buffers old new e = Missed (is_behind among (takes_map s.names s.kinds)) true buffers old new e
 
-abbrev pub NamesBehindNamed : {V : Type 0} → Descriptor → Slots V → List (Item → Bool) → List {1} Refusing → Bool → Decoding → Decoding → Error → Type 0
-NamesBehindNamed d s takes refuses buffers old new e = Named (behind_refusal d (described_map_refusal s.all_names takes refuses s.awaited)) true buffers old new e
+abbrev pub NamesBehindNamed : {V : Type 0} → (Descriptor → Bool) → Slots V → List (Item → Bool) → List {1} Refusing → Bool → Decoding → Decoding → Error → Type 0
+NamesBehindNamed among s takes refuses buffers old new e = Named (behind_refusal among (described_map_refusal s.all_names takes refuses s.awaited)) true buffers old new e

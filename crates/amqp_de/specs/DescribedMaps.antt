@@ -3,7 +3,7 @@ use Rattle.std.specs.Prelude.{◌≡◌, ℕ, true, false, IsTrue, List, [], ◌
 use Rattle.std.proofs.Common.{refl, sym, subst}
 use Rattle.amqp_base.specs.declared.shape.Setting.TheVariants.{Plain, DescribedMap}
 use Rattle.amqp_base.specs.declared.shape.Shape.{Shape}
-use Rattle.amqp_base.specs.Describing.{same_as_itself, under_descriptor}
+use Rattle.amqp_base.specs.Describing.{Descriptors, same_as_itself, under_descriptor}
 use Rattle.amqp_base.specs.Item.{Descriptor, name, Item, scalar, list, map, array, described}
 use Rattle.amqp_base.specs.Meaning.{Meaning, Row, Field, at, row_of, option_of, newtype_of, struct_of, first_of, second_of, from_false}
 use Rattle.amqp_base.specs.NamedFields.{OneRow, takes_named, means_named, takes_map, means_map, takes_struct, means_struct}
@@ -155,7 +155,7 @@ struct_kept es = record {
 }
 
 -- a struct of these fields under a descriptor, as a map from their names
-abbrev pub described_map_of : {V : Type 0} → Descriptor → List {1} (Entry V) → Meaning V
-described_map_of d es =
+abbrev pub described_map_of : {V : Type 0} → Descriptors → List {1} (Entry V) → Meaning V
+described_map_of ds es =
     let row = row_of (fields_of es) in
-    under_descriptor d (described_map_refusal row.names row.takes row.refuses (all_awaited row.names)) (named_of (fields_of es) (each_kept es))
+    under_descriptor ds (described_map_refusal row.names row.takes row.refuses (all_awaited row.names)) (named_of (fields_of es) (each_kept es))

@@ -1,15 +1,17 @@
 -- A descriptor in front of a value.
-use Rattle.std.specs.Prelude.{◌≡◌, ℕ, ◌+◌, ◌*◌, ◌≤◌, Bool, true, false, List, ◌∷◌, ◌++◌, length, Some, Ok}
+use Rattle.std.specs.Prelude.{◌≡◌, ℕ, ◌+◌, ◌*◌, ◌≤◌, ◌⊎◌, Bool, true, false, List, ◌∷◌, ◌++◌, length, Some, Ok, Err}
 use Rattle.amqp_base.specs.declared.error.Error.{Error}
-use Rattle.amqp_base.specs.Describing.{is_described, describing_at}
+use Rattle.amqp_base.specs.Describing.{is_described, describing_at, is_behind, DescribedThen}
 use Rattle.amqp_base.specs.Item.{Descriptor, Item, described}
 use Rattle.amqp_base.specs.Laws.{items_under}
+use Rattle.amqp_base.specs.Refusals.{IsMessage, StandsFor}
+use Rattle.amqp_base.specs.Refusing.{Refusing}
 use Rattle.amqp_base.specs.Wire.{Wire, lenient, DescriptorText}
 use Rattle.amqp_read.specs.Reading.{Reading, Takes}
 use Rattle.amqp_data.specs.Arrays.{RejectsFor}
 use Rattle.amqp_data.specs.Parts.{shared_by}
 use Rattle.amqp_de.specs.Decoding.{Decoding, stands_under}
-use Rattle.amqp_de.specs.Law.{Missed, free, refused_free}
+use Rattle.amqp_de.specs.Law.{Missed, Named, free, refused_free}
 use Rattle.amqp_de.specs.Look.{looked_at}
 
 -- 0x00 and a descriptor were consumed
@@ -45,3 +47,22 @@ pub record Describes (d : Descriptor) (old new : Decoding) : Type 0 where
 pub record NoDescriptor (buffers : Bool) (old new : Decoding) (e : Error) : Type 0 where
   pub missed : Missed is_described true buffers old new e
   pub rejects : old.ended ≡ false → RejectsFor (λ custom. describing_at custom (stands_under old)) buffers old.reading new.reading e
+
+-- ---- one of the descriptors that are wanted
+
+-- it was answered
+pub record DescribesAmong (among : Descriptor → Bool) (old new : Decoding) : Type 0 where
+  pub descriptor : Descriptor
+  pub describes : Describes descriptor old new
+  pub wanted : among descriptor ≡ true
+
+-- none is seen there, or another one, which is a message
+unfoldable pub none_among : (Descriptor → Bool) → Refusing
+none_among among c s e =
+    ((custom : Error) → StandsFor custom e → describing_at custom c s ≡ Err e)
+    ⊎ DescribedThen (λ f rest. (among f.descriptor ≡ false) × IsMessage e) c s
+
+-- it was not: no item stands there behind one of them; and this is the refusal
+pub record DescribesNone (among : Descriptor → Bool) (buffers : Bool) (old new : Decoding) (e : Error) : Type 0 where
+  pub missed : Missed (is_behind among (λ _. true)) true buffers old new e
+  pub named : Named (none_among among) true buffers old new e

@@ -6,8 +6,8 @@ use Rattle.amqp_base.specs.Meaning.{Meaning}
 use Rattle.amqp_de.specs.declared.identifiers.Identifier.{Identifier as OwnIdentifier}
 use Rattle.amqp_de.specs.declared.variants.Choice.{Choice}
 use Rattle.amqp_de.specs.declared.variants.Choice.TheVariants as at
-use Rattle.amqp_de.specs.declared.variants.Payload.{Payload}
-use Rattle.amqp_de.specs.declared.variants.Payload.TheVariants as holds
+use Rattle.amqp_de.specs.declared.variants.Held.{Held}
+use Rattle.amqp_de.specs.declared.variants.Held.TheVariants as holds
 use Rattle.amqp_de.specs.Access.{Listing}
 use Rattle.amqp_de.specs.Calls.{IsRead, IsRefused, IsNamed}
 use Rattle.amqp_de.specs.Decoding.{Decoding, as_ended}
@@ -21,7 +21,7 @@ use Rattle.amqp_de.specs.VariantsRead.{tagging_of, payload_of, VariantRead, NoVa
 
 -- which variant it is, once
 abbrev pub VariantAnswer : Bool → Choice → Listing → Result OwnIdentifier Error → Choice → Listing → Type 0
-VariantAnswer buffers (at.Before t) old (Ok k) next new = (p : Payload) × (next ≡ at.Holds p) × VariantRead (tagging_of t) (identifier_of k) (payload_of p) old.state new
+VariantAnswer buffers (at.Before t) old (Ok k) next new = (p : Held) × (next ≡ at.Holds p) × VariantRead (tagging_of t) (identifier_of k) (payload_of p) old.state new
 VariantAnswer buffers (at.Before t) old (Err e) next new = NoVariant (tagging_of t) buffers old.state new.state e
 VariantAnswer buffers (at.Holds p) old r next new = OutOfOrder old r new
 

@@ -25,8 +25,8 @@ use Rattle.amqp_de.specs.declared.list.Access.{Access}
 use Rattle.amqp_de.specs.declared.list.Open.{Open}
 use Rattle.amqp_de.specs.declared.variants.Choice.{Choice}
 use Rattle.amqp_de.specs.declared.variants.Choice.TheVariants as at
-use Rattle.amqp_de.specs.declared.variants.Payload.{Payload}
-use Rattle.amqp_de.specs.declared.variants.Payload.TheVariants as holds
+use Rattle.amqp_de.specs.declared.variants.Held.{Held}
+use Rattle.amqp_de.specs.declared.variants.Held.TheVariants as holds
 use Rattle.amqp_de.specs.declared.variants.Tag.{Tag}
 use Rattle.amqp_de.specs.declared.variants.Tag.TheVariants as tag
 use Rattle.amqp_de.specs.declared.variants.Tagging.{Tagging}
@@ -38,7 +38,7 @@ tagging_of by.Untagged = base.untagged
 tagging_of by.Value = base.of_value
 tagging_of by.Descriptor = base.of_descriptor
 
-abbrev pub payload_of : Payload → base.Payload
+abbrev pub payload_of : Held → base.Payload
 payload_of holds.Nothing = base.nothing
 payload_of holds.Second = base.second
 payload_of holds.Itself = base.itself

@@ -13,8 +13,7 @@ ghost use Rattle.amqp_de.specs.Law.{Missed, Named};
 ghost use Rattle.amqp_de.specs.Steps.{Stops};
 ghost use Rattle.amqp_types.specs.Descriptors.{descriptor_of};
 
-use crate::described_fields::is_same;
-use crate::{Deserialize, Deserializer, FromVariant};
+use crate::{DescriptorSet, Deserialize, Deserializer, FromVariant};
 use amqp_base::{EncodingCodes, Error, NoVariant, OneOf};
 use amqp_read::Read;
 use amqp_types::Descriptor;
@@ -78,20 +77,25 @@ impl<R: Read> DescribedVariants<R> for () {
 /// A variant under its descriptor, which holds a `T` that is read behind it, and the variants
 /// behind it.
 #[derive(Drop)]
-pub struct DescribedVariant<'d, T, Rest> {
-    /// Its descriptor.
-    pub descriptor: &'d Descriptor,
+pub struct DescribedVariant<'d, D, T, Rest> {
+    /// Its descriptor, or those that it is read behind.
+    pub descriptor: &'d D,
     /// What it holds.
     pub held: PhantomData<T>,
     /// The variants behind it.
     pub rest: Rest,
 }
 
-impl<'d, R: Read, T: Deserialize<R>, Rest: DescribedVariants<R>> DescribedVariants<R>
-    for DescribedVariant<'d, T, Rest> {
+impl<
+    'd,
+    R: Read,
+    D: DescriptorSet,
+    T: Deserialize<R>,
+    Rest: DescribedVariants<R>,
+> DescribedVariants<R> for DescribedVariant<'d, D, T, Rest> {
     type Value = OneOf<T, Rest::Value>;
 
-    ghost variants = { λ v. first_behind (descriptor_of v.descriptor.now) T.meaning
+    ghost variants = { λ v. first_behind (D.among v.descriptor.now) T.meaning
         (Rest.variants v.rest) };
 
     #[inline(always)]
@@ -101,7 +105,7 @@ impl<'d, R: Read, T: Deserialize<R>, Rest: DescribedVariants<R>> DescribedVarian
         descriptor: &Descriptor,
         de: &mut Deserializer<R>,
     ) -> Result<OneOf<T, Rest::Value>, Error> {
-        if is_same(self.descriptor, descriptor) {
+        if self.descriptor.contains(descriptor) {
             return match T::deserialize(alloc, de) {
                 Ok(value) => Ok(OneOf::This(value)),
                 Err(e) => Err(e),
@@ -206,9 +210,9 @@ impl<R: Read> Deserializer<R> {
 }
 
 /// Reads an enum by its descriptors: `read_described_enum!(de, alloc, { &Descriptor::Code(0x70) =>
-/// Header, &Descriptor::Code(0x75) => Data })` calls
+/// Header, &CodeOrName(0x75, "amqp:data:binary") => Data })` calls
 /// `Deserializer::deserialize_described_enum_as` with all its variants in their order, each with
-/// its descriptor and the type that it holds, which is read behind this descriptor.
+/// its descriptor, or its code and its name, and the type that it holds, which is read behind it.
 #[macro_export]
 macro_rules! read_described_enum {
     ($de:expr, $alloc:expr, { $($descriptor:expr => $held:ty),+ $(,)? } $(,)?) => {

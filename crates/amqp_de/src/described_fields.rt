@@ -1,7 +1,6 @@
 //! Structs under a descriptor, read by their fields.
 
 ghost use Rattle.std.specs.Prelude.{◌≡◌, false, true, IsTrue, IfOk, IfErr, OnOk, OnErr};
-ghost use Rattle.amqp_base.specs.Canon.{same_descriptor};
 ghost use Rattle.amqp_base.specs.Codes.{Kind, row};
 ghost use Rattle.amqp_de.specs.Calls.{NamedRead, NamedRefused};
 ghost use Rattle.amqp_de.specs.DescribedFields.{ListRead, ListMissed, ListBehindNamed};
@@ -11,40 +10,13 @@ ghost use Rattle.amqp_de.specs.DescribedFields.{FieldsBehindNamed};
 ghost use Rattle.amqp_de.specs.DescribedFields.{NamesBehind, NamesBehindRefused, NamesBehindNamed};
 ghost use Rattle.amqp_de.specs.ReadFields.{Filled};
 ghost use Rattle.amqp_de.specs.Steps.{Stops};
-ghost use Rattle.amqp_types.specs.Descriptors.{descriptor_of};
 
 use crate::structs::is_map;
-use crate::{Deserializer, Fields};
+use crate::{DescriptorSet, Deserializer, Fields};
 use amqp_base::{EncodingCodes, Error};
 use amqp_read::Read;
-use amqp_types::Descriptor;
 use std::alloc::Global;
 use std::mem;
-
-/// Whether two descriptors are the same.
-#[inline(always)]
-pub(crate) fn is_same(wanted: &Descriptor, found: &Descriptor) -> bool
-    ensures { result ≡ same_descriptor (descriptor_of wanted.now) (descriptor_of found.now) }
-{
-    match wanted {
-        Descriptor::Name(name) => match found {
-            Descriptor::Name(other) => name.as_str() == other.as_str(),
-            Descriptor::Code(_) => false,
-        },
-        Descriptor::Code(code) => match found {
-            Descriptor::Name(_) => false,
-            Descriptor::Code(other) => *code == *other,
-        },
-    }
-}
-
-/// Whether a descriptor is the one that is wanted.
-#[inline(always)]
-pub(crate) fn is_wanted(wanted: &Descriptor, found: Descriptor) -> bool
-    ensures { result ≡ same_descriptor (descriptor_of wanted.now) (descriptor_of found) }
-{
-    is_same(wanted, &found)
-}
 
 /// Whether a code is a list's.
 #[inline(always)]
@@ -93,37 +65,31 @@ impl<R: Read> Deserializer<R> {
     /// elements, each of the fields that are left is what its type reads from null (section 1.4).
     ///
     /// In this order: the refusals of `deserialize_descriptor`, `Message` where the descriptor is
-    /// another one, `Io(UnexpectedEof)` where there is no byte behind it, `InvalidFormatCode` where
-    /// it is no code, `Message` where it is no list's code, the refusals of a list's header,
+    /// none of these, `Io(UnexpectedEof)` where there is no byte behind it, `InvalidFormatCode`
+    /// where it is no code, `Message` where it is no list's code, the refusals of a list's header,
     /// `SequenceLengthMismatch` where it has more elements than there are fields, then the refusals
     /// of the fields. A refusal ends the deserializer.
     #[inline(always)]
-    pub fn deserialize_described_fields<S: Fields<R> + Drop>(
+    pub fn deserialize_described_fields<S: Fields<R> + Drop, D: DescriptorSet>(
         &mut self,
         alloc: Global,
-        descriptor: &Descriptor,
+        descriptor: &D,
         fields: S,
     ) -> Result<S::Values, Error>
-        ensures ok { IfOk result (λ vs. FieldsBehind (descriptor_of descriptor.now)
+        ensures ok { IfOk result (λ vs. FieldsBehind (D.among descriptor.now)
             (S.slots fields) vs self.old self.new) }
-        ensures err { IfErr result (λ e. FieldsBehindRefused (descriptor_of descriptor.now)
+        ensures err { IfErr result (λ e. FieldsBehindRefused (D.among descriptor.now)
             (S.slots fields) R.buffers self.old self.new e) }
-        ensures named { IfErr result (λ e. FieldsBehindNamed (descriptor_of descriptor.now)
+        ensures named { IfErr result (λ e. FieldsBehindNamed (D.among descriptor.now)
             (S.slots fields) S.takes S.refuses R.buffers self.old self.new e) }
         ensures stops { Stops self.old result self.new }
     {
         let mut slots = fields;
-        match self.deserialize_descriptor(alloc) {
-            Ok(found) => {
-                if !is_wanted(descriptor, found) {
-                    self.stop();
-                    return Err(Error::custom(alloc, "another descriptor"));
-                }
-                match self.read_list_behind(alloc, &mut slots) {
-                    Ok(()) => {}
-                    Err(e) => return Err(e),
-                }
-            }
+        match self.begin_behind(alloc, descriptor) {
+            Ok(()) => match self.read_list_behind(alloc, &mut slots) {
+                Ok(()) => {}
+                Err(e) => return Err(e),
+            },
             Err(e) => return Err(e),
         }
         match slots.take_values() {
@@ -173,37 +139,31 @@ impl<R: Read> Deserializer<R> {
     /// it (section 1.6.23) of just their names as strings, each once, in any order.
     ///
     /// In this order: the refusals of `deserialize_descriptor`, `Message` where the descriptor is
-    /// another one, `Io(UnexpectedEof)` where there is no byte behind it, `InvalidFormatCode` where
-    /// it is no code, `Message` where it is no map's code, the refusals of `deserialize_map`, then
-    /// those of `deserialize_fields` for the pairs of a map. A refusal ends the deserializer.
+    /// none of these, `Io(UnexpectedEof)` where there is no byte behind it, `InvalidFormatCode`
+    /// where it is no code, `Message` where it is no map's code, the refusals of `deserialize_map`,
+    /// then those of `deserialize_fields` for the pairs of a map. A refusal ends the deserializer.
     #[inline(always)]
-    pub fn deserialize_described_map<S: Fields<R> + Drop>(
+    pub fn deserialize_described_map<S: Fields<R> + Drop, D: DescriptorSet>(
         &mut self,
         alloc: Global,
-        descriptor: &Descriptor,
+        descriptor: &D,
         fields: S,
     ) -> Result<S::Values, Error>
     where
         S::Values: Drop,
-        ensures ok { IfOk result (λ vs. NamesBehind (descriptor_of descriptor.now)
+        ensures ok { IfOk result (λ vs. NamesBehind (D.among descriptor.now)
             (S.slots fields) vs self.old self.new) }
-        ensures err { IfErr result (λ e. NamesBehindRefused (descriptor_of descriptor.now)
+        ensures err { IfErr result (λ e. NamesBehindRefused (D.among descriptor.now)
             (S.slots fields) R.buffers self.old self.new e) }
-        ensures named { IfErr result (λ e. NamesBehindNamed (descriptor_of descriptor.now)
+        ensures named { IfErr result (λ e. NamesBehindNamed (D.among descriptor.now)
             (S.slots fields) S.takes S.refuses R.buffers self.old self.new e) }
         ensures stops { Stops self.old result self.new }
     {
-        match self.deserialize_descriptor(alloc) {
-            Ok(found) => {
-                if !is_wanted(descriptor, found) {
-                    self.stop();
-                    return Err(Error::custom(alloc, "another descriptor"));
-                }
-                match self.read_map_behind(alloc, fields) {
-                    Ok(values) => return Ok(values),
-                    Err(e) => return Err(e),
-                }
-            }
+        match self.begin_behind(alloc, descriptor) {
+            Ok(()) => match self.read_map_behind(alloc, fields) {
+                Ok(values) => return Ok(values),
+                Err(e) => return Err(e),
+            },
             Err(e) => return Err(e),
         }
     }
@@ -212,7 +172,8 @@ impl<R: Read> Deserializer<R> {
 /// Reads a struct under a descriptor, as a list of its fields:
 /// `read_described!(de, alloc, &descriptor, Sensor { id, unit })` calls
 /// `Deserializer::deserialize_described_fields` with the names that `read_fields!` gives them, and
-/// answers the struct of what was read. A struct may have none: `Accepted {}`.
+/// answers the struct of what was read. The descriptor is a `Descriptor`, or a `CodeOrName`. A
+/// struct may have no fields: `Accepted {}`.
 #[macro_export]
 macro_rules! read_described {
     ($de:expr, $alloc:expr, $descriptor:expr, $name:ident {

@@ -12,7 +12,7 @@ use std::collections::BTreeMap;
 use std::hash::Hash;
 
 /// A map into which pairs are put one after the other.
-trait Entries<K, V> {
+trait PutsEntry<K, V> {
     ghost use Rattle.std.specs.Prelude.{◌≡◌, List, IsTrue};
 
     /// Its pairs, in its order.
@@ -26,7 +26,7 @@ trait Entries<K, V> {
         ensures { IsTrue result → entries self.new ≡ placed (entries self.old) key value };
 }
 
-impl<K: Eq + Hash + Drop, V: Drop> Entries<K, V> for OrderedMap<K, V> {
+impl<K: Eq + Hash + Drop, V: Drop> PutsEntry<K, V> for OrderedMap<K, V> {
     ghost use Rattle.indexmap.specs.IndexMap.{insert_entry};
 
     ghost entries = { λ map. map };
@@ -40,7 +40,7 @@ impl<K: Eq + Hash + Drop, V: Drop> Entries<K, V> for OrderedMap<K, V> {
     }
 }
 
-impl<K: Ord + Drop, V: Drop> Entries<K, V> for BTreeMap<K, V> {
+impl<K: Ord + Drop, V: Drop> PutsEntry<K, V> for BTreeMap<K, V> {
     ghost use Rattle.std.specs.BTreeMap.{insert_entry};
 
     ghost entries = { λ map. map.entries };
@@ -65,7 +65,7 @@ impl<R: Read> Deserializer<R> {
     where
         K: Deserialize<R>,
         V: Deserialize<R>,
-        M: Entries<K, V> + Drop,
+        M: PutsEntry<K, V> + Drop,
         requires { M.entries empty ≡ [] }
         ensures ok { IfOk result (λ map. EntriesRead K.meaning V.meaning M.placed (M.entries map)
             self.old self.new) }

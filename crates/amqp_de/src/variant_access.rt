@@ -14,7 +14,7 @@ ghost use Rattle.amqp_de.specs.contracts.deserializer.Deserializer.{the_row};
 
 use crate::identifiers::Identifier;
 use crate::list::{Access, Elements, Open};
-use crate::variants::{Choice, Opened, Payload};
+use crate::variants::{Choice, Held, Opened};
 use crate::{Deserialize, Deserializer, ListAccess, StructAccess};
 use amqp_base::Error;
 use amqp_read::Read;
@@ -33,7 +33,7 @@ impl<R: Read> Deserializer<R> {
             return Err(Error::InvalidValue);
         }
         match choice {
-            Choice::Holds(Payload::Nothing) => {
+            Choice::Holds(Held::Nothing) => {
                 self.ended = false;
                 Ok(())
             }
@@ -58,7 +58,7 @@ impl<R: Read> Deserializer<R> {
             return Err(Error::InvalidValue);
         }
         match choice {
-            Choice::Holds(Payload::Second) => match T::deserialize(alloc, self) {
+            Choice::Holds(Held::Second) => match T::deserialize(alloc, self) {
                 Ok(value) => {
                     let Open {
                         left: _,
@@ -73,14 +73,14 @@ impl<R: Read> Deserializer<R> {
                     Err(e)
                 }
             },
-            Choice::Holds(Payload::Itself) => match T::deserialize(alloc, self) {
+            Choice::Holds(Held::Itself) => match T::deserialize(alloc, self) {
                 Ok(value) => Ok(value),
                 Err(e) => {
                     self.stop();
                     Err(e)
                 }
             },
-            Choice::Holds(Payload::Nothing) => {
+            Choice::Holds(Held::Nothing) => {
                 self.stop();
                 Err(Error::InvalidFormatCode)
             }
@@ -101,7 +101,7 @@ impl<R: Read> Deserializer<R> {
             NoFields len R.buffers choice (at_open self.old pair) self.new e) }
     {
         match choice {
-            Choice::Holds(Payload::Second) => match self.open_tuple(len) {
+            Choice::Holds(Held::Second) => match self.open_tuple(len) {
                 Ok(fields) => Ok(Open {
                     left: fields.left,
                     outer: pair.outer,
@@ -109,11 +109,11 @@ impl<R: Read> Deserializer<R> {
                 }),
                 Err(e) => Err(e),
             },
-            Choice::Holds(Payload::Itself) => match self.open_tuple(len) {
+            Choice::Holds(Held::Itself) => match self.open_tuple(len) {
                 Ok(fields) => Ok(fields),
                 Err(e) => Err(e),
             },
-            Choice::Holds(Payload::Nothing) => Err(self.refuse_held(Error::InvalidFormatCode)),
+            Choice::Holds(Held::Nothing) => Err(self.refuse_held(Error::InvalidFormatCode)),
             Choice::Before(_) => Err(self.refuse_held(Error::InvalidValue)),
         }
     }

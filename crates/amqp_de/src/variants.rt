@@ -44,7 +44,7 @@ pub enum Tagging {
 
 /// What a variant holds.
 #[derive(Clone, Copy)]
-pub enum Payload {
+pub enum Held {
     /// Nothing: its index or its name is all of it.
     Nothing,
     /// The second item of a pair.
@@ -59,7 +59,7 @@ pub enum Choice {
     /// Which variant it is comes first.
     Before(Tagging),
     /// What it holds is left.
-    Holds(Payload),
+    Holds(Held),
 }
 
 /// The variant of an enum: which of them it is, and then what it holds. Where the access is dropped
@@ -70,7 +70,7 @@ pub type VariantAccess<'a, R> = Access<'a, R, Choice>;
 #[derive(Drop)]
 pub(crate) struct Opened {
     pub(crate) identifier: Identifier,
-    pub(crate) payload: Payload,
+    pub(crate) payload: Held,
     pub(crate) inner: Open,
 }
 
@@ -78,11 +78,11 @@ pub(crate) struct Opened {
 #[inline(always)]
 fn itself(identifier: Identifier) -> Opened
     ensures identifier { result.identifier ≡ identifier }
-    ensures payload { result.payload ≡ Payload.Itself }
+    ensures payload { result.payload ≡ Held.Itself }
 {
     Opened {
         identifier,
-        payload: Payload::Itself,
+        payload: Held::Itself,
         inner: unread(),
     }
 }
@@ -91,14 +91,14 @@ fn itself(identifier: Identifier) -> Opened
 #[inline(always)]
 fn second(identifier: Identifier, pair: Open) -> Opened
     ensures identifier { result.identifier ≡ identifier }
-    ensures payload { result.payload ≡ Payload.Second }
+    ensures payload { result.payload ≡ Held.Second }
     ensures left { result.inner.left ≡ 1 }
     ensures outer { result.inner.outer ≡ pair.outer }
     ensures limit { result.inner.limit ≡ pair.limit }
 {
     Opened {
         identifier,
-        payload: Payload::Second,
+        payload: Held::Second,
         inner: Open {
             left: 1,
             outer: pair.outer,
@@ -126,15 +126,15 @@ fn tagging_of(name: &'static str) -> Tagging
 
 /// What a variant of an untagged enum holds.
 #[inline(always)]
-fn held_by(identifier: &Identifier) -> Payload
+fn held_by(identifier: &Identifier) -> Held
     ensures { payload_of result ≡ held_by (identifier_of identifier.now) }
 {
     match identifier {
-        Identifier::Index(_) => Payload::Nothing,
-        Identifier::Name(_) => Payload::Nothing,
-        Identifier::DescriptorName(_) => Payload::Itself,
-        Identifier::DescriptorCode(_) => Payload::Itself,
-        Identifier::Code(_) => Payload::Itself,
+        Identifier::Index(_) => Held::Nothing,
+        Identifier::Name(_) => Held::Nothing,
+        Identifier::DescriptorName(_) => Held::Itself,
+        Identifier::DescriptorCode(_) => Held::Itself,
+        Identifier::Code(_) => Held::Itself,
     }
 }
 
@@ -306,7 +306,7 @@ impl<R: Read> Deserializer<R> {
                 Tag::Key => match self.read_key(alloc) {
                     Ok(key) => Ok(Opened {
                         identifier: named_by(key),
-                        payload: Payload::Nothing,
+                        payload: Held::Nothing,
                         inner: unread(),
                     }),
                     Err(e) => Err(e),

@@ -14,6 +14,7 @@ mod described;
 mod described_enums;
 mod described_fields;
 mod described_structs;
+mod descriptors;
 mod deserializer;
 mod fixed;
 mod frames;

@@ -1,13 +1,13 @@
 //! A section of a message: a value under a descriptor (part 3, section 3.2.6).
 
-ghost use Rattle.std.specs.Prelude.{refl};
-ghost use Rattle.amqp_base.specs.Item.{code};
+ghost use Rattle.std.specs.Prelude.{codes, refl};
+ghost use Rattle.amqp_base.specs.Describing.{code_or_name};
 ghost use Rattle.amqp_de.specs.DescribedValues.{described_value_of};
 
 use serde_amqp::primitives::Binary;
 use serde_amqp::{
-    Descriptor, Deserialize, Deserializer, Error, NeverNull, Read, RoundTrip, Serialize,
-    Serializer, Sink, Typed,
+    CodeOrName, Descriptor, Deserialize, Deserializer, Error, NeverNull, Read, RoundTrip,
+    Serialize, Serializer, Sink, Typed,
 };
 use std::alloc::Global;
 
@@ -16,7 +16,8 @@ use std::alloc::Global;
 pub struct Data(pub Binary);
 
 impl Typed for Data {
-    ghost meaning = { described_value_of (code 0x75) ⟦<Binary as Typed>⟧.meaning (λ v. v.0) };
+    ghost meaning = { described_value_of (code_or_name 0x75 (codes "amqp:data:binary"))
+        ⟦<Binary as Typed>⟧.meaning (λ v. v.0) };
 }
 
 impl RoundTrip for Data {
@@ -35,6 +36,6 @@ impl Serialize for Data {
 
 impl<R: Read> Deserialize<R> for Data {
     fn deserialize(alloc: Global, de: &mut Deserializer<R>) -> Result<Data, Error> {
-        Ok(Data(de.deserialize_described(alloc, &Descriptor::Code(0x75))?))
+        Ok(Data(de.deserialize_described(alloc, &CodeOrName(0x75, "amqp:data:binary"))?))
     }
 }

@@ -2,16 +2,16 @@
 //! also without fields, and an enum of them.
 
 ghost use Rattle.std.specs.Prelude.{◌∷◌, [], codes, refl};
-ghost use Rattle.amqp_base.specs.Item.{code};
-ghost use Rattle.amqp_base.specs.Describing.{described_list_of};
+ghost use Rattle.amqp_base.specs.Describing.{code_or_name, described_list_of};
 ghost use Rattle.amqp_base.specs.Meaning.{row_of, at};
 ghost use Rattle.amqp_base.specs.declared.one_of.OneOf.TheVariants.{This, Other};
 ghost use Rattle.amqp_de.specs.DescribedEnums.{described_enum_of, behind, no_variant, ◌or◌};
 
 use serde_amqp::de::{FromVariant, NoVariant, OneOf};
 use serde_amqp::{
-    Descriptor, Deserialize, Deserializer, Error, NeverNull, Read, RoundTrip, Serialize,
-    Serializer, Sink, Typed, read_described, read_described_enum, variant_of, write_described,
+    CodeOrName, Descriptor, Deserialize, Deserializer, Error, NeverNull, Read, RoundTrip,
+    Serialize, Serializer, Sink, Typed, read_described, read_described_enum, variant_of,
+    write_described,
 };
 use std::alloc::Global;
 
@@ -25,7 +25,7 @@ pub struct Received {
 }
 
 impl Typed for Received {
-    ghost meaning = { described_list_of (code 0x23) (row_of (
+    ghost meaning = { described_list_of (code_or_name 0x23 (codes "amqp:received:list")) (row_of (
         at (codes "section_number") ⟦<u32 as Typed>⟧.meaning (λ v. v.section_number) ∷
         at (codes "section_offset") ⟦<u64 as Typed>⟧.meaning (λ v. v.section_offset) ∷
         [])) };
@@ -59,7 +59,7 @@ impl<R: Read> Deserialize<R> for Received {
         read_described!(
             de,
             alloc,
-            &Descriptor::Code(0x23),
+            &CodeOrName(0x23, "amqp:received:list"),
             Received {
                 section_number,
                 section_offset
@@ -73,7 +73,8 @@ impl<R: Read> Deserialize<R> for Received {
 pub struct Accepted {}
 
 impl Typed for Accepted {
-    ghost meaning = { described_list_of (code 0x24) (row_of []) };
+    ghost meaning = { described_list_of (code_or_name 0x24 (codes "amqp:accepted:list"))
+        (row_of []) };
 }
 
 impl RoundTrip for Accepted {
@@ -92,7 +93,12 @@ impl Serialize for Accepted {
 
 impl<R: Read> Deserialize<R> for Accepted {
     fn deserialize(alloc: Global, de: &mut Deserializer<R>) -> Result<Accepted, Error> {
-        read_described!(de, alloc, &Descriptor::Code(0x24), Accepted {})
+        read_described!(
+            de,
+            alloc,
+            &CodeOrName(0x24, "amqp:accepted:list"),
+            Accepted {}
+        )
     }
 }
 
@@ -107,8 +113,10 @@ pub enum DeliveryState {
 
 impl Typed for DeliveryState {
     ghost meaning = { described_enum_of (
-        behind (code 0x23) ⟦<Received as Typed>⟧.meaning (λ _. refl) or
-        behind (code 0x24) ⟦<Accepted as Typed>⟧.meaning (λ _. refl) or
+        behind (code_or_name 0x23 (codes "amqp:received:list"))
+        ⟦<Received as Typed>⟧.meaning (λ _. refl) or
+        behind (code_or_name 0x24 (codes "amqp:accepted:list"))
+        ⟦<Accepted as Typed>⟧.meaning (λ _. refl) or
         no_variant) ⟦<DeliveryState as FromVariant>⟧.which };
 }
 
@@ -147,8 +155,8 @@ impl Serialize for DeliveryState {
 impl<R: Read> Deserialize<R> for DeliveryState {
     fn deserialize(alloc: Global, de: &mut Deserializer<R>) -> Result<DeliveryState, Error> {
         read_described_enum!(de, alloc, {
-            &Descriptor::Code(0x23) => Received,
-            &Descriptor::Code(0x24) => Accepted,
+            &CodeOrName(0x23, "amqp:received:list") => Received,
+            &CodeOrName(0x24, "amqp:accepted:list") => Accepted,
         })
     }
 }

@@ -1,13 +1,12 @@
 //! The header of a message (part 3, section 3.2.1), as far as it is known here.
 
 ghost use Rattle.std.specs.Prelude.{◌∷◌, [], codes, refl};
-ghost use Rattle.amqp_base.specs.Item.{code};
-ghost use Rattle.amqp_base.specs.Describing.{described_list_of};
+ghost use Rattle.amqp_base.specs.Describing.{code_or_name, described_list_of};
 ghost use Rattle.amqp_base.specs.Meaning.{row_of, at};
 
 use serde_amqp::{
-    Descriptor, Deserialize, Deserializer, Error, NeverNull, Read, RoundTrip, Serialize,
-    Serializer, Sink, Typed, read_described, write_described,
+    CodeOrName, Descriptor, Deserialize, Deserializer, Error, NeverNull, Read, RoundTrip,
+    Serialize, Serializer, Sink, Typed, read_described, write_described,
 };
 use std::alloc::Global;
 
@@ -24,7 +23,7 @@ pub struct Header {
 }
 
 impl Typed for Header {
-    ghost meaning = { described_list_of (code 0x70) (row_of (
+    ghost meaning = { described_list_of (code_or_name 0x70 (codes "amqp:header:list")) (row_of (
         at (codes "durable") ⟦<Option<bool> as Typed>⟧.meaning (λ v. v.durable) ∷
         at (codes "priority") ⟦<Option<u8> as Typed>⟧.meaning (λ v. v.priority) ∷
         at (codes "ttl") ⟦<Option<u32> as Typed>⟧.meaning (λ v. v.ttl) ∷ [])) };
@@ -59,7 +58,7 @@ impl<R: Read> Deserialize<R> for Header {
         read_described!(
             de,
             alloc,
-            &Descriptor::Code(0x70),
+            &CodeOrName(0x70, "amqp:header:list"),
             Header {
                 durable,
                 priority,

@@ -2,13 +2,12 @@
 //! 2.7.1).
 
 ghost use Rattle.std.specs.Prelude.{◌∷◌, [], codes, refl};
-ghost use Rattle.amqp_base.specs.Item.{code};
-ghost use Rattle.amqp_base.specs.Describing.{described_list_of};
+ghost use Rattle.amqp_base.specs.Describing.{code_or_name, described_list_of};
 ghost use Rattle.amqp_base.specs.Meaning.{row_of, at};
 
 use serde_amqp::{
-    Descriptor, Deserialize, Deserializer, Error, NeverNull, Read, RoundTrip, Serialize,
-    Serializer, Sink, Typed, read_described, write_described,
+    CodeOrName, Descriptor, Deserialize, Deserializer, Error, NeverNull, Read, RoundTrip,
+    Serialize, Serializer, Sink, Typed, read_described, write_described,
 };
 use std::alloc::Global;
 
@@ -27,7 +26,7 @@ pub struct Open {
 }
 
 impl Typed for Open {
-    ghost meaning = { described_list_of (code 0x10) (row_of (
+    ghost meaning = { described_list_of (code_or_name 0x10 (codes "amqp:open:list")) (row_of (
         at (codes "container_id") ⟦<String as Typed>⟧.meaning (λ v. v.container_id) ∷
         at (codes "hostname") ⟦<Option<String> as Typed>⟧.meaning (λ v. v.hostname) ∷
         at (codes "max_frame_size") ⟦<Option<u32> as Typed>⟧.meaning
@@ -66,7 +65,7 @@ impl<R: Read> Deserialize<R> for Open {
         read_described!(
             de,
             alloc,
-            &Descriptor::Code(0x10),
+            &CodeOrName(0x10, "amqp:open:list"),
             Open {
                 container_id,
                 hostname,

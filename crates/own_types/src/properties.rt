@@ -3,7 +3,7 @@
 
 ghost use Rattle.std.specs.Prelude.{◌∷◌, [], codes, refl};
 ghost use Rattle.amqp_base.specs.Item.{code};
-ghost use Rattle.amqp_base.specs.Describing.{described_list_of};
+ghost use Rattle.amqp_base.specs.Describing.{described_list_of, just};
 ghost use Rattle.amqp_base.specs.Meaning.{row_of, at};
 
 use serde_amqp::primitives::{Binary, Symbol, Timestamp};
@@ -46,7 +46,7 @@ pub struct Properties {
 }
 
 impl Typed for Properties {
-    ghost meaning = { described_list_of (code 0x73) (row_of (
+    ghost meaning = { described_list_of (just (code 0x73)) (row_of (
         at (codes "message_id") ⟦<Option<u64> as Typed>⟧.meaning (λ v. v.message_id) ∷
         at (codes "user_id") ⟦<Option<Binary> as Typed>⟧.meaning (λ v. v.user_id) ∷
         at (codes "to") ⟦<Option<String> as Typed>⟧.meaning (λ v. v.to) ∷

@@ -3,7 +3,7 @@
 
 ghost use Rattle.std.specs.Prelude.{◌∷◌, [], codes, refl};
 ghost use Rattle.amqp_base.specs.Item.{code};
-ghost use Rattle.amqp_base.specs.Describing.{described_list_of};
+ghost use Rattle.amqp_base.specs.Describing.{described_list_of, just};
 ghost use Rattle.amqp_base.specs.Meaning.{row_of, at};
 
 use serde_amqp::primitives::{BinaryRef, SymbolRef};
@@ -26,7 +26,7 @@ pub struct SaslInit<'a> {
 }
 
 impl<'a> Typed for SaslInit<'a> {
-    ghost meaning = { described_list_of (code 0x41) (row_of (
+    ghost meaning = { described_list_of (just (code 0x41)) (row_of (
         at (codes "mechanism") ⟦<SymbolRef<'a> as Typed>⟧.meaning (λ v. v.mechanism) ∷
         at (codes "initial_response") ⟦<Option<BinaryRef<'a>> as Typed>⟧.meaning
         (λ v. v.initial_response) ∷

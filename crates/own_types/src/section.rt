@@ -1,15 +1,15 @@
 //! The sections of a message that are known here (part 3, section 3.2): an enum that is told by
 //! descriptor.
 
-ghost use Rattle.std.specs.Prelude.{refl};
-ghost use Rattle.amqp_base.specs.Item.{code};
+ghost use Rattle.std.specs.Prelude.{codes, refl};
+ghost use Rattle.amqp_base.specs.Describing.{code_or_name};
 ghost use Rattle.amqp_base.specs.declared.one_of.OneOf.TheVariants.{This, Other};
 ghost use Rattle.amqp_de.specs.DescribedEnums.{described_enum_of, behind, no_variant, ◌or◌};
 
 use crate::{Data, Header, Shipment};
 use serde_amqp::de::{FromVariant, NoVariant, OneOf};
 use serde_amqp::{
-    Descriptor, Deserialize, Deserializer, Error, NeverNull, Read, RoundTrip, Serialize,
+    CodeOrName, Deserialize, Deserializer, Error, NeverNull, Read, RoundTrip, Serialize,
     Serializer, Sink, Typed, read_described_enum, variant_of,
 };
 use std::alloc::Global;
@@ -27,9 +27,12 @@ pub enum Section {
 
 impl Typed for Section {
     ghost meaning = { described_enum_of (
-        behind (code 0x70) ⟦<Header as Typed>⟧.meaning (λ _. refl) or
-        behind (code 0x74) ⟦<Shipment as Typed>⟧.meaning (λ _. refl) or
-        behind (code 0x75) ⟦<Data as Typed>⟧.meaning (λ _. refl) or
+        behind (code_or_name 0x70 (codes "amqp:header:list"))
+        ⟦<Header as Typed>⟧.meaning (λ _. refl) or
+        behind (code_or_name 0x74 (codes "amqp:application-properties:map"))
+        ⟦<Shipment as Typed>⟧.meaning (λ _. refl) or
+        behind (code_or_name 0x75 (codes "amqp:data:binary"))
+        ⟦<Data as Typed>⟧.meaning (λ _. refl) or
         no_variant) ⟦<Section as FromVariant>⟧.which };
 }
 
@@ -70,9 +73,9 @@ impl Serialize for Section {
 impl<R: Read> Deserialize<R> for Section {
     fn deserialize(alloc: Global, de: &mut Deserializer<R>) -> Result<Section, Error> {
         read_described_enum!(de, alloc, {
-            &Descriptor::Code(0x70) => Header,
-            &Descriptor::Code(0x74) => Shipment,
-            &Descriptor::Code(0x75) => Data,
+            &CodeOrName(0x70, "amqp:header:list") => Header,
+            &CodeOrName(0x74, "amqp:application-properties:map") => Shipment,
+            &CodeOrName(0x75, "amqp:data:binary") => Data,
         })
     }
 }

@@ -2,13 +2,13 @@
 //! map under a descriptor.
 
 ghost use Rattle.std.specs.Prelude.{◌∷◌, [], codes, refl};
-ghost use Rattle.amqp_base.specs.Item.{code};
+ghost use Rattle.amqp_base.specs.Describing.{code_or_name};
 ghost use Rattle.amqp_de.specs.DescribedMaps.{described_map_of, entry};
 ghost use Rattle.amqp_de.specs.DescribedMaps.{as_ever, option_kept};
 
 use serde_amqp::{
-    Descriptor, Deserialize, Deserializer, Error, NeverNull, Read, RoundTrip, Serialize,
-    Serializer, Sink, Typed, read_described_map, write_described_map,
+    CodeOrName, Descriptor, Deserialize, Deserializer, Error, NeverNull, Read, RoundTrip,
+    Serialize, Serializer, Sink, Typed, read_described_map, write_described_map,
 };
 use std::alloc::Global;
 
@@ -26,7 +26,8 @@ pub struct Shipment {
 }
 
 impl Typed for Shipment {
-    ghost meaning = { described_map_of (code 0x74) (
+    ghost meaning = { described_map_of (
+        code_or_name 0x74 (codes "amqp:application-properties:map")) (
         entry (codes "order-number") ⟦<u64 as Typed>⟧.meaning (λ v. v.order) (as_ever refl) ∷
         entry (codes "carrier") ⟦<String as Typed>⟧.meaning (λ v. v.carrier) (as_ever refl) ∷
         entry (codes "fragile") ⟦<bool as Typed>⟧.meaning (λ v. v.fragile) (as_ever refl) ∷
@@ -64,7 +65,7 @@ impl<R: Read> Deserialize<R> for Shipment {
         read_described_map!(
             de,
             alloc,
-            &Descriptor::Code(0x74),
+            &CodeOrName(0x74, "amqp:application-properties:map"),
             Shipment {
                 order: "order-number",
                 carrier,

@@ -45,10 +45,10 @@ pub use amqp_base::{
     Source, StructEncoding, Typed, UNTAGGED_ENUM, UUID_WIDTH, VALUE,
 };
 pub use amqp_de::{
-    ArrayAccess, Chosen, DescribedAccess, Deserialize, Deserializer, Ended, Field, Fields,
-    FromVariant, Identifier, Ignored, ListAccess, MAX_NESTED, MapAccess, SeqAccess, StructAccess,
-    VariantAccess, read_described, read_described_enum, read_described_map, read_fields,
-    read_parts, read_variants, variant_of,
+    ArrayAccess, Chosen, CodeOrName, DescribedAccess, DescriptorSet, Deserialize, Deserializer,
+    Ended, Field, Fields, FromVariant, Identifier, Ignored, ListAccess, MAX_NESTED, MapAccess,
+    SeqAccess, StructAccess, VariantAccess, read_described, read_described_enum,
+    read_described_map, read_fields, read_parts, read_variants, variant_of,
 };
 pub use amqp_read::{IoReader, Read, SliceReader, read_const_bytes};
 use amqp_ser::{measured_size, measured_vec};

@@ -209,7 +209,7 @@ fn sections_are_elements(rt: HostRuntime) {
 }
 
 /// The data of a message, where no other section is known.
-fn only_data(descriptor: &Descriptor) -> DescribedVariant<'_, Data, ()> {
+fn only_data(descriptor: &Descriptor) -> DescribedVariant<'_, Descriptor, Data, ()> {
     DescribedVariant {
         descriptor,
         held: PhantomData,

@@ -16,7 +16,7 @@ returns-in_err-access-clause-err g c =
 pub pairs-init : goal.pairs-init
 pairs-init g c = record {
   same = refl;
-  sofar = entries_start g.K.Typed.meaning.means g.V.Typed.meaning.means g.M.Entries.placed _ _ _ _ _ (c.in_ok-access.ensures.pairs _ _) (search rules);
+  sofar = entries_start g.K.Typed.meaning.means g.V.Typed.meaning.means g.M.PutsEntry.placed _ _ _ _ _ (c.in_ok-access.ensures.pairs _ _) (search rules);
   reaches = reaches_start _ _ c.in_ok-access.ensures.plain;
 }
 
@@ -31,7 +31,7 @@ pairs-preserved g c =
     let m = pair_read v.sofar.reads (rw c.in-Some.is at c.in-Ok.ensures.next) in
     record {
       same = c.in-Ok.ensures.same_reference ∙ v.same;
-      sofar = entries_step g.K.Typed.meaning.means g.V.Typed.meaning.means g.M.Entries.placed _ _ _ _ _ _ _ _ _ v.sofar m (search rules);
+      sofar = entries_step g.K.Typed.meaning.means g.V.Typed.meaning.means g.M.PutsEntry.placed _ _ _ _ _ _ _ _ _ v.sofar m (search rules);
       reaches = reaches_pair _ _ _ _ _ _ _ v.reaches (rw c.in-Some.is at c.in-Ok.ensures.next);
     }
 
@@ -40,7 +40,7 @@ unfolding open_list
 returns-clause-ok g c =
     let s = c.pairs.invariant.sofar in
     let n = rw c.in_default.is at c.in-Ok.ensures.next in
-    found_at _ _ (search rules) (entries_found g.K.Typed.meaning.means g.V.Typed.meaning.means g.M.Entries.placed _ s.pairs _ _ _ (pairs_end s.reads n.1 c.in_ok-end.ensures.ends) s.meant)
+    found_at _ _ (search rules) (entries_found g.K.Typed.meaning.means g.V.Typed.meaning.means g.M.PutsEntry.placed _ s.pairs _ _ _ (pairs_end s.reads n.1 c.in_ok-end.ensures.ends) s.meant)
 
 -- no memory was there for a pair
 pub returns-then-not-put-clause-err : goal.returns-then-not-put-clause-err

@@ -8,7 +8,7 @@ use Rattle.amqp_de.proofs.deserializer.Deserializer.read_entries.Given as goal
 abbrev pub invariant-pairs : goal.invariant-pairs
 invariant-pairs g l = record {
   same : l.access.de.ghost_name ≡ l.initial.access.de.ghost_name;
-  sofar : EntriesSoFar g.K.Typed.meaning.means g.V.Typed.meaning.means g.M.Entries.placed l.fn.self g.K.Typed.meaning.takes g.V.Typed.meaning.takes (g.M.Entries.entries l.map) (open_list l.access);
+  sofar : EntriesSoFar g.K.Typed.meaning.means g.V.Typed.meaning.means g.M.PutsEntry.placed l.fn.self g.K.Typed.meaning.takes g.V.Typed.meaning.takes (g.M.PutsEntry.entries l.map) (open_list l.access);
   reaches : Reaches (turn_refusal g.K.Typed.meaning.takes g.K.Typed.meaning.refuses g.V.Typed.meaning.takes g.V.Typed.meaning.refuses) (turn_refusal g.K.Typed.meaning.takes g.K.Typed.meaning.refuses g.V.Typed.meaning.takes g.V.Typed.meaning.refuses) (open_list l.initial.access) (open_list l.access);
 }
 

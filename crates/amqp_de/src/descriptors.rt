@@ -1,0 +1,100 @@
+//! The descriptors behind which the values of a type are read.
+
+ghost use Rattle.std.specs.Prelude.{◌≡◌, IfOk, IfErr};
+ghost use Rattle.amqp_base.specs.Canon.{same_descriptor};
+ghost use Rattle.amqp_base.specs.Describing.{is_code_or_name};
+ghost use Rattle.amqp_de.specs.Describes.{DescribesAmong, DescribesNone};
+ghost use Rattle.amqp_de.specs.Steps.{Stops};
+ghost use Rattle.amqp_types.specs.Descriptors.{descriptor_of};
+
+use crate::Deserializer;
+use amqp_base::Error;
+use amqp_read::Read;
+use amqp_types::Descriptor;
+use std::alloc::Global;
+
+/// The descriptors behind which the values of a type are read (part 1, section 1.2): a `Descriptor`
+/// is just that one, a `CodeOrName` either of two.
+pub trait DescriptorSet {
+    ghost use Rattle.std.specs.Prelude.{◌≡◌, Bool};
+    ghost use Rattle.amqp_base.specs.Item.{Descriptor};
+    ghost use Rattle.amqp_types.specs.Descriptors.{descriptor_of};
+
+    /// Whether a descriptor is one of them.
+    ghost among: { Self → Descriptor → Bool };
+
+    /// Whether a descriptor is one of them.
+    fn contains(&self, descriptor: &Descriptor) -> bool
+        ensures { result ≡ among self.now (descriptor_of descriptor.now) };
+}
+
+impl DescriptorSet for Descriptor {
+    ghost among = { λ d. same_descriptor (descriptor_of d) };
+
+    #[inline(always)]
+    fn contains(&self, descriptor: &Descriptor) -> bool {
+        match self {
+            Descriptor::Name(name) => match descriptor {
+                Descriptor::Name(other) => name.as_str() == other.as_str(),
+                Descriptor::Code(_) => false,
+            },
+            Descriptor::Code(code) => match descriptor {
+                Descriptor::Name(_) => false,
+                Descriptor::Code(other) => *code == *other,
+            },
+        }
+    }
+}
+
+/// A type's numeric code and its symbolic name, of which a peer may write either:
+/// `CodeOrName(0x10, "amqp:open:list")`.
+#[derive(Debug, Clone, Copy, PartialEq, Eq)]
+pub struct CodeOrName<'a>(pub u64, pub &'a str);
+
+impl<'a> DescriptorSet for CodeOrName<'a> {
+    ghost among = { λ d. is_code_or_name d.0 d.1.now };
+
+    #[inline(always)]
+    fn contains(&self, descriptor: &Descriptor) -> bool {
+        let CodeOrName(code, name) = self;
+        match descriptor {
+            Descriptor::Name(other) => other.as_str() == *name,
+            Descriptor::Code(other) => *other == *code,
+        }
+    }
+}
+
+/// Whether a descriptor is one of those that are wanted.
+#[inline(always)]
+fn is_wanted<D: DescriptorSet>(wanted: &D, found: Descriptor) -> bool
+    ensures { result ≡ D.among wanted.now (descriptor_of found) }
+{
+    wanted.contains(&found)
+}
+
+impl<R: Read> Deserializer<R> {
+    /// Reads the descriptor of the next item, which is to be one of these: another one is a
+    /// `Message`. The next call reads the value behind it.
+    #[inline(always)]
+    pub(crate) fn begin_behind<D: DescriptorSet>(
+        &mut self,
+        alloc: Global,
+        wanted: &D,
+    ) -> Result<(), Error>
+        ensures ok { IfOk result (λ _. DescribesAmong (D.among wanted.now) self.old self.new) }
+        ensures err { IfErr result (λ e.
+            DescribesNone (D.among wanted.now) R.buffers self.old self.new e) }
+        ensures stops { Stops self.old result self.new }
+    {
+        match self.deserialize_descriptor(alloc) {
+            Ok(found) => {
+                if !is_wanted(wanted, found) {
+                    self.stop();
+                    return Err(Error::custom(alloc, "another descriptor"));
+                }
+                Ok(())
+            }
+            Err(e) => Err(e),
+        }
+    }
+}
