@@ -116,6 +116,7 @@ TYPES = PRIMITIVES | {
     "sasl-init": behind(0x41, Leading(mechanism=TEXT, initial_response=Maybe(BINARY), hostname=Maybe(STRING))),
     "shipment": behind(0x74, Named(**{"order-number": U64}, carrier=STRING, fragile=BOOL, note=Maybe(STRING)), "amqp:application-properties:map"),
     "data": DATA,
+    "selector": Described(STRING, [("symbol", b"apache.org:selector-filter:string")]),
     "array-data": Array(DATA),
     "enumeration": ENUMERATION,
     "switch": SWITCH,

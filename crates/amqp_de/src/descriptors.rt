@@ -3,6 +3,7 @@
 ghost use Rattle.std.specs.Prelude.{◌≡◌, IfOk, IfErr};
 ghost use Rattle.amqp_base.specs.Canon.{same_descriptor};
 ghost use Rattle.amqp_base.specs.Describing.{is_code_or_name};
+ghost use Rattle.amqp_base.specs.Item.{name};
 ghost use Rattle.amqp_de.specs.Describes.{DescribesAmong, DescribesNone};
 ghost use Rattle.amqp_de.specs.Steps.{Stops};
 ghost use Rattle.amqp_types.specs.Descriptors.{descriptor_of};
@@ -10,11 +11,11 @@ ghost use Rattle.amqp_types.specs.Descriptors.{descriptor_of};
 use crate::Deserializer;
 use amqp_base::Error;
 use amqp_read::Read;
-use amqp_types::Descriptor;
+use amqp_types::{Descriptor, SymbolRef};
 use std::alloc::Global;
 
 /// The descriptors behind which the values of a type are read (part 1, section 1.2): a `Descriptor`
-/// is just that one, a `CodeOrName` either of two.
+/// is just that one, a `SymbolRef` just that name, a `CodeOrName` either of two.
 pub trait DescriptorSet {
     ghost use Rattle.std.specs.Prelude.{◌≡◌, Bool};
     ghost use Rattle.amqp_base.specs.Item.{Descriptor};
@@ -42,6 +43,18 @@ impl DescriptorSet for Descriptor {
                 Descriptor::Name(_) => false,
                 Descriptor::Code(other) => *code == *other,
             },
+        }
+    }
+}
+
+impl DescriptorSet for SymbolRef<'_> {
+    ghost among = { λ s. same_descriptor (name s.0.now) };
+
+    #[inline(always)]
+    fn contains(&self, descriptor: &Descriptor) -> bool {
+        match descriptor {
+            Descriptor::Name(name) => self.as_str() == name.as_str(),
+            Descriptor::Code(_) => false,
         }
     }
 }

@@ -5,7 +5,8 @@ use crate::kind::Own;
 use crate::text::text;
 use own_types::{
     Accepted, Celsius, Colour, Data, Delivery, DeliveryState, Enumeration, Foo, Measurement, Note,
-    Offer, Open, Pair, Priority, Properties, Reply, Sensor, Shipment, Station, Switch, Tags,
+    Offer, Open, Pair, Priority, Properties, Reply, Selector, Sensor, Shipment, Station, Switch,
+    Tags,
 };
 use serde_amqp::{Array, Deserialize, Deserializer, Read};
 use std::alloc::Global;
@@ -80,6 +81,7 @@ fn described<R: Read>(de: &mut Deserializer<R>, alloc: Global, of: Own) -> Resul
         Own::Properties => text(alloc, Properties::deserialize(alloc, de)),
         Own::Data => text(alloc, Data::deserialize(alloc, de)),
         Own::ArrayData => text(alloc, <Array<Data>>::deserialize(alloc, de)),
+        Own::Selector => text(alloc, Selector::deserialize(alloc, de)),
         Own::Shipment => text(alloc, Shipment::deserialize(alloc, de)),
         _ => delivery_state(de, alloc, of),
     }

@@ -4,8 +4,8 @@ ghost use Rattle.serde_amqp.specs.Headline.{KeptAs};
 
 use crate::{
     Celsius, Colour, Data, Delivery, DeliveryState, Enumeration, Foo, Measurement, Note, Offer,
-    Open, Pair, Priority, Properties, Reply, SaslInit, Section, Sensor, Shipment, Station, Switch,
-    Tags,
+    Open, Pair, Priority, Properties, Reply, SaslInit, Section, Selector, Sensor, Shipment,
+    Station, Switch, Tags,
 };
 use serde_amqp::{Error, Typed, from_slice, laws};
 use std::alloc::Global;
@@ -127,6 +127,14 @@ pub fn data_is_kept(alloc: Global, bytes: &[u8]) -> Result<Data, Error>
     ensures { KeptAs ⟦<Data as Typed>⟧.meaning bytes.now result }
 {
     laws::kept::<Data>();
+    from_slice(alloc, bytes)
+}
+
+/// What `to_vec` wrote for a selector is read as the same one, or memory was wanting.
+pub fn selector_is_kept(alloc: Global, bytes: &[u8]) -> Result<Selector, Error>
+    ensures { KeptAs ⟦<Selector as Typed>⟧.meaning bytes.now result }
+{
+    laws::kept::<Selector>();
     from_slice(alloc, bytes)
 }
 

@@ -2,7 +2,7 @@
 
 use super::made::symbol;
 use amqp_de::{CodeOrName, DescriptorSet};
-use amqp_types::{Descriptor, Symbol};
+use amqp_types::{Descriptor, Symbol, SymbolRef};
 
 const OPEN: &str = "amqp:open:list";
 
@@ -20,6 +20,15 @@ fn a_code_or_its_name(rt: HostRuntime) {
     let open = CodeOrName(0x10, OPEN);
     assert!(rt; open.contains(&Descriptor::Code(0x10)));
     assert!(rt; !open.contains(&Descriptor::Code(0x11)));
+    assert!(rt; holds(&open, symbol(alloc, OPEN)) == Some(true));
+    assert!(rt; holds(&open, symbol(alloc, "amqp:open")) == Some(false));
+}
+
+#[test]
+fn one_name_alone(rt: HostRuntime) {
+    let alloc = rt.alloc();
+    let open = SymbolRef(OPEN);
+    assert!(rt; !open.contains(&Descriptor::Code(0x10)));
     assert!(rt; holds(&open, symbol(alloc, OPEN)) == Some(true));
     assert!(rt; holds(&open, symbol(alloc, "amqp:open")) == Some(false));
 }

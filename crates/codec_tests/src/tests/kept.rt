@@ -28,7 +28,9 @@ fn are_described_kept(alloc: Global) -> bool {
     let open = told(kept::open_is_kept(alloc, b"\x00\x53\x10\xc0\x07\x04\xa1\x01\x61\x40\x40\x40"));
     let data = told(kept::data_is_kept(alloc, b"\x00\x53\x75\xa0\x02\x0a\xbc"));
     let init = told(kept::sasl_init_is_kept(alloc, b"\x00\x53\x41\xc0\x06\x03\xa3\x01a\x40\x40"));
-    [open, data, init] == [Taken; 3]
+    let selector = b"\x00\xa3\x21apache.org:selector-filter:string\xa1\x01a";
+    let selector = told(kept::selector_is_kept(alloc, selector));
+    [open, data, init, selector] == [Taken; 4]
 }
 
 /// Enums.
