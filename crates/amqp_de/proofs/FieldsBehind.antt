@@ -1,5 +1,5 @@
 -- Fields behind a descriptor.
-use Rattle.std.proofs.Common.{◌≡◌, ℕ, Bool, true, false, List, ◌++◌, Some, Ok, Err, refl, sym, ap, ◌∙◌, arith, inl, inr, ◌⊎◌, IsTrue}
+use Rattle.std.proofs.Common.{◌≡◌, ℕ, Bool, true, false, List, ◌++◌, Ok, Err, refl, sym, ap, ◌∙◌, arith, inl, inr, ◌⊎◌, IsTrue}
 use Rattle.amqp_base.specs.declared.error.Error.{Error}
 use Rattle.amqp_base.specs.declared.error.Error.TheVariants.{Message, OutOfMemory}
 use Rattle.amqp_base.specs.declared.format_code.EncodingCodes.{EncodingCodes}
@@ -10,12 +10,12 @@ use Rattle.amqp_base.specs.Leading.{takes_leading}
 use Rattle.amqp_base.specs.NamedFields.{takes_map}
 use Rattle.amqp_base.specs.Item.{Item, scalar, list, map, array, described, Descriptor}
 use Rattle.amqp_base.specs.Parse.{Parsed, item_at, code_at}
-use Rattle.amqp_base.specs.Refusals.{IsCustom, IsMessage, StandsFor}
+use Rattle.amqp_base.specs.Refusals.{IsCustom, IsMessage}
 use Rattle.amqp_base.specs.Refusing.{Refusing, PartsRefusing, one_or_other, opened_refusal}
-use Rattle.amqp_base.specs.Wire.{Constructor, Wire, lenient}
+use Rattle.amqp_base.specs.Wire.{Constructor}
 use Rattle.amqp_data.specs.Excuses.{Excused, no_memory}
 use Rattle.amqp_data.proofs.FixedWidth.{custom_device}
-use Rattle.amqp_data.proofs.Readings.{excused_before, excused_more, onward, stayed}
+use Rattle.amqp_data.proofs.Readings.{excused_before, excused_more, stayed}
 use Rattle.amqp_data.proofs.Received.{keeps_known, may_known}
 use Rattle.amqp_de.specs.Decoding.{Decoding, stands_under, as_ended}
 use Rattle.amqp_de.specs.Describes.{Describes, DescribesNone, none_among}
@@ -24,9 +24,10 @@ use Rattle.amqp_de.specs.Look.{item_kind, Looks, LooksNot}
 use Rattle.amqp_de.proofs.DescribedRead.{described_found, described_missed}
 use Rattle.amqp_de.proofs.FormsOpened.{item_none}
 use Rattle.amqp_de.proofs.Naming.{by_code, named_behind}
-use Rattle.amqp_de.proofs.PartsRead.{both, left_of, right_of}
+use Rattle.amqp_de.proofs.PartsRead.{both, left_of}
 use Rattle.amqp_de.proofs.StructsBehind.{kind_is, kind_not}
 use Rattle.amqp_de.proofs.VariantsRead.{missed_less, named_wider}
+use Rattle.amqp_de.proofs.WantedDescriptor.{is_one}
 use Rattle.amqp_de.proofs.Weaker.{found_as}
 
 -- ---- codes of lists
@@ -117,13 +118,6 @@ behind_is takes means among e s (array is) t m = absurd m
 
 pub behind_found : (takes : Item → Bool) (means : Item → Type 0) (among : Descriptor → Bool) (e : Descriptor) (old mid new : Decoding) → among e ≡ true → Describes e old mid → Found takes means mid new → Found (is_behind among takes) (means_behind means) old new
 behind_found takes means among e old mid new s x f = found_as (is_described_of takes) (is_behind among takes) (means_described means e) (means_behind means) old new (behind_is takes means among e s) (described_found takes means e old mid new x f)
-
-is_one : (among : Descriptor → Bool) (takes : Item → Bool) (i : Item) → IsTrue (is_behind among takes i) → IsTrue (is_described_of takes i)
-is_one among takes (described e v) t = right_of (among e) (takes v) t
-is_one among takes (scalar v) t = t
-is_one among takes (list is) t = t
-is_one among takes (map ps) t = t
-is_one among takes (array is) t = t
 
 pub behind_missed : (takes : Item → Bool) (grows buffers : Bool) (among : Descriptor → Bool) (e : Descriptor) (old mid new : Decoding) (err : Error) → Describes e old mid → Missed takes grows buffers mid new err → Missed (is_behind among takes) true buffers old new err
 behind_missed takes grows buffers among e old mid new err x m = missed_less (is_one among takes) (described_missed takes grows buffers e old mid new err x m)

@@ -11,7 +11,7 @@ pub mod ElementsOpened
 pub mod Naming
 pub mod NamedParts
 pub mod NamedElements
-pub mod Many
+pub mod ManyRead
 pub mod ReadSome
 pub mod ReadParts
 pub mod Turns

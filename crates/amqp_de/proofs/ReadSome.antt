@@ -5,7 +5,7 @@ use Rattle.amqp_base.specs.Meaning.{Meaning}
 use Rattle.amqp_de.specs.Access.{Listing}
 use Rattle.amqp_de.specs.Ahead.{Ahead}
 use Rattle.amqp_de.specs.Many.{AreRead, ReadsMany}
-use Rattle.amqp_de.proofs.Many.{sofar_many, reach_many}
+use Rattle.amqp_de.proofs.ManyRead.{sofar_many, reach_many}
 use Rattle.amqp_de.proofs.NamedElements.{Reach}
 use Rattle.amqp_de.proofs.ReceivedAhead.{ahead_more, ahead_many, ahead_left, many_left}
 use Rattle.amqp_de.proofs.Sequence.{Sofar}

@@ -5,7 +5,7 @@ use Rattle.amqp_base.specs.declared.error.Error.TheVariants.{Message, OutOfMemor
 use Rattle.amqp_base.specs.Describing.{is_described_of, describing_at, is_behind}
 use Rattle.amqp_base.specs.Item.{Item, scalar, list, map, array, described, Descriptor}
 use Rattle.amqp_base.specs.Refusals.{IsCustom, IsMessage, StandsFor}
-use Rattle.amqp_base.specs.Wire.{Constructor, Wire, lenient}
+use Rattle.amqp_base.specs.Wire.{Wire, lenient}
 use Rattle.amqp_data.specs.Excuses.{Excused, no_memory}
 use Rattle.amqp_data.proofs.FixedWidth.{custom_device}
 use Rattle.amqp_data.proofs.Readings.{onward}
@@ -13,15 +13,16 @@ use Rattle.amqp_de.specs.Decoding.{Decoding, stands_under, as_ended}
 use Rattle.amqp_de.specs.Describes.{Describes, DescribesNone, NoDescriptor, none_among}
 use Rattle.amqp_de.specs.Law.{Missed, Named}
 use Rattle.amqp_de.proofs.DescribedRead.{undescribed, undescribed_for}
-use Rattle.amqp_de.proofs.PartsRead.{left_of}
+use Rattle.amqp_de.proofs.PartsRead.{left_of, right_of}
 use Rattle.amqp_de.proofs.VariantsRead.{missed_less}
 
-is_one : (among : Descriptor → Bool) (i : Item) → IsTrue (is_behind among (λ _. true) i) → IsTrue (is_described_of (λ _. true) i)
-is_one among (described e v) t = refl
-is_one among (scalar v) t = t
-is_one among (list is) t = t
-is_one among (map ps) t = t
-is_one among (array is) t = t
+-- an item behind one of them is described
+pub is_one : (among : Descriptor → Bool) (takes : Item → Bool) (i : Item) → IsTrue (is_behind among takes i) → IsTrue (is_described_of takes i)
+is_one among takes (described e v) t = right_of (among e) (takes v) t
+is_one among takes (scalar v) t = t
+is_one among takes (list is) t = t
+is_one among takes (map ps) t = t
+is_one among takes (array is) t = t
 
 module _ (among : Descriptor → Bool) (buffers : Bool) (old : Decoding) where
   none_for : (new : Decoding) (err : Error) → NoDescriptor buffers old new err → Named (none_among among) true buffers old new err
@@ -34,7 +35,7 @@ module _ (among : Descriptor → Bool) (buffers : Bool) (old : Decoding) where
 
   -- no descriptor stands there
   pub no_descriptor : (new : Decoding) (err : Error) → NoDescriptor buffers old new err → DescribesNone among buffers old new err
-  no_descriptor new err n = record { missed = missed_less (is_one among) (undescribed (λ _. true) buffers old new err n); named = none_for new err n }
+  no_descriptor new err n = record { missed = missed_less (is_one among (λ _. true)) (undescribed (λ _. true) buffers old new err n); named = none_for new err n }
 
   module _ (e : Descriptor) (mid : Decoding) (text : List ℕ) (err : Error) (q : among e ≡ false) (x : Describes e old mid) (c : IsCustom text err) where
     other_missed : Missed (is_behind among (λ _. true)) true buffers old (as_ended mid) err

@@ -4,7 +4,7 @@ use Rattle.std.proofs.Common.{refl, sym, subst}
 use Rattle.amqp_base.specs.declared.shape.Setting.TheVariants.{Plain, DescribedMap}
 use Rattle.amqp_base.specs.declared.shape.Shape.{Shape}
 use Rattle.amqp_base.specs.Describing.{Descriptors, same_as_itself, under_descriptor}
-use Rattle.amqp_base.specs.Item.{Descriptor, name, Item, scalar, list, map, array, described}
+use Rattle.amqp_base.specs.Item.{name, Item, scalar, list, map, array, described}
 use Rattle.amqp_base.specs.Meaning.{Meaning, Row, Field, at, row_of, option_of, newtype_of, struct_of, first_of, second_of, from_false}
 use Rattle.amqp_base.specs.NamedFields.{OneRow, takes_named, means_named, takes_map, means_map, takes_struct, means_struct}
 use Rattle.amqp_base.specs.Options.{option_taken_back, option_read_back}

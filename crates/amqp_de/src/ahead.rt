@@ -16,8 +16,8 @@ use std::convert::TryFrom;
 /// So few bytes cost less where they are asked for one by one.
 const FEW: usize = 4;
 
-/// The most bytes of a number with its own constructor.
-const LONGEST: usize = 9;
+/// Where so many bytes are at hand none are received ahead: a short item stands there as a whole.
+const ENOUGH: usize = 64;
 
 impl<R: Read, F> Access<'_, R, F> {
     /// Receives some bytes of the parts that are left, where few are at hand, and no byte behind
@@ -73,7 +73,7 @@ impl<R: Read> Deserializer<R> {
         ensures why { IfErr result (λ e.
             AheadFails R.buffers (at_open self.old inner.now) (at_open self.new inner.now) e) }
     {
-        if inner.left == 0 || self.reader.at_hand() >= LONGEST {
+        if inner.left == 0 || self.reader.at_hand() >= ENOUGH {
             return Ok(());
         }
         let least = parts_least(inner.left, &self.inherited, self.reader.bytes_at_hand());

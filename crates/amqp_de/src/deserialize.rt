@@ -36,11 +36,16 @@ pub trait Deserialize<R: Read>: Typed + Sized {
     /// `OutOfMemory`: there is no memory for them, and nothing was read.
     #[doc(hidden)]
     #[inline(always)]
-    fn next_elements(list: &mut ListAccess<'_, R>, items: &mut Vec<Self>) -> Result<bool, Error>
+    fn next_elements(
+        alloc: Global,
+        list: &mut ListAccess<'_, R>,
+        items: &mut Vec<Self>,
+    ) -> Result<bool, Error>
         ensures same_reference { list.new.de.ghost_name ≡ list.old.de.ghost_name }
         ensures read { ReadsMany Self.meaning (open_list list.old) items.old.items result
             (open_list list.new) items.new.items }
     {
+        let _ = alloc;
         let _ = list;
         let _ = items;
         Ok(false)
@@ -82,8 +87,13 @@ impl<R: Read> Deserialize<R> for u32 {
     }
 
     #[inline(always)]
-    fn next_elements(list: &mut ListAccess<'_, R>, items: &mut Vec<u32>) -> Result<bool, Error> {
-        list.de.next_numbers::<u32, 4>(&mut list.inner, items)
+    fn next_elements(
+        alloc: Global,
+        list: &mut ListAccess<'_, R>,
+        items: &mut Vec<u32>,
+    ) -> Result<bool, Error> {
+        list.de
+            .next_numbers::<u32, 4>(alloc, &mut list.inner, items)
     }
 }
 
@@ -94,8 +104,13 @@ impl<R: Read> Deserialize<R> for u64 {
     }
 
     #[inline(always)]
-    fn next_elements(list: &mut ListAccess<'_, R>, items: &mut Vec<u64>) -> Result<bool, Error> {
-        list.de.next_numbers::<u64, 8>(&mut list.inner, items)
+    fn next_elements(
+        alloc: Global,
+        list: &mut ListAccess<'_, R>,
+        items: &mut Vec<u64>,
+    ) -> Result<bool, Error> {
+        list.de
+            .next_numbers::<u64, 8>(alloc, &mut list.inner, items)
     }
 }
 
@@ -120,8 +135,13 @@ impl<R: Read> Deserialize<R> for i32 {
     }
 
     #[inline(always)]
-    fn next_elements(list: &mut ListAccess<'_, R>, items: &mut Vec<i32>) -> Result<bool, Error> {
-        list.de.next_numbers::<i32, 4>(&mut list.inner, items)
+    fn next_elements(
+        alloc: Global,
+        list: &mut ListAccess<'_, R>,
+        items: &mut Vec<i32>,
+    ) -> Result<bool, Error> {
+        list.de
+            .next_numbers::<i32, 4>(alloc, &mut list.inner, items)
     }
 }
 
@@ -146,6 +166,15 @@ impl<R: Read> Deserialize<R> for String {
             Ok(text) => return Ok(text),
             Err(e) => return Err(e),
         }
+    }
+
+    #[inline(always)]
+    fn next_elements(
+        alloc: Global,
+        list: &mut ListAccess<'_, R>,
+        items: &mut Vec<String>,
+    ) -> Result<bool, Error> {
+        list.de.next_plain(alloc, &mut list.inner, items)
     }
 }
 
@@ -235,7 +264,7 @@ impl<R: Read, T: Deserialize<R>> Deserialize<R> for Vec<T> {
                 Ok(()) => {}
                 Err(e) => return Err(e),
             }
-            let some = match T::next_elements(&mut access, &mut items) {
+            let some = match T::next_elements(alloc, &mut access, &mut items) {
                 Ok(some) => some,
                 Err(e) => return Err(e),
             };

@@ -14,9 +14,11 @@ ghost use Rattle.amqp_de.specs.Seq.{at_open};
 
 use crate::Deserializer;
 use crate::list::Open;
+use crate::many::Many;
 use amqp_base::{EncodingCodes, Error, Typed, codes};
 use amqp_data::{Constructor, Limit};
 use amqp_read::Read;
+use std::alloc::Global;
 
 /// A number whose data take `W` bytes under its widest code.
 pub(crate) trait Wide<const W: usize>: Typed + Copy {
@@ -233,7 +235,7 @@ fn push_all<T: Wide<W>, const W: usize>(bytes: &[u8], many: usize, items: &mut V
 /// others, as long as there are such, so many at most, for which there is room: how many they are,
 /// and how many bytes.
 #[inline(never)]
-fn push_front<T: Wide<W>, const W: usize>(
+fn push_numbers<T: Wide<W>, const W: usize>(
     bytes: &[u8],
     most: usize,
     items: &mut Vec<T>,
@@ -295,14 +297,54 @@ fn push_looking_ahead<T: Wide<W>, const W: usize>(
     (many, at)
 }
 
+impl Many for i32 {
+    #[inline(always)]
+    fn push_front(
+        alloc: Global,
+        bytes: &[u8],
+        most: usize,
+        items: &mut Vec<i32>,
+    ) -> (usize, usize) {
+        let _ = alloc;
+        push_numbers::<i32, 4>(bytes, most, items)
+    }
+}
+
+impl Many for u32 {
+    #[inline(always)]
+    fn push_front(
+        alloc: Global,
+        bytes: &[u8],
+        most: usize,
+        items: &mut Vec<u32>,
+    ) -> (usize, usize) {
+        let _ = alloc;
+        push_numbers::<u32, 4>(bytes, most, items)
+    }
+}
+
+impl Many for u64 {
+    #[inline(always)]
+    fn push_front(
+        alloc: Global,
+        bytes: &[u8],
+        most: usize,
+        items: &mut Vec<u64>,
+    ) -> (usize, usize) {
+        let _ = alloc;
+        push_numbers::<u64, 8>(bytes, most, items)
+    }
+}
+
 impl<R: Read> Deserializer<R> {
     /// Reads some of the next elements, which are numbers, where they are at hand, and puts them
     /// behind the others: whether there were such.
     ///
     /// `OutOfMemory`: there is no memory for one of them.
     #[inline(always)]
-    pub(crate) fn next_numbers<T: Wide<W>, const W: usize>(
+    pub(crate) fn next_numbers<T: Many + Wide<W>, const W: usize>(
         &mut self,
+        alloc: Global,
         inner: &mut Open,
         items: &mut Vec<T>,
     ) -> Result<bool, Error>
@@ -310,27 +352,10 @@ impl<R: Read> Deserializer<R> {
         ensures { ReadsMany T.meaning (at_open self.old inner.old) items.old.items result
             (at_open self.new inner.new) items.new.items }
     {
-        if inner.left == 0 || self.ended {
-            return Ok(false);
-        }
-        if self.is_bare() {
-            return self.next_plain::<T, W>(inner, items);
-        }
-        if self.is_under::<T, W>() {
+        if inner.left > 0 && !self.ended && self.is_under::<T, W>() {
             return self.next_data::<T, W>(inner, items);
         }
-        Ok(false)
-    }
-
-    /// Whether the next parts have constructors of their own.
-    #[inline(always)]
-    fn is_bare(&self) -> bool
-        ensures { IsTrue result → self.now.inherited ≡ bare }
-    {
-        match &self.inherited {
-            Constructor::Bare => true,
-            _ => false,
-        }
+        self.next_plain(alloc, inner, items)
     }
 
     /// Whether the next elements stand under the widest code of these numbers.
@@ -375,39 +400,6 @@ impl<R: Read> Deserializer<R> {
         self.described = false;
         self.begun.ticks(many);
         inner.left -= many as u32;
-        Ok(true)
-    }
-
-    /// Parts of a list, each with its own constructor.
-    #[inline(always)]
-    fn next_plain<T: Wide<W>, const W: usize>(
-        &mut self,
-        inner: &mut Open,
-        items: &mut Vec<T>,
-    ) -> Result<bool, Error>
-        requires width { (W ≡ 4) ⊎ (W ≡ 8) }
-        requires answers { self.old.ended ≡ false }
-        requires code { self.old.inherited ≡ bare }
-        ensures { ReadsMany T.meaning (at_open self.old inner.old) items.old.items result
-            (at_open self.new inner.new) items.new.items }
-    {
-        if inner.limit.is_some() {
-            return Ok(false);
-        }
-        let bytes = self.reader.bytes_at_hand();
-        let most = (inner.left as usize).min(bytes.len());
-        if items.reserve(most).is_err() {
-            return Err(Error::OutOfMemory);
-        }
-        let before = items.len();
-        let (found, len) = push_front::<T, W>(bytes, most, items);
-        if found == 0 || !self.reader.pass_at_hand(len) {
-            items.truncate(before);
-            return Ok(false);
-        }
-        self.described = false;
-        self.begun.ticks(found);
-        inner.left -= found as u32;
         Ok(true)
     }
 }

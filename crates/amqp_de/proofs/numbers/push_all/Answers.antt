@@ -3,7 +3,7 @@ use Rattle.std.proofs.Common.{◌≡◌, ℕ, ◌+◌, ◌-◌, ◌*◌, ◌⊎�
 use Rattle.std.proofs.lemmas.List.{append-nil, take_all}
 use Rattle.amqp_base.specs.Wire.{under}
 use Rattle.amqp_de.specs.Many.{PutBehind}
-use Rattle.amqp_de.proofs.Many.{put_more}
+use Rattle.amqp_de.proofs.ManyRead.{put_more}
 use Rattle.amqp_de.proofs.numbers.push_all.Goals as goal
 
 -- the data of one number more

@@ -3,7 +3,7 @@ use Rattle.std.proofs.Common.{◌+◌, ◌-◌, ◌≤◌, ◌<◌, refl, sym, s
 use Rattle.std.proofs.lemmas.List.{get_or-drop, get_or-take, take-take}
 use Rattle.amqp_base.specs.Wire.{bare}
 use Rattle.amqp_de.specs.Many.{IsElement}
-use Rattle.amqp_de.proofs.Many.{put_more}
+use Rattle.amqp_de.proofs.ManyRead.{put_more}
 use Rattle.amqp_de.proofs.numbers.push_looking_ahead.Goals as goal
 
 pub loop-many-preserved : goal.loop-many-preserved

@@ -6,7 +6,7 @@ use Rattle.amqp_read.specs.Steps.{Passes}
 use Rattle.amqp_data.specs.Parts.{Within}
 use Rattle.amqp_data.specs.Places.{limit_of}
 use Rattle.amqp_de.specs.Many.{AreElements}
-use Rattle.amqp_de.proofs.Many.{all_read, shown_passed}
+use Rattle.amqp_de.proofs.ManyRead.{all_read, shown_passed}
 use Rattle.amqp_de.proofs.deserializer.Deserializer.next_data.Goals as goal
 
 some_bytes : (n w : ℕ) → (w ≡ 4) ⊎ (w ≡ 8) → (n ≡ 0 → ⊥) → 0 < n * w

@@ -6,7 +6,7 @@ use Rattle.amqp_data.specs.Parts.{Within}
 use Rattle.amqp_data.specs.Places.{limit_of}
 use Rattle.amqp_data.specs.declared.constructor.Limit.{Limit}
 use Rattle.amqp_de.specs.Many.{AreElements}
-use Rattle.amqp_de.proofs.Many.{all_read, shown_passed}
+use Rattle.amqp_de.proofs.ManyRead.{all_read, shown_passed}
 use Rattle.amqp_de.proofs.deserializer.Deserializer.next_plain.Goals as goal
 
 no_limit : (l : Option Limit) (t : ℕ) → is_some l ≡ false → Within (limit_of l) t

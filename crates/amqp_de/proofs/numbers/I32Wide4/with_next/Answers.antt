@@ -9,7 +9,7 @@ use Rattle.amqp_base.specs.Item.{int}
 use Rattle.amqp_base.specs.Value.{payload, read}
 use Rattle.amqp_base.specs.declared.format_code.EncodingCodes.TheVariants.{Int, SmallInt}
 use Rattle.amqp_data.proofs.ByteNumbers.{be_widened}
-use Rattle.amqp_de.proofs.Many.{behind_code, one_byte, other_byte}
+use Rattle.amqp_de.proofs.ManyRead.{behind_code, one_byte, other_byte}
 use Rattle.amqp_de.proofs.numbers.I32Wide4.with_next.Goals.{then-is_wide, else-is_wide}
 use Rattle.amqp_de.proofs.numbers.I32Wide4.with_next.Goals as goal
 

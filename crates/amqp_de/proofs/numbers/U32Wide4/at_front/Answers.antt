@@ -6,7 +6,7 @@ use Rattle.amqp_base.specs.Item.{uint}
 use Rattle.amqp_base.specs.Value.{payload, read}
 use Rattle.amqp_base.specs.declared.format_code.EncodingCodes.TheVariants.{Uint, SmallUint, Uint0}
 use Rattle.amqp_data.proofs.ByteNumbers.{number_1}
-use Rattle.amqp_de.proofs.Many.{behind_code, one_byte, no_byte}
+use Rattle.amqp_de.proofs.ManyRead.{behind_code, one_byte, no_byte}
 use Rattle.amqp_de.proofs.numbers.U32Wide4.at_front.Goals as goal
 
 pub returns-in-82-clause-number : goal.returns-in-82-clause-number

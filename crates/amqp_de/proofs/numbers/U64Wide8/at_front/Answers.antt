@@ -6,7 +6,7 @@ use Rattle.amqp_base.specs.Item.{ulong}
 use Rattle.amqp_base.specs.Value.{payload, read}
 use Rattle.amqp_base.specs.declared.format_code.EncodingCodes.TheVariants.{Ulong, SmallUlong, Ulong0}
 use Rattle.amqp_data.proofs.ByteNumbers.{number_1}
-use Rattle.amqp_de.proofs.Many.{behind_code, one_byte, no_byte}
+use Rattle.amqp_de.proofs.ManyRead.{behind_code, one_byte, no_byte}
 use Rattle.amqp_de.proofs.numbers.U64Wide8.at_front.Goals as goal
 
 pub returns-in-83-clause-number : goal.returns-in-83-clause-number

@@ -7,7 +7,7 @@ use Rattle.amqp_base.specs.Item.{ulong}
 use Rattle.amqp_base.specs.Value.{payload, read}
 use Rattle.amqp_base.specs.declared.format_code.EncodingCodes.TheVariants.{Ulong, SmallUlong, Ulong0}
 use Rattle.amqp_data.proofs.ByteNumbers.{number_1}
-use Rattle.amqp_de.proofs.Many.{behind_code, one_byte, no_byte, other_byte}
+use Rattle.amqp_de.proofs.ManyRead.{behind_code, one_byte, no_byte, other_byte}
 use Rattle.amqp_de.proofs.numbers.U64Wide8.with_next.Goals.{then-is_wide, else-is_wide}
 use Rattle.amqp_de.proofs.numbers.U64Wide8.with_next.Goals as goal
 

@@ -10,6 +10,8 @@ use Rattle.amqp_base.specs.declared.format_code.Category.TheVariants.{Fixed}
 use Rattle.amqp_base.specs.Item.{Item, items, Scalar, scalar}
 use Rattle.amqp_base.specs.Value.{payload}
 use Rattle.amqp_data.proofs.FixedWidth.{fixed_spells}
+use Rattle.amqp_data.proofs.Readings.{takes_then}
+use Rattle.amqp_data.specs.Steps.{IsData}
 use Rattle.amqp_base.specs.Laws.{items_under}
 use Rattle.amqp_base.specs.Meaning.{Meaning}
 use Rattle.amqp_base.specs.Wire.{Constructor, bare, under, under_pair, of_code}
@@ -237,6 +239,22 @@ module _ {T : Type 0} (m : Meaning T) (e : EncodingCodes) (x : ℕ) (s : Scalar)
 
   pub no_byte : code_of x ≡ Some e → slice_index_or b 0 0 ≡ x → 0 < length b → (row e).category ≡ Fixed 0 → payload e [] ≡ Some s → IsTrue (m.takes (scalar s)) → m.means (scalar s) v → IsElement m bare (take 1 b) v
   no_byte c h l k p t a = behind_code m e 0 x b v c h l record { item = scalar s; spelled = fixed_spells e 0 [] s k refl p; taken = t; value = a; one = refl; some = omega arith }
+
+-- ---- an item without parts at the front of bytes in memory
+
+consumed_front : (l : Option (List ℕ)) (b t : List ℕ) → Consumes (Some b) l t → take (length t) b ≡ t
+consumed_front None b t c = absurd c
+consumed_front (Some rest) b t c = ap (take (length t)) c ∙ take-append_seam t rest
+
+pub leaf_at_front : {T : Type 0} (m : Meaning T) (s : Scalar) (v : T) (b : List ℕ) (x : ℕ) (from mid to : Reading) → from.to_come ≡ Some b → from.taken ≡ 0 → Takes from mid (x ∷ []) → IsData x (scalar s) mid to
+    → IsTrue (m.takes (scalar s)) → m.means (scalar s) v → IsElement m bare (take to.taken b) v
+leaf_at_front m s v b x from mid to whole start t d k a =
+    let text = x ∷ d.text in
+    let u = takes_then from mid to (x ∷ []) d.text t d.step in
+    let front : take (length text) b ≡ text = consumed_front to.to_come b text (subst (λ (o : Option (List ℕ)). Consumes o to.to_come text) whole u.to_come) in
+    let n : to.taken ≡ length text = omega (arith, u.taken, start) in
+    let same : take to.taken b ≡ text = ap (λ i. take i b) n ∙ front in
+    subst (λ (y : List ℕ). IsElement m bare y v) (sym same) record { item = scalar s; spelled = of_code d.code_is d.spelled; taken = k; value = a; one = refl; some = omega arith }
 
 -- ---- bytes that were shown, and then consumed
 

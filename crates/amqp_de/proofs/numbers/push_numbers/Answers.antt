@@ -3,8 +3,8 @@ use Rattle.std.proofs.Common.{◌+◌, ◌-◌, ◌≤◌, refl, subst, ◌∙�
 use Rattle.std.proofs.lemmas.List.{take-take}
 use Rattle.amqp_base.specs.Wire.{bare}
 use Rattle.amqp_de.specs.Many.{IsElement}
-use Rattle.amqp_de.proofs.Many.{put_more}
-use Rattle.amqp_de.proofs.numbers.push_front.Goals as goal
+use Rattle.amqp_de.proofs.ManyRead.{put_more}
+use Rattle.amqp_de.proofs.numbers.push_numbers.Goals as goal
 
 pub push_reserved-requires : goal.push_reserved-requires
 push_reserved-requires g c = omega (arith, c.loop-many.invariant.so_many, c.loop-many.invariant.room, c.requires.room, c.loop-many-test.true)
