@@ -14,7 +14,7 @@ use Rattle.amqp_de.proofs.Sequence.{Sofar}
 -- parts are left than before.
 pub record ReadSome {T : Type 0} (m : Meaning T) (from old new : Listing) (items : List T) : Type 0 where
   pub now : Listing
-  pub ahead : Ahead now new
+  pub ahead : Ahead m.takes now new
   pub sofar : Sofar m.takes m.means from now items
   pub reaches : Reach m.takes m.refuses from now
   pub left : new.left ≤ old.left
@@ -25,7 +25,7 @@ elements : {T : Type 0} (m : Meaning T) (old new : Listing) (before after : List
 elements m old new before after true h = (h.0, h.1, h.2)
 elements m old new before after false h = ([], h.0, h.1 ∙ sym (append-nil before))
 
-pub read_some : {T : Type 0} (m : Meaning T) (from now old mid new : Listing) (before after : List T) (some : Bool) → Ahead now old → Ahead old mid → Sofar m.takes m.means from now before
+pub read_some : {T : Type 0} (m : Meaning T) (from now old mid new : Listing) (before after : List T) (some : Bool) → Ahead m.takes now old → Ahead m.takes old mid → Sofar m.takes m.means from now before
     → Reach m.takes m.refuses from now → ReadsMany m mid before (Ok some) new after → ReadSome m from old new after
 read_some m from now old mid new before after some a b s reaches h =
     let r = elements m mid new before after some h in

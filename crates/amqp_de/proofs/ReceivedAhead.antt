@@ -1,33 +1,36 @@
 -- Bytes that were received ahead of the parts that they are, as if they had been received with these.
 use Rattle.std.proofs.Common.{◌≡◌, ℕ, suc, ◌+◌, ◌*◌, ◌<◌, ◌≤◌, max, Bool, true, false, List, [], ◌∷◌, ◌++◌, length, take, drop, Option, Some, None, refl, sym, ap, subst, ◌∙◌, arith, inl, inr, ◌⊎◌, IsTrue, zero}
 use Rattle.std.proofs.lemmas.List.{length-append, length-drop, take_all}
-use Rattle.std.proofs.Math.Nat.{suc-mul}
+use Rattle.std.proofs.Math.Nat.{suc-mul, mul-le-mul_left}
 use Rattle.std.specs.Io.KnownBytes.{Consumes, Keeps}
 use Rattle.amqp_base.specs.declared.error.Error.{Error}
 use Rattle.amqp_base.specs.declared.error.Error.TheVariants.{OutOfMemory}
 use Rattle.amqp_base.specs.declared.format_code.EncodingCodes.{EncodingCodes}
-use Rattle.amqp_base.specs.declared.format_code.EncodingCodes.TheVariants.{DescribedType}
+use Rattle.amqp_base.specs.declared.format_code.EncodingCodes.TheVariants.{DescribedType, Int, SmallInt, Str8, Str32}
 use Rattle.amqp_base.proofs.CodeAgain.{code_again}
 use Rattle.amqp_base.specs.declared.format_code.Category.{Category}
 use Rattle.amqp_base.specs.Codes.{Kind, row, code_of}
 use Rattle.amqp_base.specs.Faults.{IsFault}
-use Rattle.amqp_base.specs.Item.{Item, Descriptor}
+use Rattle.amqp_base.specs.Item.{Item, Descriptor, scalar}
 use Rattle.amqp_base.specs.Meaning.{Meaning}
 use Rattle.amqp_base.specs.Refusals.{IsDevice}
+use Rattle.amqp_base.specs.Typing.{is_of}
 use Rattle.amqp_base.specs.Refusing.{Refusing}
 use Rattle.amqp_base.specs.Wire.{Constructor, bare, under, under_pair, Wire, lenient, of_code, of_described, of_data, of_pair, Data, of_fixed, of_variable, fixed, variable, list0, of_list, of_map, of_array, empty_array}
 use Rattle.amqp_read.specs.Reading.{Reading, Agree, Stays, Takes}
 use Rattle.amqp_read.specs.Steps.{Looked, Fails}
 use Rattle.amqp_data.specs.Excuses.{Overfull, Excused, no_memory, faulted, uncounted}
 use Rattle.amqp_data.specs.Places.{own_width}
+use Rattle.amqp_data.proofs.Data.{kind_under}
 use Rattle.amqp_data.proofs.Readings.{stays_same, steady_then, stayed, advances_then}
 use Rattle.amqp_data.proofs.Received.{agree_front, keeps_known}
 use Rattle.amqp_de.specs.Access.{Listing, Part, NoPart, PartNamed, PassesEnd}
-use Rattle.amqp_de.specs.Ahead.{Ahead, AheadFails, behind_code, first_least, least_left, parts_least, reading_on}
+use Rattle.amqp_de.specs.Ahead.{Ahead, AheadFails, AtLeast, behind_code, first_least, least_left, parts_least, reading_on}
 use Rattle.amqp_de.specs.Decoding.{Decoding, stands_under, behind_descriptor, as_ended}
 use Rattle.amqp_de.specs.Law.{Missed}
 use Rattle.amqp_de.specs.Many.{AreRead}
 use Rattle.amqp_de.specs.ReadParts.{PartsRead}
+use Rattle.amqp_de.proofs.Answered.{of_kind_is}
 use Rattle.amqp_de.proofs.Sequence.{Sofar}
 
 -- ---- how many bytes an item takes at least
@@ -81,18 +84,51 @@ first_some [] = omega arith
 first_some (x ∷ s) = omega arith
 
 -- so many bytes fewer are left for the others, whichever of theirs were received
-others_least : (m : ℕ) (s : List ℕ) → m ≤ parts_least m bare s
-others_least zero s = omega arith
-others_least (suc m) s = let one = first_some s in omega (arith, one)
+others_least : (n m : ℕ) (s : List ℕ) → m * n ≤ parts_least n m bare s
+others_least n zero s = omega arith
+others_least n (suc m) s = rw (suc-mul m n) (omega arith)
 
-part_least : (m : ℕ) (c : Constructor) (described : Bool) (s t rest : List ℕ) (i : Item) → Wire lenient (behind_descriptor c described) t i → Agree s t →
-    parts_least (suc m) c s ≤ length t + parts_least m c rest
-part_least m bare d s t rest i w h =
-    let text = text_least t i w in let some = first_some t in let first = first_received s t h (omega (arith, some, text)) in let others = others_least m rest in omega (arith, first, text, others)
-part_least zero (under e) d s t rest i w h = let least = code_least e t i w in omega (arith, least)
-part_least (suc m) (under e) d s t rest i w h = let least = code_least e t i w in least_on (suc (suc m)) (suc m) _ (length t) refl least
-part_least zero (under_pair x e) d s t rest i w h = let least = pair_least x e d t i w in omega (arith, least)
-part_least (suc m) (under_pair x e) d s t rest i w h = let least = pair_least x e d t i w in least_on (suc (suc m)) (suc m) _ (length t) refl least
+part_least : (takes : Item → Bool) (n m : ℕ) (c : Constructor) (described : Bool) (s t rest : List ℕ) (i : Item) → AtLeast takes n → Wire lenient (behind_descriptor c described) t i → IsTrue (takes i) → Agree s t →
+    parts_least n (suc m) c s ≤ length t + parts_least n m c rest
+part_least takes n m bare d s t rest i wide w q h =
+    let text = text_least t i w in let some = first_some t in let first = first_received s t h (omega (arith, some, text)) in let least = wide t i w q in let others = others_least n m rest in omega (arith, first, text, least, others)
+part_least takes n zero (under e) d s t rest i wide w q h = let least = code_least e t i w in omega (arith, least)
+part_least takes n (suc m) (under e) d s t rest i wide w q h = let least = code_least e t i w in least_on (suc (suc m)) (suc m) _ (length t) refl least
+part_least takes n zero (under_pair x e) d s t rest i wide w q h = let least = pair_least x e d t i w in omega (arith, least)
+part_least takes n (suc m) (under_pair x e) d s t rest i wide w q h = let least = pair_least x e d t i w in least_on (suc (suc m)) (suc m) _ (length t) refl least
+
+-- ---- how many bytes an item of a type takes at least
+
+pub some_byte : (takes : Item → Bool) → AtLeast takes 1
+some_byte takes t i w q = let text = text_least t i w in let some = first_some t in omega (arith, some, text)
+
+-- where each code of a kind has data
+kind_least : (k : Kind) → ((e : EncodingCodes) → (row e).kind ≡ k → 1 ≤ own_width (row e).category) → AtLeast (is_of k) 2
+kind_least k have t i (of_code {x} {e} {b} p h) q =
+    let v = of_kind_is k i q in
+    let w : Wire lenient (under e) b (scalar v.0) = subst (λ (x : Item). Wire lenient (under e) b x) v.1 h in
+    let one = have e (kind_under w ∙ v.2) in
+    let behind = code_least e b i h in
+    omega (arith, one, behind)
+kind_least k have t i (of_described a b g h) q = absurd cc
+
+have_length : (e : EncodingCodes) → (row e).kind ≡ Kind.string → 1 ≤ own_width (row e).category
+unfolding row
+have_length Str8 h = omega arith
+have_length Str32 h = omega arith
+have_length _ h = absurd cc
+
+have_digits : (e : EncodingCodes) → (row e).kind ≡ Kind.int → 1 ≤ own_width (row e).category
+unfolding row
+have_digits Int h = omega arith
+have_digits SmallInt h = omega arith
+have_digits _ h = absurd cc
+
+pub string_least : AtLeast (is_of Kind.string) 2
+string_least = kind_least Kind.string have_length
+
+pub int_least : AtLeast (is_of Kind.int) 2
+int_least = kind_least Kind.int have_digits
 
 -- ---- readers
 
@@ -183,14 +219,14 @@ excused_kept v r new e s (uncounted p q o) = uncounted p q (overfull_kept v.take
 
 -- ---- parts
 
-pub ahead_part : {takes : Item → Bool} {means : Item → Type 0} (v r new : Listing) → Ahead v r → Part takes means r new → (to : Listing) × Part takes means v to × Ahead to new
+pub ahead_part : {takes : Item → Bool} {means : Item → Type 0} (v r new : Listing) → Ahead takes v r → Part takes means r new → (to : Listing) × Part takes means v to × Ahead takes to new
 ahead_part {takes} {means} v r new a part =
     let p : Part takes means (reading_on v r.state.reading) new = subst (λ (l : Listing). Part takes means l new) a.is part in
     let text = p.front.text in
     let to = reading_on new (behind_it v.state.reading new.state.reading text) in
     let received = r.state.reading.received in
-    let least = part_least new.left v.state.inherited v.state.described received text new.state.reading.received p.front.item p.front.spelled p.front.step.agrees in
-    let fewer : least_left v received ≤ length text + least_left to new.state.reading.received = rw (p.left, p.front.inherited) least in (
+    let least = part_least takes a.width new.left v.state.inherited v.state.described received text new.state.reading.received p.front.item a.wide p.front.spelled p.front.taken p.front.step.agrees in
+    let fewer : least_left a.width v received ≤ length text + least_left a.width to new.state.reading.received = rw (p.left, p.front.inherited) least in (
       to,
       record {
         front = record {
@@ -199,7 +235,7 @@ ahead_part {takes} {means} v r new a part =
           spelled = p.front.spelled;
           taken = p.front.taken;
           value = p.front.value;
-          step = takes_behind (least_left v received) v.state.reading r.state.reading new.state.reading text a.looked p.front.step;
+          step = takes_behind (least_left a.width v received) v.state.reading r.state.reading new.state.reading text a.looked p.front.step;
           not_ended = p.front.not_ended;
           inherited = p.front.inherited;
           described = p.front.described;
@@ -212,13 +248,15 @@ ahead_part {takes} {means} v r new a part =
         limit = p.limit;
       },
       record {
-        looked = looked_behind (least_left v received) (least_left to new.state.reading.received) v.state.reading r.state.reading new.state.reading text a.looked p.front.step fewer;
+        width = a.width;
+        wide = a.wide;
+        looked = looked_behind (least_left a.width v received) (least_left a.width to new.state.reading.received) v.state.reading r.state.reading new.state.reading text a.looked p.front.step fewer;
         is = refl;
       },
     )
 
-pub ahead_many : {T : Type 0} (m : Meaning T) (v r new : Listing) (vs : List T) → Ahead v r → AreRead m r vs new → (to : Listing) × AreRead m v vs to × Ahead to new
-ahead_many m v r new [] a h = (v, refl, subst (λ (l : Listing). Ahead v l) (sym h) a)
+pub ahead_many : {T : Type 0} (m : Meaning T) (v r new : Listing) (vs : List T) → Ahead m.takes v r → AreRead m r vs new → (to : Listing) × AreRead m v vs to × Ahead m.takes to new
+ahead_many m v r new [] a h = (v, refl, subst (λ (l : Listing). Ahead m.takes v l) (sym h) a)
 ahead_many m v r new (x ∷ vs) a h =
     let k = ahead_part v r h.0 a h.1 in
     let o = ahead_many m k.0 h.0 new vs k.2 h.2 in
@@ -229,11 +267,11 @@ pub many_left : {T : Type 0} (m : Meaning T) (old new : Listing) (vs : List T) �
 many_left m old new [] h = rw h (omega arith)
 many_left m old new (x ∷ vs) h = let p = h.1.left in let r = many_left m h.0 new vs h.2 in omega (arith, p, r)
 
-pub ahead_left : (v r : Listing) → Ahead v r → r.left ≡ v.left
+pub ahead_left : {takes : Item → Bool} (v r : Listing) → Ahead takes v r → r.left ≡ v.left
 ahead_left v r a = ap (λ (l : Listing). l.left) a.is
 
-pub ahead_start : (l : Listing) → Ahead l l
-ahead_start l = record { looked = record { stays = stays_same l.state.reading; received = omega arith }; is = refl }
+pub ahead_start : {takes : Item → Bool} (l : Listing) → Ahead takes l l
+ahead_start {takes} l = record { width = 1; wide = some_byte takes; looked = record { stays = stays_same l.state.reading; received = omega arith }; is = refl }
 
 -- the more of them were received, the more are known to be left
 first_grown : (s t : List ℕ) → take (length s) t ≡ s → first_least s ≤ first_least t
@@ -241,27 +279,35 @@ first_grown [] t h = first_some t
 first_grown (x ∷ s) [] h = absurd cc
 first_grown (x ∷ s) (y ∷ t) h = let same : y ≡ x = cc in rw same (omega arith)
 
-least_grown : (n : ℕ) (c : Constructor) (s t : List ℕ) → take (length s) t ≡ s → parts_least n c s ≤ parts_least n c t
-least_grown zero c s t h = omega arith
-least_grown (suc n) bare s t h = let first = first_grown s t h in omega (arith, first)
-least_grown (suc n) (under e) s t h = omega arith
-least_grown (suc n) (under_pair d e) s t h = omega arith
+least_grown : (k n m : ℕ) (c : Constructor) (s t : List ℕ) → k ≤ n → take (length s) t ≡ s → parts_least k m c s ≤ parts_least n m c t
+least_grown k n zero c s t g h = omega arith
+least_grown k n (suc m) bare s t g h = let first = first_grown s t h in let others = mul-le-mul_left m g in omega (arith, g, first, others)
+least_grown k n (suc m) (under e) s t g h = omega arith
+least_grown k n (suc m) (under_pair d e) s t g h = omega arith
+
+-- the more of two numbers of bytes
+both_least : {takes : Item → Bool} (k n : ℕ) → AtLeast takes k → AtLeast takes n → AtLeast takes (max k n)
+both_least k n p q t i w taken = let a = p t i w taken in let b = q t i w taken in omega (arith, a, b)
 
 looked_wider : {n m : ℕ} {a b : Reading} → n ≤ m → Looked n a b → Looked m a b
 looked_wider h l = record { stays = l.stays; received = omega (arith, l.received, h) }
 
-pub ahead_more : (v r new : Listing) → Ahead v r → Ahead r new → Ahead v new
+pub ahead_more : {takes : Item → Bool} (v r new : Listing) → Ahead takes v r → Ahead takes r new → Ahead takes v new
 ahead_more v r new a b =
     let known = new.state.reading.received in
-    let same : least_left r known ≡ least_left v known = ap (λ (l : Listing). least_left l known) a.is in
-    let grown = least_grown v.left v.state.inherited r.state.reading.received known b.looked.stays.received in
+    let width = max a.width b.width in
+    let same : least_left b.width r known ≡ least_left b.width v known = ap (λ (l : Listing). least_left b.width l known) a.is in
+    let grown = least_grown a.width width v.left v.state.inherited r.state.reading.received known (omega arith) b.looked.stays.received in
+    let wider = least_grown b.width width v.left v.state.inherited known known (omega arith) (take_all (length known) known (omega arith)) in
     record {
-      looked = looked_then (least_left v known) v.state.reading r.state.reading new.state.reading (looked_wider grown a.looked) (rw same at b.looked);
+      width = width;
+      wide = both_least a.width b.width a.wide b.wide;
+      looked = looked_then (least_left width v known) v.state.reading r.state.reading new.state.reading (looked_wider grown a.looked) (looked_wider wider (rw same at b.looked));
       is = b.is ∙ ap (λ (l : Listing). reading_on l new.state.reading) a.is;
     }
 
 -- it is refused
-pub ahead_refused : {takes : Item → Bool} {grows buffers : Bool} {e : Error} (v r new : Listing) → Ahead v r → v.state.ended ≡ false → NoPart takes grows buffers r new e → NoPart takes grows buffers v new e
+pub ahead_refused : {takes : Item → Bool} {grows buffers : Bool} {e : Error} (v r new : Listing) → Ahead takes v r → v.state.ended ≡ false → NoPart takes grows buffers r new e → NoPart takes grows buffers v new e
 ahead_refused {takes} {grows} {buffers} {e} v r new a answers part =
     let n : NoPart takes grows buffers (reading_on v r.state.reading) new e = subst (λ (l : Listing). NoPart takes grows buffers l new e) a.is part in
     let s = a.looked.stays in
@@ -277,7 +323,7 @@ ahead_refused {takes} {grows} {buffers} {e} v r new a answers part =
           excused_kept v.state.reading r.state.reading new.state.reading e s (n.why i t rest w k (keeps_known v.state.reading.to_come r.state.reading.to_come (t ++ rest) s.to_come at) (rw s.taken fits) (s.steady.honest ∙ h) o);
     }
 
-pub ahead_named : {takes : Item → Bool} {refuses : Refusing} {grows buffers : Bool} {e : Error} (v r new : Listing) → Ahead v r → PartNamed takes refuses grows buffers r new e → PartNamed takes refuses grows buffers v new e
+pub ahead_named : {takes : Item → Bool} {refuses : Refusing} {grows buffers : Bool} {e : Error} (v r new : Listing) → Ahead takes v r → PartNamed takes refuses grows buffers r new e → PartNamed takes refuses grows buffers v new e
 ahead_named {takes} {refuses} {grows} {buffers} {e} v r new a part =
     let n : PartNamed takes refuses grows buffers (reading_on v r.state.reading) new e = subst (λ (l : Listing). PartNamed takes refuses grows buffers l new e) a.is part in
     let s = a.looked.stays in
@@ -306,7 +352,7 @@ failed_memory : {grows buffers : Bool} (v new : Reading) (e : Error) → (IsTrue
 failed_memory v new e g (inl p) m = g p.1
 failed_memory v new e g (inr p) m = let i : IsFault new.last_fault OutOfMemory = rw m at p.0 in absurd i
 
-failed_part : {takes : Item → Bool} {grows buffers : Bool} {e : Error} (r new : Listing) → (IsTrue buffers → IsTrue grows) → r.state.ended ≡ false → Ahead r new → AheadFails buffers r new e → NoPart takes grows buffers r (ended_on new) e
+failed_part : {takes : Item → Bool} {grows buffers : Bool} {e : Error} (r new : Listing) → (IsTrue buffers → IsTrue grows) → r.state.ended ≡ false → Ahead takes r new → AheadFails buffers r new e → NoPart takes grows buffers r (ended_on new) e
 failed_part {takes} {grows} {buffers} {e} r new g answers a f =
     let s = a.looked.stays in
     let begun : new.state.begun ≡ r.state.begun = ap (λ (l : Listing). l.state.begun) a.is in
@@ -321,14 +367,14 @@ failed_part {takes} {grows} {buffers} {e} r new g answers a f =
       why = λ i t rest w k at fits h o. failed_excused r.state.reading new.state.reading e g f.fails;
     }
 
-pub ahead_failed : {takes : Item → Bool} {grows buffers : Bool} {e : Error} (v r new : Listing) → (IsTrue buffers → IsTrue grows) → Ahead v r → v.state.ended ≡ false → Ahead r new → AheadFails buffers r new e → NoPart takes grows buffers v (ended_on new) e
+pub ahead_failed : {takes : Item → Bool} {grows buffers : Bool} {e : Error} (v r new : Listing) → (IsTrue buffers → IsTrue grows) → Ahead takes v r → v.state.ended ≡ false → Ahead takes r new → AheadFails buffers r new e → NoPart takes grows buffers v (ended_on new) e
 ahead_failed v r new g a answers b f = ahead_refused v r (ended_on new) a answers (failed_part r new g (ap (λ (l : Listing). l.state.ended) a.is ∙ answers) b f)
 
-pub ahead_failed_named : {takes : Item → Bool} {refuses : Refusing} {grows buffers : Bool} {e : Error} (v r new : Listing) → (IsTrue buffers → IsTrue grows) → Ahead v r → AheadFails buffers r new e → PartNamed takes refuses grows buffers v (ended_on new) e
+pub ahead_failed_named : {takes : Item → Bool} {refuses : Refusing} {grows buffers : Bool} {e : Error} (v r new : Listing) → (IsTrue buffers → IsTrue grows) → Ahead takes v r → AheadFails buffers r new e → PartNamed takes refuses grows buffers v (ended_on new) e
 ahead_failed_named v r new g a f = ahead_named v r (ended_on new) a record { why = λ o s at h. inr (failed_excused r.state.reading new.state.reading _ g f.fails) }
 
 -- no memory was there for a part
-pub ahead_no_room : {takes : Item → Bool} {buffers : Bool} {old : Decoding} (v r : Listing) → Ahead v r → Missed takes true buffers old (as_ended v.state) OutOfMemory → Missed takes true buffers old (as_ended r.state) OutOfMemory
+pub ahead_no_room : {takes whole : Item → Bool} {buffers : Bool} {old : Decoding} (v r : Listing) → Ahead takes v r → Missed whole true buffers old (as_ended v.state) OutOfMemory → Missed whole true buffers old (as_ended r.state) OutOfMemory
 ahead_no_room {old = old} v r a m =
     let s = a.looked.stays in
     let begun : r.state.begun ≡ v.state.begun = ap (λ (l : Listing). l.state.begun) a.is in
@@ -375,11 +421,11 @@ settled_on from v x p l = record {
 }
 
 -- where no part is left nothing was received ahead
-pub ahead_settled : {parts : _} (from v r : Listing) → PartsRead from parts v → Ahead v r → v.left ≡ 0 → PartsRead from parts r
-ahead_settled {parts} from v r p a z =
+pub ahead_settled : {takes : Item → Bool} {parts : _} (from v r : Listing) → PartsRead from parts v → Ahead takes v r → v.left ≡ 0 → PartsRead from parts r
+ahead_settled {takes} {parts} from v r p a z =
     let received = r.state.reading.received in
-    let none : least_left v received ≡ 0 = ap (λ (n : ℕ). parts_least n v.state.inherited received) z in
+    let none : least_left a.width v received ≡ 0 = ap (λ (n : ℕ). parts_least a.width n v.state.inherited received) z in
     subst (λ (l : Listing). PartsRead from parts l) (sym a.is) (settled_on from v r.state.reading p (rw none at a.looked))
 
-pub sofar_settled : {T : Type 0} (takes : Item → Bool) (means : Item → T → Type 0) (from v r : Listing) (vs : List T) → Sofar takes means from v vs → Ahead v r → r.left ≡ 0 → Sofar takes means from r vs
+pub sofar_settled : {T : Type 0} (takes : Item → Bool) (means : Item → T → Type 0) (from v r : Listing) (vs : List T) → Sofar takes means from v vs → Ahead takes v r → r.left ≡ 0 → Sofar takes means from r vs
 sofar_settled takes means from v r vs s a z = record { parts = s.parts; reads = ahead_settled from v r s.reads a (sym (ahead_left v r a) ∙ z); taken = s.taken; meant = s.meant }

@@ -1,9 +1,10 @@
 -- Bytes of parts that are received before these are read.
-use Rattle.std.specs.Prelude.{◌≡◌, ℕ, zero, suc, ◌+◌, ◌*◌, ◌<◌, Bool, List, [], ◌∷◌, Option, None, Some}
+use Rattle.std.specs.Prelude.{◌≡◌, ℕ, zero, suc, ◌+◌, ◌*◌, ◌<◌, ◌≤◌, max, length, Bool, IsTrue, List, [], ◌∷◌, Option, None, Some}
 use Rattle.amqp_base.specs.declared.error.Error.{Error}
 use Rattle.amqp_base.specs.declared.format_code.EncodingCodes.{EncodingCodes}
 use Rattle.amqp_base.specs.Codes.{row, code_of}
-use Rattle.amqp_base.specs.Wire.{Constructor, bare, under, under_pair}
+use Rattle.amqp_base.specs.Item.{Item}
+use Rattle.amqp_base.specs.Wire.{Constructor, bare, under, under_pair, Wire, lenient}
 use Rattle.amqp_read.specs.Reading.{Reading}
 use Rattle.amqp_read.specs.Steps.{Looked, Fails}
 use Rattle.amqp_data.specs.Places.{least_width, own_width}
@@ -19,16 +20,21 @@ abbrev pub first_least : List ℕ → ℕ
 first_least [] = 1
 first_least (x ∷ s) = 1 + behind_code (code_of x)
 
--- so many bytes parts take at least, as many as these, of which these bytes are the first
-abbrev pub parts_least : ℕ → Constructor → List ℕ → ℕ
-parts_least zero c received = 0
-parts_least (suc others) bare received = first_least received + others
-parts_least (suc others) (under e) received = suc others * least_width (under e)
-parts_least (suc others) (under_pair d e) received = suc others * least_width (under_pair d e)
+-- the items that are taken have so many bytes at least, with a constructor of their own
+abbrev pub AtLeast : (Item → Bool) → ℕ → Type 0
+AtLeast takes n = (t : List ℕ) (i : Item) → Wire lenient bare t i → IsTrue (takes i) → n ≤ length t
+
+-- so many bytes parts take at least, as many as these, of n bytes at least with constructors of their own, of which these
+-- bytes are the first
+abbrev pub parts_least : ℕ → ℕ → Constructor → List ℕ → ℕ
+parts_least n zero c received = 0
+parts_least n (suc others) bare received = max n (first_least received) + others * n
+parts_least n (suc others) (under e) received = suc others * least_width (under e)
+parts_least n (suc others) (under_pair d e) received = suc others * least_width (under_pair d e)
 
 -- so many bytes the parts that are left take at least, where these of them were received
-abbrev pub least_left : Listing → List ℕ → ℕ
-least_left l received = parts_least l.left l.state.inherited received
+abbrev pub least_left : ℕ → Listing → List ℕ → ℕ
+least_left n l received = parts_least n l.left l.state.inherited received
 
 -- the same access, where its reader is in another state
 abbrev pub reading_on : Listing → Reading → Listing
@@ -39,9 +45,11 @@ reading_on l r = record {
   limit = l.limit;
 }
 
--- Nothing was read. Bytes were received of the parts that are left, no more than these take at least.
-pub record Ahead (old new : Listing) : Type 0 where
-  pub looked : Looked (least_left old new.state.reading.received) old.state.reading new.state.reading
+-- Nothing was read. Bytes were received of the parts that are left, no more than these take at least, where they are taken.
+pub record Ahead (takes : Item → Bool) (old new : Listing) : Type 0 where
+  pub width : ℕ
+  pub wide : AtLeast takes width
+  pub looked : Looked (least_left width old new.state.reading.received) old.state.reading new.state.reading
   pub is : new ≡ reading_on old new.state.reading
 
 -- the source failed meanwhile, or its bytes found no memory

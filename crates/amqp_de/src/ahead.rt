@@ -6,8 +6,8 @@ ghost use Rattle.amqp_de.specs.Ahead.{Ahead, AheadFails, first_least, parts_leas
 ghost use Rattle.amqp_de.specs.ReadParts.{open_list};
 ghost use Rattle.amqp_de.specs.Seq.{at_open};
 
-use crate::Deserializer;
 use crate::list::{Access, Open};
+use crate::{Deserialize, Deserializer};
 use amqp_base::{EncodingCodes, Error};
 use amqp_data::{Constructor, least_width, own_width};
 use amqp_read::Read;
@@ -19,20 +19,23 @@ const FEW: usize = 4;
 /// Where so many bytes are at hand none are received ahead: a short item stands there as a whole.
 const ENOUGH: usize = 64;
 
+/// The least bytes of an item that has data, of its length or its own, behind its code.
+pub(crate) const WITH_DATA: usize = 2;
+
 impl<R: Read, F> Access<'_, R, F> {
-    /// Receives some bytes of the parts that are left, where few are at hand, and no byte behind
-    /// them. No part is read.
+    /// Receives some bytes of the parts that are left, values of `T`, where few are at hand, and no
+    /// byte behind them. No part is read.
     ///
     /// The errors are a fault of the source, and `OutOfMemory` where the bytes find no memory.
     #[inline(always)]
     #[tactic(auto, unfolding(crate::specs::ReadParts::open_list))]
-    pub(crate) fn receive_ahead(&mut self) -> Result<(), Error>
+    pub(crate) fn receive_ahead<T: Deserialize<R>>(&mut self) -> Result<(), Error>
         ensures same_reference { self.new.de.ghost_name ≡ self.old.de.ghost_name }
-        ensures ahead { Ahead (open_list self.old) (open_list self.new) }
+        ensures ahead { Ahead T.meaning.takes (open_list self.old) (open_list self.new) }
         ensures why { IfErr result (λ e.
             AheadFails R.buffers (open_list self.old) (open_list self.new) e) }
     {
-        self.de.receive_parts(&self.inner)
+        self.de.receive_parts::<T>(&self.inner)
     }
 }
 
@@ -51,15 +54,18 @@ fn first_least(bytes: &[u8]) -> usize
     }
 }
 
-/// How many bytes parts take at least, as far as a usize counts: as many as these, of which these
-/// bytes are the first.
+/// How many bytes parts take at least, as far as a usize counts: as many as these, of `width` bytes
+/// at least with constructors of their own, of which these bytes are the first.
 #[inline(always)]
-fn parts_least(parts: u32, constructor: &Constructor, bytes: &[u8]) -> usize
+fn parts_least(width: usize, parts: u32, constructor: &Constructor, bytes: &[u8]) -> usize
     requires { 0 < parts }
-    ensures { result ≤ parts_least parts (constructor_of constructor.now) bytes.now }
+    ensures { result ≤ parts_least width parts (constructor_of constructor.now) bytes.now }
 {
     match constructor {
-        Constructor::Bare => first_least(bytes).saturating_add(parts as usize - 1),
+        Constructor::Bare => {
+            let others = (parts as usize - 1).saturating_mul(width);
+            first_least(bytes).max(width).saturating_add(others)
+        }
         _ => (parts as usize).saturating_mul(least_width(constructor)),
     }
 }
@@ -68,15 +74,16 @@ impl<R: Read> Deserializer<R> {
     /// Bytes of the parts that are left are received, as many as those take at least: the first one
     /// as many as its code says, where that is at hand.
     #[inline(always)]
-    fn receive_parts(&mut self, inner: &Open) -> Result<(), Error>
-        ensures ahead { Ahead (at_open self.old inner.now) (at_open self.new inner.now) }
+    fn receive_parts<T: Deserialize<R>>(&mut self, inner: &Open) -> Result<(), Error>
+        ensures ahead { Ahead T.meaning.takes (at_open self.old inner.now) (at_open self.new inner.now) }
         ensures why { IfErr result (λ e.
             AheadFails R.buffers (at_open self.old inner.now) (at_open self.new inner.now) e) }
     {
         if inner.left == 0 || self.reader.at_hand() >= ENOUGH {
             return Ok(());
         }
-        let least = parts_least(inner.left, &self.inherited, self.reader.bytes_at_hand());
+        let bytes = self.reader.bytes_at_hand();
+        let least = parts_least(T::least_len(), inner.left, &self.inherited, bytes);
         if least < FEW {
             return Ok(());
         }

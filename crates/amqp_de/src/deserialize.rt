@@ -5,9 +5,11 @@ ghost use Rattle.std.specs.Prelude.{IfErr};
 ghost use Rattle.amqp_read.specs.Steps.{HasBytes};
 ghost use Rattle.amqp_de.specs.Calls.{IsRead, IsRefused, IsNamed};
 ghost use Rattle.amqp_data.specs.Places.{least_width};
+ghost use Rattle.amqp_de.specs.Ahead.{AtLeast};
 ghost use Rattle.amqp_de.specs.Many.{ReadsMany};
 ghost use Rattle.amqp_de.specs.ReadParts.{open_list};
 
+use crate::ahead::WITH_DATA;
 use crate::{Deserializer, ListAccess};
 use amqp_base::{Error, Typed};
 use amqp_data::least_width;
@@ -29,6 +31,17 @@ pub trait Deserialize<R: Read>: Typed + Sized {
         ensures ok { IfOk result (λ v. IsRead Self.meaning v de.old de.new) }
         ensures err { IfErr result (λ e. IsRefused Self.meaning R.buffers de.old de.new e) }
         ensures named { IfErr result (λ e. IsNamed Self.meaning R.buffers de.old de.new e) };
+
+    /// How many bytes each of its values takes at least, with a constructor of its own. A type of
+    /// one's own has no need to say it.
+    #[doc(hidden)]
+    #[inline(always)]
+    #[tactic(auto, using(crate::proofs::ReceivedAhead::some_byte))]
+    fn least_len() -> usize
+        ensures { AtLeast Self.meaning.takes result }
+    {
+        1
+    }
 
     /// Reads some of the next elements at once, where that is faster than one by one, and puts them
     /// behind the others: whether it did. A type of one's own has no need to say it.
@@ -135,6 +148,12 @@ impl<R: Read> Deserialize<R> for i32 {
     }
 
     #[inline(always)]
+    #[tactic(auto, using(crate::proofs::ReceivedAhead::int_least))]
+    fn least_len() -> usize {
+        WITH_DATA
+    }
+
+    #[inline(always)]
     fn next_elements(
         alloc: Global,
         list: &mut ListAccess<'_, R>,
@@ -166,6 +185,12 @@ impl<R: Read> Deserialize<R> for String {
             Ok(text) => return Ok(text),
             Err(e) => return Err(e),
         }
+    }
+
+    #[inline(always)]
+    #[tactic(auto, using(crate::proofs::ReceivedAhead::string_least))]
+    fn least_len() -> usize {
+        WITH_DATA
     }
 
     #[inline(always)]
@@ -253,14 +278,14 @@ impl<R: Read, T: Deserialize<R>> Deserialize<R> for Vec<T> {
     #[inline(always)]
     fn deserialize(alloc: Global, de: &mut Deserializer<R>) -> Result<Vec<T>, Error> {
         let mut access = de.deserialize_elements(alloc)?;
-        if let Err(e) = access.receive_ahead() {
+        if let Err(e) = access.receive_ahead::<T>() {
             return Err(e);
         }
         let announced = access.inner.left;
         let room = access.de.room(announced);
         let mut items = Vec::with_capacity(alloc, room)?;
         'items: while {
-            match access.receive_ahead() {
+            match access.receive_ahead::<T>() {
                 Ok(()) => {}
                 Err(e) => return Err(e),
             }

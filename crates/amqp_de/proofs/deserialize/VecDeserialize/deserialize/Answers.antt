@@ -67,7 +67,7 @@ returns-in-Err-next_elements-clause-err g c =
     let a = ahead_more v.now _ _ v.ahead c.in-Ok.ensures.ahead in
     let r = c.in-Err-next_elements.ensures.read in
     let next = listing c.next_elements.new.list in
-    let b = subst (λ (l : Listing). Ahead v.now l) (sym r.1) a in
+    let b = subst (λ (l : Listing). Ahead m.takes v.now l) (sym r.1) a in
     rw r.0 (missed_at _ _ (search rules) (ahead_no_room v.now next b (push_missed m.takes m.means g.R.Read.buffers c.args.de.now v.from v.now _ v.opened.1.opens v.sofar (as_ended v.now.state) refl)))
 
 pub returns-in-Err-next_element-clause-err : goal.returns-in-Err-next_element-clause-err

@@ -14,7 +14,7 @@ invariant-items g l = record {
   from : Listing;
   now : Listing;
   opened : OpensEither l.fn.de from;
-  ahead : Ahead now (listing l.access);
+  ahead : Ahead g.T.Typed.meaning.takes now (listing l.access);
   sofar : Sofar g.T.Typed.meaning.takes g.T.Typed.meaning.means from now l.items.items;
   reaches : Reach g.T.Typed.meaning.takes g.T.Typed.meaning.refuses from now;
 }
