@@ -75,7 +75,8 @@ impl<R: Read> Deserializer<R> {
     /// as many as its code says, where that is at hand.
     #[inline(always)]
     fn receive_parts<T: Deserialize<R>>(&mut self, inner: &Open) -> Result<(), Error>
-        ensures ahead { Ahead T.meaning.takes (at_open self.old inner.now) (at_open self.new inner.now) }
+        ensures ahead { Ahead T.meaning.takes (at_open self.old inner.now)
+            (at_open self.new inner.now) }
         ensures why { IfErr result (λ e.
             AheadFails R.buffers (at_open self.old inner.now) (at_open self.new inner.now) e) }
     {
