@@ -57,6 +57,7 @@ TYPES = PRIMITIVES | {
     "map-u32-bool": Map(U32, BOOL),
     "map-u32-array-i32": Map(U32, Array(I32)),
     "map-timestamp-string": Map(TIMESTAMP, STRING),
+    "map-u64-string": Map(U64, STRING),
     "sorted-u32-u32": Map(U32, U32, is_sorted=True),
     "sorted-string-i32": Map(STRING, I32, is_sorted=True),
     "described-null": Described(NULL),

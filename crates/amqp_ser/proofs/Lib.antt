@@ -4,6 +4,7 @@ pub mod FieldParts
 pub mod Finish
 pub mod MapPairs
 pub mod ManyParts
+pub mod Gathered
 pub mod NumberParts
 pub mod WholeFields
 pub mod Pairs

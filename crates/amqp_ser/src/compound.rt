@@ -2,7 +2,7 @@
 
 ghost use Rattle.std.specs.Prelude.{◌≡◌, ◌≢◌, ◌+◌, ◌==◌, ◌%◌, ◌++◌};
 ghost use Rattle.std.specs.Prelude.{Some, ◌∷◌, Bool, List, [], true, false, IfOk};
-ghost use Rattle.std.specs.Prelude.{IfErr, OnOk, OnErr, Err};
+ghost use Rattle.std.specs.Prelude.{IfErr, OnOk, OnErr, Err, IsTrue};
 ghost use Rattle.amqp_base.specs.Item.{Item};
 ghost use Rattle.amqp_base.specs.Shapes.{whole, setting_inside};
 ghost use Rattle.amqp_ser.specs.State.{State, answering};
@@ -110,6 +110,25 @@ impl<'a, W: Sink, F: Drop> Compound<'a, W, F> {
             (open_state self.old) result self.new.ser.now.state (open_state self.new) }
     {
         answer!(write_part(&mut *self.ser, &mut self.parts, alloc, value))
+    }
+
+    /// Whether its parts stand on its own serializer, outside arrays.
+    #[inline(always)]
+    pub(crate) fn stands_outside(&self) -> bool
+        ensures direct { IsTrue result → self.now.parts.opened ≢ IsBuffered }
+        ensures outside { IsTrue result → self.now.parts.shape ≢ Shape.Array }
+    {
+        let ser = &*self.ser;
+        match ser.writer.pass() {
+            Pass::Buffers => false,
+            _ => match self.parts.opened {
+                Opened::Buffered => false,
+                _ => match self.parts.shape {
+                    Shape::Array => false,
+                    _ => true,
+                },
+            },
+        }
     }
 
     /// Writes the whole: its code, its size, the number of its parts, and them (a list without

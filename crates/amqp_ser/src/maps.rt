@@ -13,28 +13,28 @@ impl<K: Serialize + Eq + Hash, V: Serialize> Serialize for OrderedMap<K, V> {
             Ok(map) => map,
             Err(e) => return Err(e),
         };
-        for (key, value) in self.iter() {
-            match map.serialize_entry(alloc, key, value) {
-                Ok(()) => {}
-                Err(e) => return Err(e),
-            }
+        if map.counts_entries(self.iter(), self.len()) {
+            return map.end();
         }
-        map.end()
+        match map.write_entries(alloc, self.iter()) {
+            Ok(()) => map.end(),
+            Err(e) => Err(e),
+        }
     }
 }
 
 impl<K: Serialize + Ord, V: Serialize> Serialize for BTreeMap<K, V> {
     fn serialize<W: Sink>(&self, alloc: Global, ser: &mut Serializer<W>) -> Result<(), Error> {
-        let mut ascending = match ser.serialize_map(alloc, Some(self.len())) {
+        let mut map = match ser.serialize_map(alloc, Some(self.len())) {
             Ok(map) => map,
             Err(e) => return Err(e),
         };
-        for (key, value) in self.iter() {
-            match ascending.serialize_entry(alloc, key, value) {
-                Ok(()) => {}
-                Err(e) => return Err(e),
-            }
+        if map.counts_entries(self.iter(), self.len()) {
+            return map.end();
         }
-        ascending.end()
+        match map.write_entries(alloc, self.iter()) {
+            Ok(()) => map.end(),
+            Err(e) => Err(e),
+        }
     }
 }

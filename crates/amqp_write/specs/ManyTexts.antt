@@ -80,6 +80,10 @@ pub record WritesTexts {A : Type 0} (m : Mark) (is : List Item) (s : State) (r :
   pub texts : OnOk r (AreTexts m is bytes)
   pub appended : Appended s bytes r t
 
+-- texts of so many bytes in all were counted, whichever they are
+abbrev pub CountsTexts : ℕ → State → State → Type 0
+CountsTexts n s t = (m : Mark) (is : List Item) → HaveTextsOf m is n → WritesTexts {A = Unit {0}} m is s (Ok tt) t
+
 -- the parts that follow stand under this mark: outside arrays, or under the constructor of an array's first element
 abbrev pub Stand : Mark → Shape → Mark → Type 0
 Stand m shape now = ((shape ≡ Shape.Array → ⊥) × (m ≡ unmarked)) ⊎ ((now ≡ m) × (m ≡ first → ⊥))

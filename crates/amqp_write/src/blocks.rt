@@ -1,9 +1,11 @@
 //! Numbers whose texts are written many at a time.
 
-ghost use Rattle.std.specs.Prelude.{◌≡◌, ◌*◌, ◌≤◌, false, IsTrue, length, map};
+ghost use Rattle.std.specs.Prelude.{◌≡◌, ◌*◌, ◌≤◌, ◌∷◌, [], false, None, IsTrue, IfSome, length};
+ghost use Rattle.std.specs.Prelude.{map};
 ghost use Rattle.amqp_write.specs.State.{stand};
 ghost use Rattle.amqp_write.specs.Appending.{as_error};
-ghost use Rattle.amqp_write.specs.ManyTexts.{CountsText, HaveTextsOf, PutsAll, WritesTexts};
+ghost use Rattle.amqp_write.specs.ManyTexts.{CountsText, CountsTexts, HaveTextsOf, PutsAll};
+ghost use Rattle.amqp_write.specs.ManyTexts.{PutsText, WritesTexts};
 
 use crate::numbers::Texts;
 use crate::place::Place;
@@ -16,8 +18,34 @@ const MANY: usize = 32;
 /// Room for the texts of so many.
 const ROOM: usize = 320;
 
+/// Room that the text of any number finds.
+const LONGEST: usize = 10;
+
 /// So many lengths are summed in four bytes.
 const SUMMED: usize = 4096;
+
+/// The bytes of a number's text.
+#[inline(always)]
+pub fn number_len<P: Texts<T>, T: Typed>(value: T) -> usize
+    ensures text { HaveTextsOf P.mark (T.meaning.item value Setting.Plain ∷ []) result }
+{
+    P::text_len(value) as usize
+}
+
+/// Puts a number's text into the block from `at` on: where the next may begin. None where it finds
+/// no room; then nothing was put.
+#[inline(always)]
+pub fn put_number<P: Texts<T>, T: Typed>(value: T, block: &mut [u8], at: usize) -> Option<usize>
+    ensures text { IfSome result (λ end.
+        PutsText P.mark (T.meaning.item value Setting.Plain) at block.old end block.new) }
+    ensures none { result ≡ None → block.new ≡ block.old }
+{
+    let room = at.checked_add(LONGEST)?;
+    if room > block.len() {
+        return None;
+    }
+    Some(P::put(value, block, at))
+}
 
 /// Writes the texts of the numbers into the block, one after the other: how many bytes they are.
 #[inline(always)]
@@ -90,6 +118,21 @@ impl Place {
     {
         match (*writer).pass() {
             Pass::Measures => writer.counts(P::text_len(value) as usize),
+            _ => false,
+        }
+    }
+
+    /// Counts texts of so many bytes, where the writer only counts. Whether it did; else nothing
+    /// was done.
+    #[inline(always)]
+    pub fn counts_texts<W: Sink>(&self, writer: &mut W, len: usize) -> bool
+        ensures counted { IsTrue result → CountsTexts len
+            (stand W.Write W.FaultCount writer.old self.now)
+            (stand W.Write W.FaultCount writer.new self.now) }
+        ensures same { result ≡ false → writer.new ≡ writer.old }
+    {
+        match (*writer).pass() {
+            Pass::Measures => writer.counts(len),
             _ => false,
         }
     }

@@ -21,6 +21,7 @@ mod sizes;
 mod strings;
 mod unsigned;
 
+pub use blocks::{number_len, put_number};
 pub use described::{Behind, is_too_long};
 pub use leaf::Leaf;
 pub use many::{Blocks, Many, Strings};
@@ -29,3 +30,4 @@ pub use pass::{Measure, Opened, Plan, Reserved};
 pub use place::{Constructor, Mark, Place, first_mark, setting_inside};
 pub use refusal::{Refusal, handed_on, no_memory, refused};
 pub use sizes::Sizes;
+pub use strings::{put_string, string_len};

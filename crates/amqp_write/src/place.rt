@@ -83,7 +83,7 @@ impl Place {
 
     /// Appends all of `bytes`, or ends.
     #[inline(always)]
-    pub(crate) fn append<W: Sink>(&mut self, writer: &mut W, bytes: &[u8]) -> Result<(), Refusal>
+    pub fn append<W: Sink>(&mut self, writer: &mut W, bytes: &[u8]) -> Result<(), Refusal>
         ensures { Appended (stand W.Write W.FaultCount writer.old self.old) bytes.now
             (as_error result) (stand W.Write W.FaultCount writer.new self.new) }
     {

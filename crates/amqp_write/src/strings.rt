@@ -1,7 +1,7 @@
 //! Strings outside arrays, many at a time.
 
-ghost use Rattle.std.specs.Prelude.{◌≤◌, ◌+◌, [], ◌∷◌};
-ghost use Rattle.std.specs.Prelude.{IfOk, length, map, take, string_bytes};
+ghost use Rattle.std.specs.Prelude.{◌≡◌, ◌≤◌, ◌+◌, [], ◌∷◌};
+ghost use Rattle.std.specs.Prelude.{IfOk, IfSome, None, length, map, take, string_bytes};
 ghost use Rattle.amqp_base.specs.Canon.{limit};
 ghost use Rattle.amqp_base.specs.Item.{scalar, string};
 ghost use Rattle.amqp_write.specs.State.{stand, unmarked};
@@ -16,14 +16,17 @@ use amqp_base::{EncodingCodes, Pass, Sink, codes};
 /// Room for the texts of some short strings.
 const ROOM: usize = 512;
 
-/// The bytes of a string's text.
+/// The bytes of a string's text, where it has one: of more than 4,294,967,291 bytes it has none.
 #[inline(always)]
-fn text_len(value: &str) -> usize
-    requires short { length value.now ≤ limit }
-    ensures text { HaveTextsOf unmarked (scalar (string value.now) ∷ []) result }
+pub fn string_len(value: &str) -> Option<usize>
+    ensures text { IfSome result (λ n.
+        HaveTextsOf unmarked (scalar (string value.now) ∷ []) n) }
 {
     let len = value.len();
-    if len <= NARROW { 2 + len } else { 5 + len }
+    if len > LONGEST {
+        return None;
+    }
+    Some(if len <= NARROW { 2 + len } else { 5 + len })
 }
 
 /// How many strings, from the front, have texts, and the bytes of these as far as a usize counts:
@@ -37,11 +40,10 @@ fn text_lengths(values: &[String]) -> (usize, usize)
     let mut count: usize = 0;
     let mut sum: usize = 0;
     for value in values {
-        let text = value.as_str();
-        if text.len() > LONGEST {
-            return (count, sum);
+        match string_len(value.as_str()) {
+            Some(len) => sum = sum.saturating_add(len),
+            None => return (count, sum),
         }
-        sum = sum.saturating_add(text_len(text));
         count += 1;
     }
     (count, sum)
@@ -80,19 +82,27 @@ fn put_bytes(bytes: &[u8], block: &mut [u8], at: usize)
     block[at..at + len].copy_from_slice(bytes);
 }
 
-/// Writes the text of a short string into the block from `at` on: where the next may begin.
+/// Writes the text of a short string into the block from `at` on: where the next may begin. None
+/// where it isn't short, or finds no room; then nothing was written.
 #[inline(always)]
-fn put_string(value: &str, block: &mut [u8], at: usize) -> usize
-    requires short { length value.now ≤ 254 }
-    requires room { at + 2 + length value.now ≤ length block.old }
-    ensures text { PutsText unmarked (scalar (string value.now)) at block.old result block.new }
+pub fn put_string(value: &str, block: &mut [u8], at: usize) -> Option<usize>
+    ensures text { IfSome result (λ end.
+        PutsText unmarked (scalar (string value.now)) at block.old end block.new) }
+    ensures none { result ≡ None → block.new ≡ block.old }
 {
     let bytes = value.as_bytes();
     let len = bytes.len();
+    if len > NARROW {
+        return None;
+    }
+    let end = at.checked_add(len + 2)?;
+    if end > block.len() {
+        return None;
+    }
     block[at] = codes::STR8;
     block[at + 1] = len as u8;
     put_bytes(bytes, block, at + 2);
-    at + 2 + len
+    Some(end)
 }
 
 /// Writes the texts of strings into the block, one after the other, from the front as far as they
@@ -107,11 +117,10 @@ fn put_some(values: &[String], block: &mut [u8]) -> (usize, usize)
     let mut count: usize = 0;
     let mut at: usize = 0;
     for value in values {
-        let text = value.as_str();
-        if text.len() > NARROW || text.len() + 2 > block.len() - at {
-            return (count, at);
+        match put_string(value.as_str(), block, at) {
+            Some(end) => at = end,
+            None => return (count, at),
         }
-        at = put_string(text, block, at);
         count += 1;
     }
     (count, at)

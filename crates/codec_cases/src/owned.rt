@@ -259,6 +259,7 @@ fn map_of_others<R: Read>(
             alloc,
             <OrderedMap<Timestamp, String>>::deserialize(alloc, de),
         ),
+        Owned::MapU64String => text(alloc, <OrderedMap<u64, String>>::deserialize(alloc, de)),
         Owned::MapU32Array => text(alloc, <OrderedMap<u32, Array<i32>>>::deserialize(alloc, de)),
         Owned::SortedStringI32 => text(alloc, <BTreeMap<String, i32>>::deserialize(alloc, de)),
         _ => described(de, alloc, of),

@@ -13,7 +13,7 @@ pub loop-value-preserved : goal.loop-value-preserved
 loop-value-preserved c =
     let vs = c.args.values.now in
     let k = c.loop-value.value-index in
-    let p = rw c.as_str-text.ensures.value at c.put_string-at.ensures.text in
+    let p = rw c.as_str.ensures.value at c.in-Some.ensures.text in
     record {
       counted = omega (arith, c.loop-value.invariant.counted);
       texts = subst (λ b. AreTexts unmarked (map (λ t. scalar (string (string_bytes t))) (take (k + 1) vs)) b) (sym p.front) (texts_more unmarked (λ t. scalar (string (string_bytes t))) vs k c.value-item.result _ _ c.loop-value-test.true c.value-item.is c.loop-value.invariant.texts p.texts);

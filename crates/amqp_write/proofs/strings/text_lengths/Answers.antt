@@ -12,5 +12,5 @@ loop-value-init c = record { counted = refl; texts = ([], texts_none unmarked, o
 pub loop-value-preserved : goal.loop-value-preserved
 loop-value-preserved c = record {
   counted = omega (arith, c.loop-value.invariant.counted);
-  texts = lengths_next unmarked (λ t. scalar (string (string_bytes t))) c.args.values.now c.loop-value.value-index c.value-item.result _ _ _ c.loop-value-test.true c.value-item.is c.saturating_add-sum.ensures c.loop-value.invariant.texts (rw c.as_str-text.ensures.value at c.text_len.ensures.text);
+  texts = lengths_next unmarked (λ t. scalar (string (string_bytes t))) c.args.values.now c.loop-value.value-index c.value-item.result _ _ _ c.loop-value-test.true c.value-item.is c.saturating_add-sum.ensures c.loop-value.invariant.texts (rw c.as_str.ensures.value at c.in-Some.ensures.text);
 }
