@@ -1,7 +1,7 @@
 //! Entries of a map, many at a time.
 
-ghost use Rattle.std.specs.Prelude.{◌≡◌, ◌≢◌, ◌∷◌, ◌++◌, [], false, List, None, length, take};
-ghost use Rattle.std.specs.Prelude.{IsTrue, IfErr, IfSome, OnOk};
+ghost use Rattle.std.specs.Prelude.{◌≡◌, ◌≢◌, ◌∷◌, ◌++◌, [], false};
+ghost use Rattle.std.specs.Prelude.{List, None, IsTrue, IfErr, IfSome, OnOk, length, take};
 ghost use Rattle.std.specs.Borrow.{Bor};
 ghost use Rattle.std.specs.Iterator.{Drains, IsFinite, Yields};
 ghost use Rattle.amqp_base.specs.Item.{Item};

@@ -1,7 +1,7 @@
 //! Numbers whose texts are written many at a time.
 
-ghost use Rattle.std.specs.Prelude.{◌≡◌, ◌*◌, ◌≤◌, ◌∷◌, [], false, None, IsTrue, IfSome, length};
-ghost use Rattle.std.specs.Prelude.{map};
+ghost use Rattle.std.specs.Prelude.{◌≡◌, ◌*◌, ◌≤◌, ◌∷◌, [], false};
+ghost use Rattle.std.specs.Prelude.{None, IsTrue, IfSome, length, map};
 ghost use Rattle.amqp_write.specs.State.{stand};
 ghost use Rattle.amqp_write.specs.Appending.{as_error};
 ghost use Rattle.amqp_write.specs.ManyTexts.{CountsText, CountsTexts, HaveTextsOf, PutsAll};
