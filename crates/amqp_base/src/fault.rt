@@ -215,7 +215,8 @@ impl Source for &[u8] {
 
     #[inline(always)]
     fn read_some(&mut self, buf: &mut [u8]) -> Result<usize, io::ErrorKind> {
-        // what is read by the byte is asked for so often that a copy's call would show
+        // one byte, or as many as the compiler knows, are asked for so often that a copy's call
+        // would show
         if buf.len() == 1 {
             return match self.split_first() {
                 Some((first, rest)) => {
@@ -226,7 +227,14 @@ impl Source for &[u8] {
                 None => Ok(0),
             };
         }
-        let n = buf.len().min(self.len());
+        let wanted = buf.len();
+        if wanted <= self.len() {
+            let (front, rest) = self.split_at(wanted);
+            buf.copy_from_slice(front);
+            *self = rest;
+            return Ok(wanted);
+        }
+        let n = self.len();
         let (front, rest) = self.split_at(n);
         let (head, _) = buf.split_at_mut(n);
         head.copy_from_slice(front);
@@ -297,6 +305,8 @@ impl<T> Counted<T> {
     }
 
     /// Counts a fault, and hands on its kind.
+    #[cold]
+    #[inline(never)]
     fn failed(&mut self, kind: io::ErrorKind) -> io::ErrorKind
         ensures kind { result ≡ kind }
         ensures faults { self.new.faults.n ≡ self.old.faults.n + 1 }
@@ -330,6 +340,7 @@ impl<T: Read + Drop> Source for Counted<T> {
 
     ghost origin = { λ _. [] };
 
+    #[inline(always)]
     fn read_some(&mut self, buf: &mut [u8]) -> Result<usize, io::ErrorKind> {
         match self.inner.read(buf) {
             Ok(n) => Ok(n),
