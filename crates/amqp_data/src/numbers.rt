@@ -5,7 +5,7 @@ ghost use Rattle.amqp_read.specs.Reading.{Takes};
 ghost use Rattle.amqp_data.specs.Steps.{Unread, Number};
 
 use amqp_base::Error;
-use amqp_read::{Read, read_const_bytes};
+use amqp_read::Read;
 use std::io::ErrorKind;
 
 /// Consumes the next byte.
@@ -37,7 +37,7 @@ pub(crate) fn number<R: Read>(reader: &mut R, width: u32) -> Result<u32, Error>
             Err(e) => Err(e),
         };
     }
-    match read_const_bytes::<R, 4>(reader) {
+    match reader.read_size() {
         Ok(bytes) => Ok(u32::from_be_bytes(bytes)),
         Err(e) => Err(e),
     }

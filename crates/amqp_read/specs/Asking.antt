@@ -1,5 +1,5 @@
 -- What a source is asked for once, and what is received by it.
-use Rattle.std.specs.Prelude.{◌≡◌, ℕ, ◌+◌, ◌≤◌, true, length, Result, IfOk, IfErr, OnErr}
+use Rattle.std.specs.Prelude.{◌≡◌, ℕ, ◌+◌, ◌≤◌, true, length, Result, Ok, Err, Option, Some, None, IfOk, IfErr, OnErr}
 use Rattle.std.specs.declared.io.ErrorKind.{ErrorKind}
 use Rattle.amqp_base.specs.Faults.{refusal_of}
 use Rattle.amqp_read.specs.Reading.{Reading, Stays}
@@ -12,3 +12,8 @@ pub record AskedOnce (n : ℕ) (old new : Reading) (result : Result ℕ ErrorKin
   pub len : IfOk result (λ got. length new.received ≡ length old.received + got)
   pub kept : OnErr result (new.received ≡ old.received)
   pub why : IfErr result (λ kind. Fails true true old new (refusal_of kind))
+
+-- what a source answered, where the kind of its fault was put apart
+abbrev pub told : Option ℕ → ErrorKind → Result ℕ ErrorKind
+told (Some n) kind = Ok n
+told None kind = Err kind

@@ -257,6 +257,19 @@ impl Buffer {
         self.most.sees(received.len());
     }
 
+    /// The same, out of line: of a block that a source gave in part.
+    #[cold]
+    #[inline(never)]
+    pub(crate) fn keep_short(&mut self, received: &[u8])
+        requires none { self.old.unread ≡ [] }
+        requires few { length received.now ≤ 64 }
+        ensures unread { self.new.unread ≡ received.now }
+        ensures moved { self.new.moved + self.new.start ≡ self.old.moved + self.old.start }
+        ensures most { self.new.most ≡ max self.old.most (length self.new.unread) }
+    {
+        self.keep(received)
+    }
+
     /// Whether `n` bytes more find room in place: where none stands in the vector.
     #[inline(always)]
     pub(crate) fn has_room_in_place(&self, n: usize) -> bool

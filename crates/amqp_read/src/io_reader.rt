@@ -264,6 +264,20 @@ impl<S: Source> Read for IoReader<S> {
         self.read_not_in_vector(buf)
     }
 
+    // The source is asked out of line: else the calls that read texts and lists would be too large
+    // to be inlined.
+    #[inline(always)]
+    fn read_size(&mut self) -> Result<[u8; 4], Error> {
+        let mut bytes = [0; 4];
+        if self.take_in_vector(&mut bytes) {
+            return Ok(bytes);
+        }
+        match self.read_apart(&mut bytes) {
+            Ok(()) => Ok(bytes),
+            Err(e) => Err(e),
+        }
+    }
+
     fn peek_bytes(&mut self, n: usize) -> Result<Option<&[u8]>, Error> {
         match self.fill(n) {
             Ok(_) => Ok(self.buffer.front(n)),

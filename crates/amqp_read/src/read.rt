@@ -77,6 +77,23 @@ pub trait Read: sealed::Sealed + Drop {
         ensures why { IfErr result (λ e.
             NotTaken buffers buffers (length buf.old) (reading self.old) (reading self.new) e) };
 
+    /// Consumes the next four bytes, which say how large an item is, as `read_exact` does.
+    #[doc(hidden)]
+    #[inline(always)]
+    fn read_size(&mut self) -> Result<[u8; 4], Error>
+        ensures ok { IfOk result (λ b.
+            (length b ≡ 4) × Takes (reading self.old) (reading self.new) b) }
+        ensures err { OnErr result (Stays (reading self.old) (reading self.new)) }
+        ensures why { IfErr result (λ e.
+            NotTaken buffers buffers 4 (reading self.old) (reading self.new) e) }
+    {
+        let mut bytes = [0; 4];
+        match self.read_exact(&mut bytes) {
+            Ok(()) => Ok(bytes),
+            Err(e) => Err(e),
+        }
+    }
+
     /// The next `n` bytes, which stay; `None` where fewer are to come.
     // No clause on how the reader ends reaches a caller's proof, since the error may own memory:
     // see `SliceReader`'s.

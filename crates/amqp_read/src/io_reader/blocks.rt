@@ -50,6 +50,7 @@ impl<S: Source> IoReader<S> {
 
     /// Asks the source once for all of `block`: whether it gave it. What it gave else is kept, and
     /// `block` stays.
+    #[inline(always)]
     #[tactic(auto, unfolding(amqp_base::specs::Faults::refusal_of))]
     fn read_small(&mut self, block: &mut [u8]) -> Result<bool, ErrorKind>
         requires received { self.old.reading.received ≡ [] }
@@ -76,7 +77,7 @@ impl<S: Source> IoReader<S> {
                     self.taken += n;
                     Ok(true)
                 } else {
-                    self.buffer.keep(&small[..got]);
+                    self.buffer.keep_short(&small[..got]);
                     Ok(false)
                 }
             }
@@ -85,6 +86,7 @@ impl<S: Source> IoReader<S> {
     }
 
     /// Asks the source once for a small `block` where nothing was received: whether it gave it.
+    #[inline(always)]
     fn read_at_once(&mut self, block: &mut [u8]) -> Result<bool, ErrorKind>
         ensures len { length block.new ≡ length block.old }
         ensures taken { IfOk result (λ all. IsTrue all →
@@ -105,6 +107,7 @@ impl<S: Source> IoReader<S> {
     }
 
     /// Fills `block` by the buffer.
+    #[inline(never)]
     fn read_buffered(&mut self, block: &mut [u8]) -> Result<(), Error>
         ensures len { length block.new ≡ length block.old }
         ensures ok { OnOk result (Takes self.old.reading self.new.reading block.new) }
@@ -123,7 +126,9 @@ impl<S: Source> IoReader<S> {
         }
     }
 
-    /// Fills `block`, where its bytes don't stand in the buffer's vector, or can't be counted.
+    /// Fills `block`, where its bytes don't stand in the buffer's vector, or can't be counted. Its
+    /// length is known where this is inlined, so that no copy is a call.
+    #[inline(always)]
     pub(super) fn read_not_in_vector(&mut self, block: &mut [u8]) -> Result<(), Error>
         ensures len { length block.new ≡ length block.old }
         ensures ok { OnOk result (Takes self.old.reading self.new.reading block.new) }
@@ -137,6 +142,19 @@ impl<S: Source> IoReader<S> {
             Ok(false) => self.read_buffered(block),
             Err(kind) => Err(Error::from(kind)),
         }
+    }
+
+    /// The same, out of line.
+    #[inline(never)]
+    pub(super) fn read_apart(&mut self, block: &mut [u8]) -> Result<(), Error>
+        ensures len { length block.new ≡ length block.old }
+        ensures ok { OnOk result (Takes self.old.reading self.new.reading block.new) }
+        ensures err { OnErr result (Stays self.old.reading self.new.reading
+            × (block.new ≡ block.old)) }
+        ensures why { IfErr result (λ e. NotTaken true true (length block.old)
+            self.old.reading self.new.reading e) }
+    {
+        self.read_not_in_vector(block)
     }
 
     /// The next byte, straight from the source. Where there is none, `fault` has the source's, or

@@ -12,10 +12,12 @@ ghost use Rattle.amqp_read.specs.Streaming.{InVector, IsApart};
 ghost use Rattle.amqp_read.specs.Streaming.{with_received};
 
 use super::IoReader;
+use crate::behind::read_block;
 use crate::buffer::PIECE;
 use crate::texts::{is_text, text_of};
 use amqp_base::{Error, Source};
 use std::alloc::Global;
+use std::io::ErrorKind;
 
 impl<S: Source> IoReader<S> {
     /// A copy of the next `n` bytes, which stand in the buffer's vector.
@@ -102,8 +104,9 @@ impl<S: Source> IoReader<S> {
             Ok(bytes) => bytes,
             Err(_) => return Err(Error::OutOfMemory),
         };
-        match self.source.read_some(&mut received) {
-            Ok(got) => {
+        let mut fault = ErrorKind::Other;
+        match read_block(&mut self.source, &mut received, &mut fault) {
+            Some(got) => {
                 if got == n {
                     return Ok(Some(received));
                 }
@@ -111,7 +114,7 @@ impl<S: Source> IoReader<S> {
                 self.buffer.take_over(received);
                 Ok(None)
             }
-            Err(kind) => Err(Error::from(kind)),
+            None => Err(Error::from(fault)),
         }
     }
 
