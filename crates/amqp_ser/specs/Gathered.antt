@@ -1,6 +1,7 @@
 -- Texts of a map's keys and values that are gathered before they are written.
-use Rattle.std.specs.Prelude.{◌≡◌, ℕ, List, [], ◌∷◌, ◌++◌, length, map, take}
+use Rattle.std.specs.Prelude.{◌≡◌, ℕ, List, [], ◌∷◌, ◌++◌, length, map, take, Option}
 use Rattle.std.specs.Borrow.{Bor}
+use Rattle.std.specs.Iterator.{Drains, Yields}
 use Rattle.std.specs.Map.Iter.{deref_pair}
 use Rattle.amqp_base.specs.Item.{Item}
 use Rattle.amqp_base.specs.Maps.{pair_items}
@@ -13,9 +14,24 @@ use Rattle.amqp_ser.specs.State.{State}
 use Rattle.amqp_ser.specs.Compound.{Open, Holds}
 use Rattle.amqp_ser.specs.declared.entries.Gathered.{Gathered}
 
--- the keys and values of these entries
+-- the keys and values of a map that has these entries
+abbrev pub items_of_map : {K V : Type 0} → Meaning K → Meaning V → List (K × V) → List Item
+items_of_map key value es = pair_items (λ k. key.item k Plain) (λ v. value.item v Plain) es
+
+-- the keys and values of these entries, which are lent
 abbrev pub entry_items : {K V : Type 0} → Meaning K → Meaning V → List (Bor K × Bor V) → List Item
-entry_items key value es = pair_items (λ k. key.item k Plain) (λ v. value.item v Plain) (map deref_pair es)
+entry_items key value es = items_of_map key value (map deref_pair es)
+
+-- an iterator gives these entries, in order
+pub record Gives {I K V : Type 0} (next : I → Option (Bor K × Bor V) → I → Type 0) (from : I) (all : List (K × V)) : Type 0 where
+  pub whole : (es : List (Bor K × Bor V)) → Drains next from es → map deref_pair es ≡ all
+  pub front : (es : List (Bor K × Bor V)) (rest : I) → Yields next from es rest → (left : List (K × V)) × (map deref_pair es ++ left ≡ all)
+
+-- two iterators each give these entries, which are so many
+pub record AreGiven {I K V : Type 0} (next : I → Option (Bor K × Bor V) → I → Type 0) (first second : I) (n : ℕ) (all : List (K × V)) : Type 0 where
+  pub one : Gives next first all
+  pub two : Gives next second all
+  pub count : n ≡ length all
 
 pub record HasNone (g : Gathered) : Type 0 where
   pub end : g.end ≡ 0
