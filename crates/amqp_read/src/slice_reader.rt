@@ -26,19 +26,19 @@ use std::marker::Model;
 /// those that answer bytes or a text of their own.
 #[derive(Drop)]
 pub struct SliceReader<'s> {
-    rest: &'s [u8],
+    whole: &'s [u8],
     taken: usize,
 }
 
 impl<'s> Model for SliceReader<'s> {
-    ghost use Rattle.std.specs.Prelude.{◌<◌, ◌+◌, ◌^◌, length, true, [], Some};
+    ghost use Rattle.std.specs.Prelude.{◌≤◌, drop, length, true, [], Some};
     ghost use Rattle.std.specs.Prelude.{None};
     ghost use Rattle.amqp_read.specs.Reading.{Reading};
 
     ghost Value = { Reading };
 
     ghost view = { λ r. record {
-      to_come = Some r.rest.now;
+      to_come = Some (drop r.taken r.whole.now);
       taken = r.taken;
       received = [];
       faults =
@@ -48,7 +48,7 @@ impl<'s> Model for SliceReader<'s> {
       origin = [];
     } };
 
-    ghost invariant = { λ r. r.taken + length r.rest.now < 2 ^ 64 };
+    ghost invariant = { λ r. r.taken ≤ length r.whole.now };
 }
 
 impl<'s> SliceReader<'s> {
@@ -65,7 +65,7 @@ impl<'s> SliceReader<'s> {
         } }
     {
         SliceReader {
-            rest: slice,
+            whole: slice,
             taken: 0,
         }
     }
@@ -78,11 +78,10 @@ impl<'s> SliceReader<'s> {
         ensures err { IfErr result (λ e.
             (e ≡ Io UnexpectedEof) × ShortOf n self.old.to_come × (self.new ≡ self.old)) }
     {
-        if n > self.rest.len() {
+        if n > self.left() {
             return Err(Error::Io(ErrorKind::UnexpectedEof));
         }
-        let (front, rest) = self.rest.split_at(n);
-        self.rest = rest;
+        let front = &self.whole[self.taken..self.taken + n];
         self.taken += n;
         Ok(front)
     }
@@ -98,16 +97,31 @@ impl<'s> SliceReader<'s> {
         ensures why { IfErr result (λ e.
             NoText n self.old e ⊎ NotTaken false false n self.old self.new e) }
     {
-        if n > self.rest.len() {
+        if n > self.left() {
             return Err(Error::Io(ErrorKind::UnexpectedEof));
         }
-        let (front, rest) = self.rest.split_at(n);
+        let front = &self.whole[self.taken..self.taken + n];
         if !is_text(front) {
             return Err(Error::InvalidUtf8Encoding);
         }
-        self.rest = rest;
         self.taken += n;
         Ok(unsafe { std::str::from_utf8_unchecked(front) })
+    }
+
+    /// How many bytes are to come.
+    #[inline(always)]
+    fn left(&self) -> usize
+        ensures { MatchOption self.now.to_come ⊥ (λ bytes. result ≡ length bytes) }
+    {
+        self.whole.len() - self.taken
+    }
+
+    /// The bytes to come.
+    #[inline(always)]
+    fn rest(&self) -> &[u8]
+        ensures { self.now.to_come ≡ Some result.now }
+    {
+        &self.whole[self.taken..]
     }
 
     /// The next `n` bytes, where there are so many. They stay.
@@ -131,7 +145,7 @@ impl<'s> Read for SliceReader<'s> {
 
     #[inline(always)]
     fn peek(&mut self) -> Result<Option<u8>, Error> {
-        Ok(self.rest.first().copied())
+        Ok(self.whole.get(self.taken).copied())
     }
 
     #[inline(always)]
@@ -141,19 +155,17 @@ impl<'s> Read for SliceReader<'s> {
 
     #[inline(always)]
     fn at_hand(&self) -> usize {
-        self.rest.len()
+        self.left()
     }
 
     #[inline(always)]
     fn next(&mut self) -> Result<Option<u8>, Error> {
-        match self.rest {
-            [] => Ok(None),
-            [b, rest @ ..] => {
-                let b = *b;
-                self.rest = rest;
+        match self.whole.get(self.taken) {
+            Some(b) => {
                 self.taken += 1;
-                Ok(Some(b))
+                Ok(Some(*b))
             }
+            None => Ok(None),
         }
     }
 
@@ -182,13 +194,11 @@ impl<'s> Read for SliceReader<'s> {
 
     #[inline(always)]
     fn read_bytes(&mut self, alloc: Global, n: usize) -> Result<Vec<u8>, Error> {
-        if n > self.rest.len() {
+        if n > self.left() {
             return Err(Error::Io(ErrorKind::UnexpectedEof));
         }
-        let (front, rest) = self.rest.split_at(n);
-        match Vec::from_slice(alloc, front) {
+        match Vec::from_slice(alloc, &self.whole[self.taken..self.taken + n]) {
             Ok(bytes) => {
-                self.rest = rest;
                 self.taken += n;
                 Ok(bytes)
             }
@@ -198,13 +208,11 @@ impl<'s> Read for SliceReader<'s> {
 
     #[inline(always)]
     fn forward_read_str(&mut self, alloc: Global, n: usize) -> Result<String, Error> {
-        if n > self.rest.len() {
+        if n > self.left() {
             return Err(Error::Io(ErrorKind::UnexpectedEof));
         }
-        let (front, rest) = self.rest.split_at(n);
-        match text_of(alloc, front) {
+        match text_of(alloc, &self.whole[self.taken..self.taken + n]) {
             Ok(text) => {
-                self.rest = rest;
                 self.taken += n;
                 return Ok(text);
             }
@@ -214,14 +222,15 @@ impl<'s> Read for SliceReader<'s> {
 
     #[inline(always)]
     fn peek_at(&mut self, i: usize) -> Result<Option<u8>, Error> {
-        Ok(self.rest.get(i).copied())
+        Ok(self.rest().get(i).copied())
     }
 
     fn peek_copied(&mut self, alloc: Global, from: usize, n: usize) -> Result<Vec<u8>, Error> {
-        if from > self.rest.len() || n > self.rest.len() - from {
+        let rest = self.rest();
+        if from > rest.len() || n > rest.len() - from {
             return Err(Error::Io(ErrorKind::UnexpectedEof));
         }
-        match Vec::from_slice(alloc, &self.rest[from..from + n]) {
+        match Vec::from_slice(alloc, &rest[from..from + n]) {
             Ok(bytes) => Ok(bytes),
             Err(_) => Err(Error::OutOfMemory),
         }
@@ -229,7 +238,7 @@ impl<'s> Read for SliceReader<'s> {
 
     #[inline(always)]
     fn bytes_at_hand(&self) -> &[u8] {
-        &self.rest[..]
+        self.rest()
     }
 
     #[inline(always)]
@@ -264,5 +273,5 @@ fn front<'a>(reader: &'a SliceReader<'_>, n: usize) -> Option<&'a [u8]>
     ensures { MatchOption result (ShortOf n reader.now.to_come) (λ b.
         (length b.now ≡ n) × MayCome reader.now b.now) }
 {
-    reader.rest.get(..n)
+    reader.rest().get(..n)
 }

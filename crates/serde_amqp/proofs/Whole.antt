@@ -1,6 +1,6 @@
 -- What whole calls give.
-use Rattle.std.proofs.Common.{◌≡◌, ℕ, Bool, true, false, ◌||◌, IsTrue, List, [], ◌++◌, length, take, drop, Option, Some, None, Result, Ok, Err, refl, sym, ap, subst, ◌∙◌, arith, ◌⊎◌, inl, inr}
-use Rattle.std.proofs.lemmas.List.{length-append, take_at, take-append-drop}
+use Rattle.std.proofs.Common.{◌≡◌, ◌-◌, ℕ, Bool, true, false, ◌||◌, IsTrue, List, [], ◌++◌, length, take, drop, Option, Some, None, Result, Ok, Err, refl, sym, ap, subst, ◌∙◌, arith, ◌⊎◌, inl, inr}
+use Rattle.std.proofs.lemmas.List.{length-append, length-drop, take_at, take_all, take-append-drop}
 use Rattle.std.proofs.lemmas.Option.{same_Some}
 use Rattle.std.specs.Prelude.{IfOk, IfErr}
 use Rattle.std.specs.Io.KnownBytes.{Consumes}
@@ -22,6 +22,13 @@ pub consumed : (k l : Option (List ℕ)) (s x : List ℕ) → k ≡ Some s → C
 consumed None l s x e c = absurd cc
 consumed (Some t) None s x e c = absurd c
 consumed (Some t) (Some u) s x e c = (u, sym (same_Some t s e) ∙ c)
+
+-- behind as many bytes stands the rest
+pub left_behind : (s x : List ℕ) (n : ℕ) (rest : List ℕ) → s ≡ x ++ rest → n ≡ length x → s ≡ x ++ take (length s - n) (drop n s)
+left_behind s x n rest p q =
+    let front : take n s ≡ x = rw (p, q) (take_at x rest (length x) refl) in
+    let all : take (length s - n) (drop n s) ≡ drop n s = take_all (length s - n) (drop n s) (omega (arith, length-drop n s)) in
+    rw all (sym (take-append-drop n s) ∙ ap (λ (z : List ℕ). z ++ drop n s) front)
 
 pub read_from : (takes : Item → Bool) (means : Item → Type 0) (s : List ℕ) (old new : Decoding) → stands_under old ≡ bare → old.reading.to_come ≡ Some s → Front takes means old new → ReadFrom takes means s
 read_from takes means s old new b at f =
