@@ -1,17 +1,20 @@
 -- A descriptor, then the value behind it.
-use Rattle.std.proofs.Common.{◌≡◌, ℕ, zero, suc, ◌+◌, Bool, true, false, List, [], ◌∷◌, ◌++◌, Some, Err, Ok, refl, sym, ap, subst, ◌∙◌, arith, append_assoc, IsTrue}
+use Rattle.std.proofs.Common.{◌≡◌, ℕ, zero, suc, ◌+◌, ◌≤◌, Bool, true, false, List, [], ◌∷◌, ◌++◌, length, take, Some, Err, Ok, refl, sym, ap, subst, ◌∙◌, arith, append_assoc, IsTrue}
 use Rattle.amqp_base.specs.declared.error.Error.{Error}
 use Rattle.amqp_base.specs.declared.error.Error.TheVariants.{InvalidFormatCode}
 use Rattle.amqp_base.specs.declared.format_code.EncodingCodes.{EncodingCodes}
+use Rattle.amqp_base.specs.declared.format_code.EncodingCodes.TheVariants.{SmallUlong}
 use Rattle.amqp_base.specs.declared.format_code.Category.{Category}
-use Rattle.amqp_base.specs.Codes.{Kind}
+use Rattle.amqp_base.specs.Codes.{Kind, row, code_of}
 use Rattle.amqp_base.specs.Describing.{is_described, BehindDescriptor, describing_at, describing_behind}
-use Rattle.amqp_base.specs.Item.{Item, scalar, list, map, array, described, Descriptor}
+use Rattle.amqp_base.specs.Item.{Item, scalar, list, map, array, described, Descriptor, code, ulong}
 use Rattle.amqp_base.specs.Parse.{descriptor_at}
-use Rattle.amqp_base.specs.Wire.{Constructor, bare, under, under_pair, Wire, lenient, of_code, of_described, of_data, of_pair, Data, of_fixed, of_variable, list0, of_list, of_map, of_array, empty_array, DescriptorText}
+use Rattle.amqp_base.specs.Value.{payload, read}
+use Rattle.amqp_base.specs.Wire.{Constructor, bare, under, under_pair, Wire, lenient, of_code, of_described, of_data, of_pair, Data, of_fixed, of_variable, list0, of_list, of_map, of_array, empty_array, DescriptorText, code_and_data, fixed}
 use Rattle.amqp_base.proofs.Lists.{cons_parts, rest}
 use Rattle.amqp_base.proofs.OneFront.{same_descriptor_text}
 use Rattle.amqp_read.specs.Reading.{Reading, Takes}
+use Rattle.amqp_read.specs.Steps.{Shows, Passes}
 use Rattle.amqp_data.specs.Arrays.{RejectsFor}
 use Rattle.amqp_data.specs.Steps.{Rejects, Unread}
 use Rattle.amqp_data.proofs.Descriptors.{descriptor_parses, behind_first, byte_missing, rejects_front}
@@ -21,6 +24,7 @@ use Rattle.amqp_de.specs.Decoding.{Decoding, stands_under, behind_descriptor}
 use Rattle.amqp_de.specs.Describes.{TakesDescribing, Describes, NoDescriptor}
 use Rattle.amqp_de.specs.Steps.{IsDescribed}
 use Rattle.amqp_de.proofs.Answered.{not_refused, one_refused}
+use Rattle.amqp_de.proofs.ManyRead.{shown_passed}
 
 -- ---- 0x00 and a descriptor
 
@@ -39,6 +43,24 @@ other_first custom buffers x old mid n t = behind_first (describing_behind custo
 pub no_name : (custom : Error) (buffers : Bool) (x : ℕ) (old mid new : Reading) (e : Error) → x ≡ 0 → Takes old mid (x ∷ []) → Rejects true buffers (descriptor_at custom) mid new e → Rejects true buffers (describing_at custom bare) old new e
 unfolding describing_at
 no_name custom buffers x old mid new e z t n = behind_first (describing_behind custom) buffers x old mid new e t (rw z (rejects_front (descriptor_at custom) (λ d. Ok (record { descriptor = d.0; stands = bare }, d.1)) mid new e n))
+
+three_at_least : (b : List ℕ) (x y z : ℕ) → take 3 b ≡ x ∷ y ∷ z ∷ [] → 3 ≤ length b
+three_at_least [] x y z h = absurd cc
+three_at_least (u ∷ []) x y z h = absurd cc
+three_at_least (u ∷ v ∷ []) x y z h = absurd cc
+three_at_least (u ∷ v ∷ w ∷ b) x y z h = omega arith
+
+small_text : (k : ℕ) → DescriptorText (0x53 ∷ k ∷ []) (code k)
+unfolding code_of row payload read
+small_text k = code_and_data {e = SmallUlong} refl (fixed refl (ap (λ (n : ℕ). Some (ulong n)) (omega arith)))
+
+-- they were shown, the descriptor a small ulong, and then passed
+pub small_ulong : (k : ℕ) (old new : Reading) (b : List ℕ) → Shows old b → Passes 3 old new → take 3 b ≡ 0 ∷ 0x53 ∷ k ∷ [] → TakesDescribing (code k) old new
+small_ulong k old new b shown p front = record {
+  text = 0x53 ∷ k ∷ [];
+  spelled = small_text k;
+  step = subst (λ (t : List ℕ). Takes old new t) (shown_passed 3 old new b shown p (three_at_least b 0 0x53 k front) ∙ front) p.step;
+}
 
 -- ---- the descriptor of an item
 

@@ -1,5 +1,5 @@
 -- One of the descriptors that are wanted, or none.
-use Rattle.std.proofs.Common.{◌≡◌, ℕ, Bool, true, false, List, ◌++◌, Some, Ok, Err, refl, sym, ap, ◌∙◌, arith, inl, inr, ◌⊎◌, IsTrue}
+use Rattle.std.proofs.Common.{◌≡◌, ℕ, Bool, true, false, List, ◌++◌, Some, Result, Ok, Err, IfErr, refl, sym, ap, ◌∙◌, arith, inl, inr, ◌⊎◌, IsTrue}
 use Rattle.amqp_base.specs.declared.error.Error.{Error}
 use Rattle.amqp_base.specs.declared.error.Error.TheVariants.{Message, OutOfMemory}
 use Rattle.amqp_base.specs.Describing.{is_described_of, describing_at, is_behind}
@@ -73,3 +73,9 @@ module _ (among : Descriptor → Bool) (buffers : Bool) (old : Decoding) where
     -- another one stands there, which is a message
     pub other_descriptor : DescribesNone among buffers old (as_ended mid) err
     other_descriptor = record { missed = other_missed; named = other_named }
+
+  -- whichever was answered, it is refused where it is none of them
+  pub none_behind : {A : Type 0} (r : Result A Error) (e : Descriptor) (mid new : Decoding) (text : List ℕ) → Describes e old mid
+      → IfErr r (λ err. (among e ≡ false) × IsCustom text err × (new ≡ as_ended mid)) → IfErr r (λ err. DescribesNone among buffers old new err)
+  none_behind (Ok x) e mid new text d h = tt
+  none_behind (Err err) e mid new text d h = rw h.2 (other_descriptor e mid text err h.0 d h.1)

@@ -85,11 +85,9 @@ impl<R: Read> Deserializer<R> {
         ensures stops { Stops self.old result self.new }
     {
         let mut slots = fields;
-        match self.begin_behind(alloc, descriptor) {
-            Ok(()) => match self.read_list_behind(alloc, &mut slots) {
-                Ok(()) => {}
-                Err(e) => return Err(e),
-            },
+        // A row of many values takes a place wherever it is let go: it is so in one alone.
+        match self.fill_behind(alloc, descriptor, &mut slots) {
+            Ok(()) => {}
             Err(e) => return Err(e),
         }
         match slots.take_values() {
@@ -98,10 +96,37 @@ impl<R: Read> Deserializer<R> {
                 mem::forget(slots);
                 return Ok(values);
             }
+            // Each of them has one.
             None => {
+                mem::forget(slots);
                 self.stop();
                 return Err(Error::SequenceLengthMismatch);
             }
+        }
+    }
+
+    /// The fields behind one of these descriptors, where they stand.
+    #[inline(always)]
+    fn fill_behind<S: Fields<R>, D: DescriptorSet>(
+        &mut self,
+        alloc: Global,
+        descriptor: &D,
+        fields: &mut S,
+    ) -> Result<(), Error>
+        ensures ok { OnOk result (Filled (S.slots fields.new) (λ vs. FieldsBehind
+            (D.among descriptor.now) (S.slots fields.old) vs self.old self.new)) }
+        ensures err { IfErr result (λ e. FieldsBehindRefused (D.among descriptor.now)
+            (S.slots fields.old) R.buffers self.old self.new e) }
+        ensures named { IfErr result (λ e. FieldsBehindNamed (D.among descriptor.now)
+            (S.slots fields.old) S.takes S.refuses R.buffers self.old self.new e) }
+        ensures stops { Stops self.old result self.new }
+    {
+        match self.begin_behind(alloc, descriptor) {
+            Ok(()) => match self.read_list_behind(alloc, fields) {
+                Ok(()) => return Ok(()),
+                Err(e) => return Err(e),
+            },
+            Err(e) => return Err(e),
         }
     }
 

@@ -1,15 +1,18 @@
 //! The descriptors behind which the values of a type are read.
 
-ghost use Rattle.std.specs.Prelude.{◌≡◌, IfOk, IfErr};
+ghost use Rattle.std.specs.Prelude.{◌≡◌, ◌∷◌, [], codes, false, true, take};
+ghost use Rattle.std.specs.Prelude.{IfOk, IfErr, IfSome, OnOk, None};
 ghost use Rattle.amqp_base.specs.Canon.{same_descriptor};
 ghost use Rattle.amqp_base.specs.Describing.{is_code_or_name};
-ghost use Rattle.amqp_base.specs.Item.{name};
-ghost use Rattle.amqp_de.specs.Describes.{DescribesAmong, DescribesNone};
+ghost use Rattle.amqp_base.specs.Item.{name, code};
+ghost use Rattle.amqp_base.specs.Refusals.{IsCustom};
+ghost use Rattle.amqp_de.specs.Decoding.{as_ended};
+ghost use Rattle.amqp_de.specs.Describes.{Describes, DescribesAmong, DescribesNone};
 ghost use Rattle.amqp_de.specs.Steps.{Stops};
 ghost use Rattle.amqp_types.specs.Descriptors.{descriptor_of};
 
 use crate::Deserializer;
-use amqp_base::Error;
+use amqp_base::{Error, codes};
 use amqp_read::Read;
 use amqp_types::{Descriptor, SymbolRef};
 use std::alloc::Global;
@@ -85,6 +88,17 @@ fn is_wanted<D: DescriptorSet>(wanted: &D, found: Descriptor) -> bool
     wanted.contains(&found)
 }
 
+/// The code of a descriptor that is a small ulong, where 0x00 and it stand at the front.
+#[inline(always)]
+fn small_code(bytes: &[u8]) -> Option<u8>
+    ensures { IfSome result (λ k. take 3 bytes.now ≡ 0 ∷ 0x53 ∷ k ∷ []) }
+{
+    if bytes.len() < 3 || bytes[0] != codes::DESCRIBED_TYPE || bytes[1] != codes::SMALL_ULONG {
+        return None;
+    }
+    Some(bytes[2])
+}
+
 impl<R: Read> Deserializer<R> {
     /// Reads the descriptor of the next item, which is to be one of these: another one is a
     /// `Message`. The next call reads the value behind it.
@@ -99,15 +113,57 @@ impl<R: Read> Deserializer<R> {
             DescribesNone (D.among wanted.now) R.buffers self.old self.new e) }
         ensures stops { Stops self.old result self.new }
     {
-        match self.deserialize_descriptor(alloc) {
-            Ok(found) => {
-                if !is_wanted(wanted, found) {
-                    self.stop();
-                    return Err(Error::custom(alloc, "another descriptor"));
-                }
-                Ok(())
-            }
-            Err(e) => Err(e),
+        match self.take_small_code() {
+            Some(code) => self.go_behind(alloc, wanted, Descriptor::Code(code as u64)),
+            None => match self.deserialize_descriptor(alloc) {
+                Ok(found) => self.go_behind(alloc, wanted, found),
+                Err(e) => Err(e),
+            },
         }
+    }
+
+    /// Consumes the descriptor of the next item, where it is a small ulong and its bytes are at
+    /// hand: its code. Else nothing changes.
+    // The descriptors of the standard's own types are such, and no place in memory is made of them.
+    #[inline(always)]
+    fn take_small_code(&mut self) -> Option<u8>
+        ensures taken { IfSome result (λ k. Describes (code k) self.old self.new) }
+        ensures else_kept { result ≡ None → self.new ≡ self.old }
+    {
+        if self.ended || !self.is_bare() {
+            return None;
+        }
+        match small_code(self.reader.bytes_at_hand()) {
+            Some(code) => {
+                if !self.reader.pass_at_hand(3) {
+                    return None;
+                }
+                self.begun.tick();
+                self.begun.tick();
+                Some(code)
+            }
+            None => None,
+        }
+    }
+
+    /// Goes on behind the descriptor that was read, where it is one of these: another one is a
+    /// `Message`.
+    #[inline(always)]
+    fn go_behind<D: DescriptorSet>(
+        &mut self,
+        alloc: Global,
+        wanted: &D,
+        found: Descriptor,
+    ) -> Result<(), Error>
+        ensures ok { OnOk result ((D.among wanted.now (descriptor_of found) ≡ true)
+            × (self.new ≡ self.old)) }
+        ensures err { IfErr result (λ e. (D.among wanted.now (descriptor_of found) ≡ false)
+            × IsCustom (codes "another descriptor") e × (self.new ≡ as_ended self.old)) }
+    {
+        if !is_wanted(wanted, found) {
+            self.stop();
+            return Err(Error::custom(alloc, "another descriptor"));
+        }
+        Ok(())
     }
 }

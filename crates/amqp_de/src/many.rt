@@ -29,7 +29,7 @@ pub(crate) trait Many: Typed + Sized {
 impl<R: Read> Deserializer<R> {
     /// Whether the next parts have constructors of their own.
     #[inline(always)]
-    fn is_bare(&self) -> bool
+    pub(crate) fn is_bare(&self) -> bool
         ensures { IsTrue result → self.now.inherited ≡ bare }
     {
         match &self.inherited {

@@ -1,33 +1,4 @@
-use Rattle.amqp_base.specs.Describing.{described_list_refusal}
-use Rattle.amqp_base.specs.Leading.{takes_leading}
-use Rattle.amqp_de.proofs.FieldsBehind.{behind_found, behind_missed, none_missed, none_named, behind_named}
 use Rattle.amqp_de.proofs.deserializer.Deserializer.deserialize_described_fields.Goals as goal
 
 pub returns-in-Some-clause-ok : goal.returns-in-Some-clause-ok
-returns-in-Some-clause-ok g c =
-    let d = c.in-Ok.ensures.ok in
-    let values = c.take_values.ensures.some _ c.in-Some.is in
-    behind_found _ _ _ d.descriptor _ _ _ d.wanted d.describes (c.in-Ok-read_list_behind.ensures.ok.values _ values.holds)
-
-pub returns-in-Err-read_list_behind-clause-err : goal.returns-in-Err-read_list_behind-clause-err
-returns-in-Err-read_list_behind-clause-err g c =
-    let d = c.in-Ok.ensures.ok in
-    behind_missed _ _ g.R.Read.buffers _ d.descriptor _ _ _ _ d.describes c.in-Err-read_list_behind.ensures.err
-
-pub returns-in-Err-read_list_behind-clause-named : goal.returns-in-Err-read_list_behind-clause-named
-returns-in-Err-read_list_behind-clause-named g c =
-    let d = c.in-Ok.ensures.ok in
-    let s = g.S.Fields.slots c.args.fields in
-    behind_named _ (described_list_refusal s.awaited g.S.Fields.takes g.S.Fields.refuses) g.R.Read.buffers _ _ d.descriptor _ _ _ d.wanted d.describes c.in-Err-read_list_behind.ensures.named
-
--- no such descriptor
-pub returns-in-Err-clause-err : goal.returns-in-Err-clause-err
-returns-in-Err-clause-err g c =
-    let among = g.D.DescriptorSet.among c.args.descriptor.now in
-    none_missed (takes_leading (g.S.Fields.slots c.args.fields).kinds) g.R.Read.buffers among _ _ _ c.in-Err.ensures.err
-
-pub returns-in-Err-clause-named : goal.returns-in-Err-clause-named
-returns-in-Err-clause-named g c =
-    let among = g.D.DescriptorSet.among c.args.descriptor.now in
-    let s = g.S.Fields.slots c.args.fields in
-    none_named among (described_list_refusal s.awaited g.S.Fields.takes g.S.Fields.refuses) g.R.Read.buffers _ _ _ c.in-Err.ensures.err
+returns-in-Some-clause-ok g c = c.in-Ok.ensures.ok.values _ (c.take_values.ensures.some _ c.in-Some.is).holds
