@@ -22,8 +22,11 @@ fn payload<R: Read>(alloc: Global, reader: &mut R, width: u32) -> Result<Vec<u8>
         BytesFirst R.buffers (sized_at width) (R.reading reader.old) e) }
 {
     match number(reader, width) {
-        Ok(len) => reader.read_bytes(alloc, len as usize),
-        Err(e) => Err(e),
+        Ok(len) => match reader.read_bytes(alloc, len as usize) {
+            Ok(bytes) => return Ok(bytes),
+            Err(e) => return Err(e),
+        },
+        Err(e) => return Err(e),
     }
 }
 
@@ -136,11 +139,18 @@ impl Leaf for AsBinary {
 
     ghost of_kind = { λ _. refl };
 
+    #[inline(always)]
     fn read<R: Read>(self, reader: &mut R, code: u8) -> Result<Vec<u8>, Error> {
         match code {
-            codes::VBIN8 => payload(self.0, reader, 1),
-            codes::VBIN32 => payload(self.0, reader, 4),
-            _ => Err(Error::InvalidFormatCode),
+            codes::VBIN8 => match payload(self.0, reader, 1) {
+                Ok(bytes) => return Ok(bytes),
+                Err(e) => return Err(e),
+            },
+            codes::VBIN32 => match payload(self.0, reader, 4) {
+                Ok(bytes) => return Ok(bytes),
+                Err(e) => return Err(e),
+            },
+            _ => return Err(Error::InvalidFormatCode),
         }
     }
 }

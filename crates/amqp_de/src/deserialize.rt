@@ -235,8 +235,8 @@ impl<R: Read> Deserialize<R> for Binary {
     #[inline(always)]
     fn deserialize(alloc: Global, de: &mut Deserializer<R>) -> Result<Binary, Error> {
         match de.deserialize_byte_buf(alloc) {
-            Ok(value) => Ok(Binary(value)),
-            Err(e) => Err(e),
+            Ok(value) => return Ok(Binary(value)),
+            Err(e) => return Err(e),
         }
     }
 }

@@ -17,12 +17,16 @@ impl<R: Read> Deserializer<R> {
     /// `Io(UnexpectedEof)` where bytes are missing, `InvalidFormatCode` where another item stands,
     /// a string or a symbol too, `OutOfMemory` where the bytes, which are all there, find no
     /// memory. A refusal ends the deserializer.
+    #[inline(always)]
     pub fn deserialize_byte_buf(&mut self, alloc: Global) -> Result<Vec<u8>, Error>
         ensures reads { ReadsScalar Kind.binary (λ v.
             binary v.items) true R.buffers self.old result self.new }
         ensures bytes_first { MemoryLast Kind.binary R.buffers self.old result }
     {
-        self.leaf(AsBinary(alloc))
+        match self.leaf(AsBinary(alloc)) {
+            Ok(bytes) => return Ok(bytes),
+            Err(e) => return Err(e),
+        }
     }
 
     /// A string (part 1, section 1.6.20), with a length of 1 or of 4 bytes, which counts bytes.
@@ -48,6 +52,7 @@ impl<R: Read> Deserializer<R> {
     /// `Io(UnexpectedEof)` where bytes are missing, `InvalidFormatCode` where another item stands,
     /// a string or a binary too, `InvalidUtf8Encoding` where all bytes are there and aren't UTF-8,
     /// `OutOfMemory` where the text finds no memory. A refusal ends the deserializer.
+    #[inline(always)]
     pub fn deserialize_symbol(&mut self, alloc: Global) -> Result<String, Error>
         ensures reads { ReadsScalar Kind.symbol (λ s.
             symbol (string_bytes s)) true R.buffers self.old result self.new }
