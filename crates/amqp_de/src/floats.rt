@@ -20,7 +20,10 @@ impl<R: Read> Deserializer<R> {
     pub fn deserialize_f32(&mut self) -> Result<Float, Error>
         ensures { ReadsScalar Kind.float float R.buffers R.buffers self.old result self.new }
     {
-        self.leaf(AsFloat)
+        match self.leaf(AsFloat) {
+            Ok(value) => return Ok(value),
+            Err(e) => return Err(e),
+        }
     }
 
     /// A double (part 1, section 1.6.12): the bits of an IEEE 754 binary64, in 8 bytes. Every bit
@@ -32,6 +35,9 @@ impl<R: Read> Deserializer<R> {
     pub fn deserialize_f64(&mut self) -> Result<Double, Error>
         ensures { ReadsScalar Kind.double double R.buffers R.buffers self.old result self.new }
     {
-        self.leaf(AsDouble)
+        match self.leaf(AsDouble) {
+            Ok(value) => return Ok(value),
+            Err(e) => return Err(e),
+        }
     }
 }

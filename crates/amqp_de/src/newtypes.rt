@@ -31,10 +31,10 @@ impl<R: Read> Deserializer<R> {
             return Err(Error::InvalidValue);
         }
         match T::deserialize(alloc, self) {
-            Ok(value) => Ok(value),
+            Ok(value) => return Ok(value),
             Err(e) => {
                 self.ended = true;
-                Err(e)
+                return Err(e);
             }
         }
     }

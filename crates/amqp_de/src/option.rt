@@ -31,15 +31,15 @@ impl<R: Read> Deserializer<R> {
         match self.deserialize_any() {
             Ok(code) => match code {
                 EncodingCodes::Null => match self.deserialize_unit() {
-                    Ok(()) => Ok(None),
-                    Err(e) => Err(e),
+                    Ok(()) => return Ok(None),
+                    Err(e) => return Err(e),
                 },
                 _ => match self.deserialize_newtype_struct::<T>(alloc, "") {
-                    Ok(value) => Ok(Some(value)),
-                    Err(e) => Err(e),
+                    Ok(value) => return Ok(Some(value)),
+                    Err(e) => return Err(e),
                 },
             },
-            Err(e) => Err(e),
+            Err(e) => return Err(e),
         }
     }
 }
@@ -49,6 +49,9 @@ impl<R: Read, T: Deserialize<R>> Deserialize<R> for Option<T> {
     /// `deserialize_option`.
     #[inline(always)]
     fn deserialize(alloc: Global, de: &mut Deserializer<R>) -> Result<Option<T>, Error> {
-        de.deserialize_option(alloc)
+        match de.deserialize_option(alloc) {
+            Ok(value) => return Ok(value),
+            Err(e) => return Err(e),
+        }
     }
 }

@@ -19,7 +19,10 @@ impl<R: Read> Deserializer<R> {
     pub fn deserialize_unit(&mut self) -> Result<(), Error>
         ensures { ReadsScalar Kind.null (λ _. null) R.buffers R.buffers self.old result self.new }
     {
-        self.leaf(AsNull)
+        match self.leaf(AsNull) {
+            Ok(value) => return Ok(value),
+            Err(e) => return Err(e),
+        }
     }
 
     /// The value of a unit struct: null (part 1, section 1.6.1), whatever its name.
@@ -44,7 +47,10 @@ impl<R: Read> Deserializer<R> {
     pub fn deserialize_bool(&mut self) -> Result<bool, Error>
         ensures { ReadsScalar Kind.boolean boolean R.buffers R.buffers self.old result self.new }
     {
-        self.leaf(AsBoolean)
+        match self.leaf(AsBoolean) {
+            Ok(value) => return Ok(value),
+            Err(e) => return Err(e),
+        }
     }
 
     /// A character (part 1, section 1.6.16): its code point in 4 bytes.
@@ -56,7 +62,10 @@ impl<R: Read> Deserializer<R> {
     pub fn deserialize_char(&mut self) -> Result<char, Error>
         ensures { ReadsScalar Kind.char char R.buffers R.buffers self.old result self.new }
     {
-        self.leaf(AsChar)
+        match self.leaf(AsChar) {
+            Ok(value) => return Ok(value),
+            Err(e) => return Err(e),
+        }
     }
 
     /// A timestamp (part 1, section 1.6.17): milliseconds since the Unix epoch, two's complement in
@@ -69,7 +78,10 @@ impl<R: Read> Deserializer<R> {
         ensures { ReadsScalar Kind.timestamp timestamp R.buffers R.buffers self.old
             result self.new }
     {
-        self.leaf(AsTimestamp)
+        match self.leaf(AsTimestamp) {
+            Ok(value) => return Ok(value),
+            Err(e) => return Err(e),
+        }
     }
 
     /// A uuid (part 1, section 1.6.18): 16 bytes.
@@ -80,6 +92,9 @@ impl<R: Read> Deserializer<R> {
     pub fn deserialize_uuid(&mut self) -> Result<Uuid, Error>
         ensures { ReadsScalar Kind.uuid uuid R.buffers R.buffers self.old result self.new }
     {
-        self.leaf(AsUuid)
+        match self.leaf(AsUuid) {
+            Ok(value) => return Ok(value),
+            Err(e) => return Err(e),
+        }
     }
 }

@@ -18,7 +18,10 @@ impl<R: Read> Deserializer<R> {
     pub fn deserialize_i8(&mut self) -> Result<i8, Error>
         ensures { ReadsScalar Kind.byte byte R.buffers R.buffers self.old result self.new }
     {
-        self.leaf(AsByte)
+        match self.leaf(AsByte) {
+            Ok(value) => return Ok(value),
+            Err(e) => return Err(e),
+        }
     }
 
     /// A short (part 1, section 1.6.8): two's complement in 2 bytes.
@@ -29,7 +32,10 @@ impl<R: Read> Deserializer<R> {
     pub fn deserialize_i16(&mut self) -> Result<i16, Error>
         ensures { ReadsScalar Kind.short short R.buffers R.buffers self.old result self.new }
     {
-        self.leaf(AsShort)
+        match self.leaf(AsShort) {
+            Ok(value) => return Ok(value),
+            Err(e) => return Err(e),
+        }
     }
 
     /// An int, in either of its two encodings (part 1, section 1.6.9): two's complement in 1 or 4
@@ -41,7 +47,10 @@ impl<R: Read> Deserializer<R> {
     pub fn deserialize_i32(&mut self) -> Result<i32, Error>
         ensures { ReadsScalar Kind.int int R.buffers R.buffers self.old result self.new }
     {
-        self.leaf(AsInt)
+        match self.leaf(AsInt) {
+            Ok(value) => return Ok(value),
+            Err(e) => return Err(e),
+        }
     }
 
     /// A long, in either of its two encodings (part 1, section 1.6.10): two's complement in 1 or 8
@@ -53,6 +62,9 @@ impl<R: Read> Deserializer<R> {
     pub fn deserialize_i64(&mut self) -> Result<i64, Error>
         ensures { ReadsScalar Kind.long long R.buffers R.buffers self.old result self.new }
     {
-        self.leaf(AsLong)
+        match self.leaf(AsLong) {
+            Ok(value) => return Ok(value),
+            Err(e) => return Err(e),
+        }
     }
 }

@@ -18,7 +18,10 @@ impl<R: Read> Deserializer<R> {
     pub fn deserialize_u8(&mut self) -> Result<u8, Error>
         ensures { ReadsScalar Kind.ubyte ubyte R.buffers R.buffers self.old result self.new }
     {
-        self.leaf(AsUbyte)
+        match self.leaf(AsUbyte) {
+            Ok(value) => return Ok(value),
+            Err(e) => return Err(e),
+        }
     }
 
     /// An ushort (part 1, section 1.6.4): 2 bytes.
@@ -29,7 +32,10 @@ impl<R: Read> Deserializer<R> {
     pub fn deserialize_u16(&mut self) -> Result<u16, Error>
         ensures { ReadsScalar Kind.ushort ushort R.buffers R.buffers self.old result self.new }
     {
-        self.leaf(AsUshort)
+        match self.leaf(AsUshort) {
+            Ok(value) => return Ok(value),
+            Err(e) => return Err(e),
+        }
     }
 
     /// A uint, in any of its three encodings (part 1, section 1.6.5).
@@ -40,7 +46,10 @@ impl<R: Read> Deserializer<R> {
     pub fn deserialize_u32(&mut self) -> Result<u32, Error>
         ensures { ReadsScalar Kind.uint uint R.buffers R.buffers self.old result self.new }
     {
-        self.leaf(AsUint)
+        match self.leaf(AsUint) {
+            Ok(value) => return Ok(value),
+            Err(e) => return Err(e),
+        }
     }
 
     /// An ulong, in any of its three encodings (part 1, section 1.6.6).
@@ -51,6 +60,9 @@ impl<R: Read> Deserializer<R> {
     pub fn deserialize_u64(&mut self) -> Result<u64, Error>
         ensures { ReadsScalar Kind.ulong ulong R.buffers R.buffers self.old result self.new }
     {
-        self.leaf(AsUlong)
+        match self.leaf(AsUlong) {
+            Ok(value) => return Ok(value),
+            Err(e) => return Err(e),
+        }
     }
 }
