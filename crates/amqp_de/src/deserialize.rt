@@ -10,6 +10,7 @@ ghost use Rattle.amqp_de.specs.Many.{ReadsMany};
 ghost use Rattle.amqp_de.specs.ReadParts.{open_list};
 
 use crate::ahead::WITH_DATA;
+use crate::answer::answer;
 use crate::{Deserializer, ListAccess};
 use amqp_base::{Error, Typed};
 use amqp_data::least_width;
@@ -181,10 +182,7 @@ impl<R: Read> Deserialize<R> for char {
 impl<R: Read> Deserialize<R> for String {
     #[inline(always)]
     fn deserialize(alloc: Global, de: &mut Deserializer<R>) -> Result<String, Error> {
-        match de.deserialize_string(alloc) {
-            Ok(text) => return Ok(text),
-            Err(e) => return Err(e),
-        }
+        answer!(de.deserialize_string(alloc))
     }
 
     #[inline(always)]

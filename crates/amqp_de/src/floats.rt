@@ -5,6 +5,7 @@ ghost use Rattle.amqp_base.specs.Item.{float, double};
 ghost use Rattle.amqp_de.specs.Scalars.{ReadsScalar};
 
 use crate::Deserializer;
+use crate::answer::answer;
 use amqp_base::Error;
 use amqp_data::{AsDouble, AsFloat};
 use amqp_read::Read;
@@ -20,10 +21,7 @@ impl<R: Read> Deserializer<R> {
     pub fn deserialize_f32(&mut self) -> Result<Float, Error>
         ensures { ReadsScalar Kind.float float R.buffers R.buffers self.old result self.new }
     {
-        match self.leaf(AsFloat) {
-            Ok(value) => return Ok(value),
-            Err(e) => return Err(e),
-        }
+        answer!(self.leaf(AsFloat))
     }
 
     /// A double (part 1, section 1.6.12): the bits of an IEEE 754 binary64, in 8 bytes. Every bit
@@ -35,9 +33,6 @@ impl<R: Read> Deserializer<R> {
     pub fn deserialize_f64(&mut self) -> Result<Double, Error>
         ensures { ReadsScalar Kind.double double R.buffers R.buffers self.old result self.new }
     {
-        match self.leaf(AsDouble) {
-            Ok(value) => return Ok(value),
-            Err(e) => return Err(e),
-        }
+        answer!(self.leaf(AsDouble))
     }
 }

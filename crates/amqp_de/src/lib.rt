@@ -2,6 +2,7 @@
 #![tactic(auto, unfolding(crate::specs::ReadParts::open_list, crate::specs::ReadParts::open_seq))]
 
 mod ahead;
+mod answer;
 mod any;
 mod array;
 mod chosen;

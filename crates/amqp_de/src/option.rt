@@ -5,6 +5,7 @@ ghost use Rattle.amqp_de.specs.Steps.{Stops};
 ghost use Rattle.amqp_de.specs.Calls.{IsRead, IsRefused, IsNamed};
 ghost use Rattle.amqp_base.specs.Meaning.{option_of};
 
+use crate::answer::answer;
 use crate::{Deserialize, Deserializer};
 use amqp_base::{EncodingCodes, Error};
 use amqp_read::Read;
@@ -49,9 +50,6 @@ impl<R: Read, T: Deserialize<R>> Deserialize<R> for Option<T> {
     /// `deserialize_option`.
     #[inline(always)]
     fn deserialize(alloc: Global, de: &mut Deserializer<R>) -> Result<Option<T>, Error> {
-        match de.deserialize_option(alloc) {
-            Ok(value) => return Ok(value),
-            Err(e) => return Err(e),
-        }
+        answer!(de.deserialize_option(alloc))
     }
 }

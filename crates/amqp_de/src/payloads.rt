@@ -6,6 +6,7 @@ ghost use Rattle.amqp_base.specs.Item.{binary, string, symbol};
 ghost use Rattle.amqp_de.specs.Scalars.{ReadsScalar, MemoryLast};
 
 use crate::Deserializer;
+use crate::answer::answer;
 use amqp_base::Error;
 use amqp_data::{AsBinary, AsString, AsSymbol};
 use amqp_read::Read;
@@ -23,10 +24,7 @@ impl<R: Read> Deserializer<R> {
             binary v.items) true R.buffers self.old result self.new }
         ensures bytes_first { MemoryLast Kind.binary R.buffers self.old result }
     {
-        match self.leaf(AsBinary(alloc)) {
-            Ok(bytes) => return Ok(bytes),
-            Err(e) => return Err(e),
-        }
+        answer!(self.leaf(AsBinary(alloc)))
     }
 
     /// A string (part 1, section 1.6.20), with a length of 1 or of 4 bytes, which counts bytes.
@@ -40,10 +38,7 @@ impl<R: Read> Deserializer<R> {
             string (string_bytes s)) true R.buffers self.old result self.new }
         ensures bytes_first { MemoryLast Kind.string R.buffers self.old result }
     {
-        match self.leaf(AsString(alloc)) {
-            Ok(text) => return Ok(text),
-            Err(e) => return Err(e),
-        }
+        answer!(self.leaf(AsString(alloc)))
     }
 
     /// A symbol (part 1, section 1.6.21), with a length of 1 or of 4 bytes. Any UTF-8 is taken:
@@ -58,9 +53,6 @@ impl<R: Read> Deserializer<R> {
             symbol (string_bytes s)) true R.buffers self.old result self.new }
         ensures bytes_first { MemoryLast Kind.symbol R.buffers self.old result }
     {
-        match self.leaf(AsSymbol(alloc)) {
-            Ok(text) => return Ok(text),
-            Err(e) => return Err(e),
-        }
+        answer!(self.leaf(AsSymbol(alloc)))
     }
 }

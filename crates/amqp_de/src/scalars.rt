@@ -5,6 +5,7 @@ ghost use Rattle.amqp_base.specs.Item.{null, boolean, char, timestamp, uuid};
 ghost use Rattle.amqp_de.specs.Scalars.{ReadsScalar};
 
 use crate::Deserializer;
+use crate::answer::answer;
 use amqp_base::Error;
 use amqp_data::{AsBoolean, AsChar, AsNull, AsTimestamp, AsUuid};
 use amqp_read::Read;
@@ -19,10 +20,7 @@ impl<R: Read> Deserializer<R> {
     pub fn deserialize_unit(&mut self) -> Result<(), Error>
         ensures { ReadsScalar Kind.null (λ _. null) R.buffers R.buffers self.old result self.new }
     {
-        match self.leaf(AsNull) {
-            Ok(value) => return Ok(value),
-            Err(e) => return Err(e),
-        }
+        answer!(self.leaf(AsNull))
     }
 
     /// The value of a unit struct: null (part 1, section 1.6.1), whatever its name.
@@ -47,10 +45,7 @@ impl<R: Read> Deserializer<R> {
     pub fn deserialize_bool(&mut self) -> Result<bool, Error>
         ensures { ReadsScalar Kind.boolean boolean R.buffers R.buffers self.old result self.new }
     {
-        match self.leaf(AsBoolean) {
-            Ok(value) => return Ok(value),
-            Err(e) => return Err(e),
-        }
+        answer!(self.leaf(AsBoolean))
     }
 
     /// A character (part 1, section 1.6.16): its code point in 4 bytes.
@@ -62,10 +57,7 @@ impl<R: Read> Deserializer<R> {
     pub fn deserialize_char(&mut self) -> Result<char, Error>
         ensures { ReadsScalar Kind.char char R.buffers R.buffers self.old result self.new }
     {
-        match self.leaf(AsChar) {
-            Ok(value) => return Ok(value),
-            Err(e) => return Err(e),
-        }
+        answer!(self.leaf(AsChar))
     }
 
     /// A timestamp (part 1, section 1.6.17): milliseconds since the Unix epoch, two's complement in
@@ -78,10 +70,7 @@ impl<R: Read> Deserializer<R> {
         ensures { ReadsScalar Kind.timestamp timestamp R.buffers R.buffers self.old
             result self.new }
     {
-        match self.leaf(AsTimestamp) {
-            Ok(value) => return Ok(value),
-            Err(e) => return Err(e),
-        }
+        answer!(self.leaf(AsTimestamp))
     }
 
     /// A uuid (part 1, section 1.6.18): 16 bytes.
@@ -92,9 +81,6 @@ impl<R: Read> Deserializer<R> {
     pub fn deserialize_uuid(&mut self) -> Result<Uuid, Error>
         ensures { ReadsScalar Kind.uuid uuid R.buffers R.buffers self.old result self.new }
     {
-        match self.leaf(AsUuid) {
-            Ok(value) => return Ok(value),
-            Err(e) => return Err(e),
-        }
+        answer!(self.leaf(AsUuid))
     }
 }

@@ -5,6 +5,7 @@ ghost use Rattle.amqp_base.specs.Item.{ubyte, ushort, uint, ulong};
 ghost use Rattle.amqp_de.specs.Scalars.{ReadsScalar};
 
 use crate::Deserializer;
+use crate::answer::answer;
 use amqp_base::Error;
 use amqp_data::{AsUbyte, AsUint, AsUlong, AsUshort};
 use amqp_read::Read;
@@ -18,10 +19,7 @@ impl<R: Read> Deserializer<R> {
     pub fn deserialize_u8(&mut self) -> Result<u8, Error>
         ensures { ReadsScalar Kind.ubyte ubyte R.buffers R.buffers self.old result self.new }
     {
-        match self.leaf(AsUbyte) {
-            Ok(value) => return Ok(value),
-            Err(e) => return Err(e),
-        }
+        answer!(self.leaf(AsUbyte))
     }
 
     /// An ushort (part 1, section 1.6.4): 2 bytes.
@@ -32,10 +30,7 @@ impl<R: Read> Deserializer<R> {
     pub fn deserialize_u16(&mut self) -> Result<u16, Error>
         ensures { ReadsScalar Kind.ushort ushort R.buffers R.buffers self.old result self.new }
     {
-        match self.leaf(AsUshort) {
-            Ok(value) => return Ok(value),
-            Err(e) => return Err(e),
-        }
+        answer!(self.leaf(AsUshort))
     }
 
     /// A uint, in any of its three encodings (part 1, section 1.6.5).
@@ -46,10 +41,7 @@ impl<R: Read> Deserializer<R> {
     pub fn deserialize_u32(&mut self) -> Result<u32, Error>
         ensures { ReadsScalar Kind.uint uint R.buffers R.buffers self.old result self.new }
     {
-        match self.leaf(AsUint) {
-            Ok(value) => return Ok(value),
-            Err(e) => return Err(e),
-        }
+        answer!(self.leaf(AsUint))
     }
 
     /// An ulong, in any of its three encodings (part 1, section 1.6.6).
@@ -60,9 +52,6 @@ impl<R: Read> Deserializer<R> {
     pub fn deserialize_u64(&mut self) -> Result<u64, Error>
         ensures { ReadsScalar Kind.ulong ulong R.buffers R.buffers self.old result self.new }
     {
-        match self.leaf(AsUlong) {
-            Ok(value) => return Ok(value),
-            Err(e) => return Err(e),
-        }
+        answer!(self.leaf(AsUlong))
     }
 }
